@@ -1,0 +1,6 @@
+pub mod Choice
+pub mod Bytes
+pub mod Word
+pub mod Memory
+pub mod Writes
+pub mod Occurrences

@@ -1,0 +1,1 @@
+// Bytes, words and 32-byte cells of a block.

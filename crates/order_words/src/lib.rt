@@ -1,0 +1,1 @@
+// The order word of a sparse cell.
