@@ -1,0 +1,6 @@
+pub mod Choice
+pub mod Occurrences
+pub mod Words
+pub mod Pointers
+pub mod Memory
+pub mod CellWrites

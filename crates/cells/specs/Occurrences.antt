@@ -18,3 +18,8 @@ all test (x ∷ xs) = test x && all test xs
 -- no number stands in the list twice
 unfoldable pub distinct : List ℕ → Bool
 distinct cells = all (λ c. leb (occurrences c cells) 1) cells
+
+-- the elements that pass a test, in their order
+unfoldable pub select : {A : Type 0} → (A → Bool) → List A → List A
+select test [] = []
+select test (x ∷ xs) = let rest = select test xs in pick (test x) (x ∷ rest) rest

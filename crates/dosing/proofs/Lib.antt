@@ -1,0 +1,5 @@
+-- What follows from the definitions, and what the functions' proofs share.
+mod Chains
+pub mod Examples
+pub mod Laws
+pub mod WholeReadings

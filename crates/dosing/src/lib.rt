@@ -1,0 +1,3 @@
+// Dosing: which temperature a product may be applied at, and how much of it a bead takes.
+pub mod sheet;
+pub mod temperature;

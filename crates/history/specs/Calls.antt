@@ -1,0 +1,66 @@
+-- Lists of calls, and what an implementation makes of them.
+use mathlib.Core.List.{List, [], _∷_}
+use Prim.Native.Nat.{ℕ}
+use Rattle.cells.specs.Bytes.{IsBytes}
+use Rattle.store.specs.Refusal.{Changed}
+use Rattle.store.specs.Format.{format}
+use Rattle.store.specs.Insert.{Inserted, insert}
+use Rattle.store.specs.Snapshots.{snapshot, restore, release}
+
+-- 00: "any list of these calls: entering, marking, going back, dropping a mark, refused ones included"
+pub data Call : Type 0 where
+  inserting : List ℕ → ℕ → Call    -- key, value
+  snapshotting : ℕ → Call          -- slot
+  restoring : ℕ → Call
+  releasing : ℕ → Call
+
+-- five functions on bytes
+pub record Implementation : Type 0 where
+  pub formatCall : List ℕ → Changed
+  pub insertCall : List ℕ → List ℕ → ℕ → Inserted
+  pub snapshotCall : List ℕ → ℕ → Changed
+  pub restoreCall : List ℕ → ℕ → Changed
+  pub releaseCall : List ℕ → ℕ → Changed
+
+-- the calls as 01 defines them
+unfoldable pub ours : Implementation
+ours = record { formatCall = format; insertCall = insert; snapshotCall = snapshot; restoreCall = restore; releaseCall = release }
+
+-- a call's answer, its count (0 where it has none) and the block it leaves
+pub record Outcome : Type 0 where
+  pub answer : ℕ
+  pub count : ℕ
+  pub block : List ℕ
+
+abbrev pub uncounted : Changed → Outcome
+uncounted c = record { answer = c .answer; count = 0; block = c .block }
+
+abbrev pub counted : Inserted → Outcome
+counted i = record { answer = i .answer; count = i .count; block = i .block }
+
+unfoldable pub outcome : Implementation → List ℕ → Call → Outcome
+outcome impl block (inserting key value) = counted (impl .insertCall block key value)
+outcome impl block (snapshotting slot) = uncounted (impl .snapshotCall block slot)
+outcome impl block (restoring slot) = uncounted (impl .restoreCall block slot)
+outcome impl block (releasing slot) = uncounted (impl .releaseCall block slot)
+
+-- the block after a list; 00: "Each gets the book as the one before left it"
+unfoldable pub run : Implementation → List ℕ → List Call → List ℕ
+run impl block [] = block
+run impl block (call ∷ calls) = run impl (outcome impl block call .block) calls
+
+-- the answer numbers of a list
+unfoldable pub answersOf : Implementation → List ℕ → List Call → List ℕ
+answersOf impl block [] = []
+answersOf impl block (call ∷ calls) = outcome impl block call .answer ∷ answersOf impl (outcome impl block call .block) calls
+
+-- labels are made of bytes; values and slots are any numbers
+abbrev pub KeyIsBytes : Call → Type 0
+KeyIsBytes (inserting key value) = IsBytes key
+KeyIsBytes (snapshotting slot) = Unit {0}
+KeyIsBytes (restoring slot) = Unit {0}
+KeyIsBytes (releasing slot) = Unit {0}
+
+abbrev pub KeysAreBytes : List Call → Type 0
+KeysAreBytes [] = Unit {0}
+KeysAreBytes (call ∷ calls) = KeyIsBytes call × KeysAreBytes calls

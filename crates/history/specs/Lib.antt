@@ -1,0 +1,3 @@
+pub mod Calls
+pub mod Ledger
+pub mod Demand3

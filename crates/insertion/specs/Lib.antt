@@ -1,0 +1,6 @@
+pub mod NewCells
+pub mod Built
+pub mod SplitBuild
+pub mod SetChild
+pub mod Build
+pub mod Commit

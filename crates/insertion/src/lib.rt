@@ -1,0 +1,1 @@
+// Insertion of one pair: the staged build.

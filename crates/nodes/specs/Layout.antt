@@ -1,0 +1,20 @@
+-- What a block's edition and size decide. Every definition that reads or writes a layout takes it.
+use mathlib.Core.Bool.{Bool, _&&_}
+use Prim.Native.Nat.{ℕ, _+_}
+use lib.Dec.{leb, ltb}
+
+pub record Layout : Type 0 where
+  pub edition : ℕ
+  pub cells : ℕ
+
+-- the cells at the end of the block that hold the trailer; 01: "Cell n-1 is the trailer"
+unfoldable pub trailerCells : Layout → ℕ
+trailerCells layout = 1
+
+-- 01: "Cells 1 to n-2 are usable."
+unfoldable pub usable : Layout → ℕ → Bool
+usable layout cell = leb 1 cell && ltb (cell + trailerCells layout) (layout .cells)
+
+-- 01: "Labels have 1 to 48 bytes." and "No path has more than 48 characters."
+unfoldable pub keyLimit : ℕ
+keyLimit = 48

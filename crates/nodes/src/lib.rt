@@ -1,0 +1,1 @@
+// Pointers and nodes: what one word names, read from its cells.

@@ -1,0 +1,22 @@
+-- 01: "Free means usable and reached from neither root nor held mark."
+use mathlib.Core.List.{List, [], _∷_}
+use Prim.Native.Nat.{ℕ, zero, suc, _+_, _-_}
+use lib.Dec.{eqb}
+use Rattle.cells.specs.Occurrences.{occurrences, select}
+use Rattle.nodes.specs.Layout.{Layout, trailerCells}
+use Rattle.store.specs.Trailer.{rootWord}
+use Rattle.store.specs.Sound.{reachable}
+
+-- so many numbers from one on
+unfoldable pub countUp : ℕ → ℕ → List ℕ
+countUp zero from = []
+countUp (suc count) from = from ∷ countUp count (from + 1)
+
+-- the usable cells in the order in which they are allocated; 01: "Cells are taken lowest free number first"
+unfoldable pub allocationOrder : Layout → ℕ → List ℕ
+allocationOrder layout root = countUp (layout .cells - 1 - trailerCells layout) 1
+
+unfoldable pub free : Layout → List ℕ → List ℕ
+free layout block =
+    let reached = reachable layout block in
+    select (λ c. eqb (occurrences c reached) 0) (allocationOrder layout (rootWord layout block))

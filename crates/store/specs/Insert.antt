@@ -1,0 +1,56 @@
+-- Insertion as a call on a block.
+use mathlib.Core.Bool.{Bool}
+use mathlib.Core.List.{List, [], _∷_, _++_}
+use Prim.Native.Nat.{ℕ}
+use lib.Dec.{ltb, eqb}
+use lib.ListN.{length}
+use Rattle.cells.specs.Choice.{pick}
+use Rattle.cells.specs.Memory.{memoryOf}
+use Rattle.cells.specs.Writes.{Write, written}
+use Rattle.nodes.specs.Layout.{Layout}
+use Rattle.insertion.specs.Built.{Built}
+use Rattle.insertion.specs.Build.{build, cellsNeeded}
+use Rattle.insertion.specs.Commit.{numberFrom, buildWrites}
+use Rattle.store.specs.Trailer.{layoutOf, trailerAt, rootWord}
+use Rattle.store.specs.Free.{free}
+use Rattle.store.specs.Refusal.{Refusal, refusal, firstRefusal, badNewKey, badValue}
+use Rattle.store.specs.Read.{blockRefusals}
+
+pub record Inserted : Type 0 where
+  pub answer : ℕ
+  pub count : ℕ
+  pub block : List ℕ
+
+-- 01, answer 7: "the entry takes more cells than are free"
+abbrev pub noRoom : List ℕ → List ℕ → Bool
+noRoom block key =
+    let layout = layoutOf block in
+    ltb (length (free layout block)) (cellsNeeded layout (memoryOf block) (rootWord layout block) key)
+
+abbrev pub insertRefusals : List ℕ → List ℕ → ℕ → List Refusal
+insertRefusals block key value =
+    blockRefusals block ++ (refusal 3 (badNewKey key) ∷ refusal 4 (badValue value) ∷ refusal 7 (noRoom block key) ∷ [])
+
+-- the cell numbers that an insertion into a block allocates, by place
+abbrev pub numbering : List ℕ → ℕ → ℕ
+numbering block = numberFrom (layoutOf block) (free (layoutOf block) block)
+
+-- the build of an insertion into a block
+unfoldable pub blockBuild : List ℕ → List ℕ → ℕ → Built
+blockBuild block key value =
+    let layout = layoutOf block in
+    build layout (numbering block) (memoryOf block) (rootWord layout block) key value
+
+-- the cells in the order allocated, eight words each in rising position, then the root word; 01: "The root word is then set."
+unfoldable pub insertWrites : List ℕ → Built → List Write
+insertWrites block b =
+    buildWrites (numbering block) (b .cells) ++ (record { at = trailerAt (layoutOf block); word = b .word } ∷ [])
+
+-- 01: "The answer counts the cells taken."
+unfoldable pub insert : List ℕ → List ℕ → ℕ → Inserted
+insert block key value =
+    let answer = firstRefusal (insertRefusals block key value) in
+    let b = blockBuild block key value in
+    pick (eqb answer 0)
+    (record { answer = 0; count = length (b .cells); block = written block (insertWrites block b) })
+    (record { answer = answer; count = 0; block = block })

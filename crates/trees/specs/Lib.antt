@@ -1,0 +1,4 @@
+pub mod Tree
+pub mod Root
+pub mod Lookup
+pub mod Entries
