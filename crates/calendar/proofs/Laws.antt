@@ -1,6 +1,6 @@
 -- Laws of dates: what a valid date keeps to, and that its one number says the same as its three parts. Assumes nothing.
 use Prim.Native.Nat.{ℕ, _+_, _*_, _/_, _%_, _<_, _≤_}
-use mathlib.Core.Bool.{Bool, true, false, not, _&&_, _||_}
+use mathlib.Core.Bool.{cond, Bool, true, false, not, _&&_, _||_}
 use mathlib.Core.Logic.{_≢_, _⊎_, inl, inr}
 use mathlib.Core.Path.{_≡_, refl, sym, ap, _∙_, subst}
 use native.Mathlib.Decide.{decLt, decLe, ℕ-discrete}
@@ -11,7 +11,7 @@ use Rattle.calendar.specs.declared.Year.{Year}
 use Rattle.calendar.specs.declared.Month.{Month}
 use Rattle.calendar.specs.declared.Day.{Day}
 use Rattle.calendar.specs.declared.Date.{Date}
-use Rattle.calendar.specs.Date.{pick, februaryDays, daysOfMonth, isDate, packedDate, unpackedDate, isAfter, goodOn}
+use Rattle.calendar.specs.Date.{februaryDays, daysOfMonth, isDate, packedDate, unpackedDate, isAfter, goodOn}
 
 -- True and false are two, so their equation proves anything.
 never : {A : Type 0} → _≡_ {A = Bool} false true → A
@@ -38,9 +38,9 @@ or-false true = refl
 or-false false = refl
 
 -- A choice keeps a bound that both sides keep.
-pick-within : (t : Bool) {a b n : ℕ} → a ≤ n → b ≤ n → pick t a b ≤ n
-pick-within true p q = p
-pick-within false p q = q
+cond-within : (t : Bool) {a b n : ℕ} → a ≤ n → b ≤ n → cond t a b ≤ n
+cond-within true p q = p
+cond-within false p q = q
 
 -- February has a rule of its own.
 pub february-month : (year : Year) (month : Month) → month .0 ≡ 2 → daysOfMonth year month ≡ februaryDays year
@@ -62,7 +62,7 @@ short-month year month (inr (inr (inr e))) = simp e
 -- Past February and the short months only the range of the months decides.
 other-month :
     (year : Year) (month : Month) → month .0 ≢ 2 → (Short (month .0) → ⊥) →
-    daysOfMonth year month ≡ pick (leb 1 (month .0) && leb (month .0) 12) 31 0
+    daysOfMonth year month ≡ cond (leb 1 (month .0) && leb (month .0) 12) 31 0
 unfolding daysOfMonth
 other-month year month f s =
     let four = ne-eqb (month .0) 4 (λ e. s (inl e)) in
@@ -98,19 +98,19 @@ month-late year month h =
 -- February has at most 29 days, whichever years are leap.
 february-bound : (year : Year) → februaryDays year ≤ 29
 unfolding februaryDays
-february-bound year = pick-within (eqb (year .0 % 4) 0) (omega arith) (omega arith)
+february-bound year = cond-within (eqb (year .0 % 4) 0) (omega arith) (omega arith)
 
 -- No month is longer than 31 days, so a day fits its five bits.
 month-bound : (year : Year) (month : Month) → daysOfMonth year month ≤ 31
 unfolding daysOfMonth
 month-bound year month =
-    pick-within
+    cond-within
     (eqb (month .0) 2)
     (omega (arith, february-bound year))
-    (pick-within
+    (cond-within
     (eqb (month .0) 4 || (eqb (month .0) 6 || (eqb (month .0) 9 || eqb (month .0) 11)))
     (omega arith)
-    (pick-within (leb 1 (month .0) && leb (month .0) 12) (omega arith) (omega arith)))
+    (cond-within (leb 1 (month .0) && leb (month .0) 12) (omega arith) (omega arith)))
 
 -- A month that has a day is one of the twelve.
 month-of-days : (year : Year) (month : Month) → 1 ≤ daysOfMonth year month → (1 ≤ month .0) × (month .0 ≤ 12)

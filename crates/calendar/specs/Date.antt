@@ -1,16 +1,11 @@
 -- Dates, their kinds and their one number. Assumes nothing: these are definitions.
 use Prim.Native.Nat.{ℕ, _+_, _*_, _/_, _%_}
-use mathlib.Core.Bool.{Bool, true, false, not, _&&_, _||_}
+use mathlib.Core.Bool.{Bool, cond, not, _&&_, _||_}
 use lib.Dec.{leb, ltb, eqb}
 use Rattle.calendar.specs.declared.Year.{Year}
 use Rattle.calendar.specs.declared.Month.{Month}
 use Rattle.calendar.specs.declared.Day.{Day}
 use Rattle.calendar.specs.declared.Date.{Date}
-
--- The first of two when the test holds, else the second.
-abbrev pub pick : {A : Type 0} → Bool → A → A → A
-pick true a b = a
-pick false a b = b
 
 -- 01: "Day, month and year are kinds of their own": the year of this number.
 abbrev pub yearOf : ℕ → Year
@@ -30,16 +25,16 @@ dateOf year month day = record { year = year; month = month; day = day }
 
 -- 01: "A year divisible by 4 has 29 days in February."
 unfoldable pub februaryDays : Year → ℕ
-februaryDays year = pick (eqb (year .0 % 4) 0) 29 28
+februaryDays year = cond (eqb (year .0 % 4) 0) 29 28
 
 -- 01: "Dates are Gregorian, as in ISO 8601." A month that is none has no day.
 unfoldable pub daysOfMonth : Year → Month → ℕ
 daysOfMonth year month =
     let m = month .0 in
-    pick
+    cond
     (eqb m 2)
     (februaryDays year)
-    (pick (eqb m 4 || (eqb m 6 || (eqb m 9 || eqb m 11))) 30 (pick (leb 1 m && leb m 12) 31 0))
+    (cond (eqb m 4 || (eqb m 6 || (eqb m 9 || eqb m 11))) 30 (cond (leb 1 m && leb m 12) 31 0))
 
 -- 01: "year 2000 to 2199"; answers 10 and 12, "is no date".
 unfoldable pub isDate : Date → Bool

@@ -1,3 +1,4 @@
 -- What dosing means, sentence by sentence of 01.
-pub mod Sheet
 pub mod Temperature
+pub mod Sheet
+pub mod Verdict

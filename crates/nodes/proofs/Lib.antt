@@ -1,0 +1,3 @@
+pub mod Pointers
+pub mod Gather
+pub mod Frame

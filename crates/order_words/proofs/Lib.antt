@@ -1,0 +1,7 @@
+pub mod Both
+pub mod Inserted
+pub mod Room
+pub mod Valid
+pub mod Coding
+pub mod Rising
+pub mod Steps

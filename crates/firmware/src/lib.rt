@@ -1,0 +1,1 @@
+// The calls for controller firmware in C.

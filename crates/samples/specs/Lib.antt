@@ -1,0 +1,4 @@
+pub mod Line
+pub mod Expected
+pub mod Computed
+pub mod Samples

@@ -1,0 +1,38 @@
+-- One value that a bench sample of 01 gives.
+use mathlib.Core.Bool.{Bool}
+use mathlib.Core.List.{List, [], _∷_}
+use Prim.Native.Nat.{ℕ, _/_, _%_}
+use lib.Ieee.{Float}
+
+-- 01: "Marked A to L for proof."
+pub data Letter : Type 0 where
+  A B C D E F G H I J K L : Letter
+
+-- what the value is
+pub data Says : Type 0 where
+  answer count root block : Says
+  cell : ℕ → Says                        -- the bytes of a cell
+  link : ℕ → Says                        -- the word at 1C of a cell
+  orderWord : Says
+  validWord : ℕ → Says                   -- whether an order word is valid
+  packed : Says
+  answerOn : ℕ → ℕ → ℕ → Says            -- the verdict of a day: year, month, day
+  dose degrees : Says
+
+pub data Value : Type 0 where
+  number : ℕ → Value
+  bytes : List ℕ → Value
+  truth : Bool → Value
+  float : Float → Value
+
+pub record Line : Type 0 where
+  pub sample : Letter
+  pub says : Says
+  pub value : Value
+
+abbrev pub line : Letter → Says → Value → Line
+line sample says value = record { sample = sample; says = says; value = value }
+
+-- the four bytes of a word
+abbrev pub word : ℕ → List ℕ
+word w = w / 16777216 % 256 ∷ w / 65536 % 256 ∷ w / 256 % 256 ∷ w % 256 ∷ []

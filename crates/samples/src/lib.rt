@@ -1,0 +1,1 @@
+// Samples A to L of 01, under one proof. No code.
