@@ -23,6 +23,7 @@ use Rattle.firmware.specs.Choices.{Choices}
 -- insertion and look-up have numbers and bytes already
 abbrev pub insertNumbers : List ℕ → List ℕ → ℕ → Inserted
 insertNumbers block key value = insert block key value
+
 abbrev pub getNumbers : List ℕ → List ℕ → Found
 getNumbers block key = get block key
 
@@ -71,5 +72,5 @@ verdictNumbers choices block label year month day r s =
     let reading = readingOf choices (r .unit) (r .degrees) in
     verdictOf
     (verdictRefusals block label (dateOf (yearOf year) (monthOf month) (dayOf day))
-      (badSheetNumbers gate (s .section) (s .extent)) (badReadingNumbers reading) (outsideNumbers gate reading))
+    (badSheetNumbers gate (s .section) (s .extent)) (badReadingNumbers reading) (outsideNumbers gate reading))
     (sheetOf Any (s .section) (s .extent))

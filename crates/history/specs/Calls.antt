@@ -9,8 +9,8 @@ use Rattle.store.specs.Snapshots.{snapshot, restore, release}
 
 -- 00: "any list of these calls: entering, marking, going back, dropping a mark, refused ones included"
 pub data Call : Type 0 where
-  inserting : List ℕ → ℕ → Call    -- key, value
-  snapshotting : ℕ → Call          -- slot
+  inserting : List ℕ → ℕ → Call  -- key, value
+  snapshotting : ℕ → Call  -- slot
   restoring : ℕ → Call
   releasing : ℕ → Call
 

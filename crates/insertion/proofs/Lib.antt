@@ -1,1 +1,11 @@
 pub mod Claims
+pub mod Rooms
+pub mod Chains
+pub mod Pairs
+pub mod ChainSet
+pub mod Prefixes
+pub mod Count
+pub mod CellBytes
+pub mod SplitBound
+pub mod Bound
+pub mod Commit

@@ -9,9 +9,9 @@ use Rattle.nodes.specs.Pointer.{wordTo}
 use Rattle.insertion.specs.NewCells.{chainCell}
 
 pub record Built : Type 0 where
-  pub word : ℕ                     -- of the new node
-  pub own : Bool                   -- its cell is the newest that this call allocated
-  pub cells : List (List ℕ)        -- allocated, newest first: the one before `rest` has the number of place `length rest`
+  pub word : ℕ  -- of the new node
+  pub own : Bool  -- its cell is the newest that this call allocated
+  pub cells : List (List ℕ)  -- allocated, newest first: the one before `rest` has the number of place `length rest`
 
 -- a word whose cell this call did not allocate, or that has none
 abbrev pub unowned : ℕ → List (List ℕ) → Built

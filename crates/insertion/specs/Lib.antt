@@ -4,3 +4,4 @@ pub mod SplitBuild
 pub mod SetChild
 pub mod Build
 pub mod Commit
+pub mod OldChild

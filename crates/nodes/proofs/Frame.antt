@@ -9,7 +9,7 @@ use native.Mathlib.Decide.{ℕ-discrete}
 use native.Mathlib.Omega.{arith}
 use lib.Dec.{eqb}
 use borrow.Author.Tests.{ne-eqb, eqb-false}
-use Rattle.cells.specs.Choice.{pick, bind}
+use Rattle.cells.specs.Choice.{pick}
 use Rattle.cells.specs.Memory.{Memory}
 use Rattle.cells.specs.Occurrences.{occurrences}
 use Rattle.cells.proofs.Choice.{never, bound, keep, kept, kept-not}
@@ -89,13 +89,13 @@ module _ (layout : Layout) where
       → (c : ℕ) × (pointer layout w ≡ split c) × (validTable (m c) ≡ true) × (c ∷ [] ≡ a)
   unfolding endCells
   end-cut m w a e =
-      let p = bound (splitCell (pointer layout w)) (λ c. pick (validTable (m c)) (some (c ∷ [])) none) e in
+      let p = bound _ _ e in
       let q = kept (validTable (m (p .0))) (p .2) in
       (p .0, split-cell (pointer layout w) (p .0) (p .1), q .0, cc)
 
   pub end-join : (m : Memory) (w c : ℕ) → pointer layout w ≡ split c → validTable (m c) ≡ true → endCells layout m w ≡ some (c ∷ [])
   unfolding endCells
-  end-join m w c names-it valid = keep _ (split-cell-is (pointer layout w) c names-it) (rw valid)
+  end-join m w c named valid = keep _ (split-cell-is (pointer layout w) c named) (rw valid)
 
   -- a mid: its cell, and those of its ends
   pub mid-cut : (m : Memory) (w : ℕ) (a : List ℕ) → midCells layout m w ≡ some a
@@ -103,21 +103,16 @@ module _ (layout : Layout) where
       × (gather (λ j. under (endCells layout m) (tableWord (m c) j)) 8 0 ≡ some ends) × (c ∷ ends ≡ a)
   unfolding midCells
   mid-cut m w a e =
-      let p =
-      bound (splitCell (pointer layout w))
-      (λ c. pick (validTable (m c)) (bind (gather (λ j. under (endCells layout m) (tableWord (m c) j)) 8 0) (λ ends. some (c ∷ ends))) none) e in
+      let p = bound _ _ e in
       let q = kept (validTable (m (p .0))) (p .2) in
-      let r = bound (gather (λ j. under (endCells layout m) (tableWord (m (p .0)) j)) 8 0) (λ ends. some (p .0 ∷ ends)) (q .1) in
+      let r = bound _ _ (q .1) in
       (p .0, r .0, split-cell (pointer layout w) (p .0) (p .1), q .0, r .1, cc)
 
   pub mid-join : (m : Memory) (w c : ℕ) (ends : List ℕ) → pointer layout w ≡ split c → validTable (m c) ≡ true
       → gather (λ j. under (endCells layout m) (tableWord (m c) j)) 8 0 ≡ some ends → midCells layout m w ≡ some (c ∷ ends)
   unfolding midCells
-  mid-join m w c ends names-it valid gathered =
-      let inner : pick (validTable (m c)) (bind (gather (λ j. under (endCells layout m) (tableWord (m c) j)) 8 0) (λ es. some (c ∷ es))) none
-      ≡ some (c ∷ ends) =
-      rw valid (keep _ gathered refl) in
-      keep _ (split-cell-is (pointer layout w) c names-it) inner
+  mid-join m w c ends named valid gathered =
+      keep _ (split-cell-is (pointer layout w) c named) (rw valid (keep _ gathered refl))
 
   -- the mids of a head
   pub head-is : (m : Memory) (c : ℕ) → headCells layout m c ≡ gather (λ i. under (midCells layout m) (headWord (m c) i)) 4 0
@@ -130,7 +125,7 @@ module _ (layout : Layout) where
   unfolding plain
   split-cut m c X e =
       let p = kept (validHead (m c)) e in
-      let q = bound (headCells layout m c) (λ cs. some (splitNode m c cs)) (p .1) in
+      let q = bound _ _ (p .1) in
       (q .0, p .0, q .1, cc)
 
   pub split-join : (m : Memory) (c : ℕ) (cs : List ℕ) → validHead (m c) ≡ true → headCells layout m c ≡ some cs
@@ -169,7 +164,7 @@ module _ (layout : Layout) where
   unfolding readAt
   prefix-cut m c X e =
       let p = kept (validPrefix (m c)) e in
-      let q = bound (plain layout m (pointer layout (prefixLink (m c)))) (λ Z. some (prefixed (prefixValue (m c)) c Z)) (p .1) in
+      let q = bound _ _ (p .1) in
       (q .0, p .0, q .1, cc)
 
   pub prefix-join : (m : Memory) (c : ℕ) (Z : Node) → validPrefix (m c) ≡ true → plain layout m (pointer layout (prefixLink (m c))) ≡ some Z

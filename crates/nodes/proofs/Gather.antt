@@ -7,7 +7,6 @@ use Prim.Native.Nat.{ℕ, zero, suc, _+_, _≤_, _<_}
 use native.Mathlib.Decide.{ℕ-discrete}
 use native.Mathlib.Omega.{arith}
 use borrow.Author.Tests.{ne-eqb}
-use Rattle.cells.specs.Choice.{bind}
 use Rattle.cells.specs.Memory.{Memory}
 use Rattle.cells.specs.Occurrences.{occurrences}
 use Rattle.cells.proofs.Choice.{bound, keep}
@@ -20,8 +19,8 @@ pub gather-cut : (f : ℕ → Option (List ℕ)) (count from : ℕ) (cs : List �
     × ((c : ℕ) → occurrences c cs ≡ occurrences c a + occurrences c b)
 unfolding gather
 gather-cut f count from cs e =
-    let p = bound (f from) (λ a. bind (gather f count (from + 1)) (λ b. some (a ++ b))) e in
-    let q = bound (gather f count (from + 1)) (λ b. some (p .0 ++ b)) (p .2) in
+    let p = bound _ _ e in
+    let q = bound _ _ (p .2) in
     let s : p .0 ++ q .0 ≡ cs = cc in
     (p .0, q .0, p .1, q .1, s, λ c. ap (occurrences c) (sym s) ∙ occurrences-append c (p .0) (q .0))
 

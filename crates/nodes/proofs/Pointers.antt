@@ -3,10 +3,10 @@ use mathlib.Core.Path.{_≡_, refl, ap, sym, _∙_, subst}
 use mathlib.Core.Logic.{_≢_}
 use mathlib.Core.Bool.{Bool, true, false}
 use Prim.Native.Nat.{ℕ, _+_, _-_, _*_, _/_, _%_, _≤_, _<_}
+use native.Mathlib.Decide.{decLt, ℕ-discrete}
 use native.Mathlib.Omega.{arith}
-use lib.Dec.{leb, ltb, eqb}
-use borrow.Author.Tests.{lt-ltb, le-leb, lt-leb, ne-eqb, ltb-true, leb-true, eqb-true}
-use Rattle.cells.specs.Choice.{pick}
+use lib.Dec.{leb, ltb}
+use borrow.Author.Tests.{lt-ltb, le-ltb, le-leb, lt-leb, ne-eqb, ltb-true, leb-true}
 use Rattle.cells.proofs.Choice.{both, both-left, both-right}
 use Rattle.cells.proofs.Pointers.{cell-kind, cell-of-made, kind-of-made, inverted-twice, leaf-top}
 use Rattle.nodes.specs.Layout.{Layout, trailerCells, usable}
@@ -40,69 +40,103 @@ Names layout w (sparse c) = (usable layout c ≡ true) × (w ≡ wordTo c 30)
 Names layout w (prefix c) = (usable layout c ≡ true) × (w ≡ wordTo c 31)
 Names layout w invalid = Unit {0}
 
-module _ (layout : Layout) (w : ℕ) where
-  kind-names : (c k : ℕ) → usable layout c ≡ true → w ≡ wordTo c k → Names layout w (byKind c k)
-  unfolding byKind
-  kind-names c k u e = go (ltb k 28) (eqb k 28) (eqb k 30) (eqb k 31) refl refl refl refl
-    where
-      go : (s t p q : Bool) → ltb k 28 ≡ s → eqb k 28 ≡ t → eqb k 30 ≡ p → eqb k 31 ≡ q
-          → Names layout w (pick s (chain c k) (pick t (split c) (pick p (sparse c) (pick q (prefix c) invalid))))
-      go true t p q es et ep eq = (u, e, ltb-true k 28 es)
-      go false true p q es et ep eq = (u, e ∙ ap (wordTo c) (eqb-true k 28 et))
-      go false false true q es et ep eq = (u, e ∙ ap (wordTo c) (eqb-true k 30 ep))
-      go false false false true es et ep eq = (u, e ∙ ap (wordTo c) (eqb-true k 31 eq))
-      go false false false false es et ep eq = tt
+-- the kinds
+pub kind-chain : (c k : ℕ) → k < 28 → byKind c k ≡ chain c k
+unfolding byKind
+kind-chain c k h = rw (lt-ltb k 28 h)
 
-  word-names : Names layout w (pointer layout w)
+pub kind-split : (c : ℕ) → byKind c 28 ≡ split c
+unfolding byKind
+kind-split c = refl
+
+pub kind-sparse : (c : ℕ) → byKind c 30 ≡ sparse c
+unfolding byKind
+kind-sparse c = refl
+
+pub kind-prefix : (c : ℕ) → byKind c 31 ≡ prefix c
+unfolding byKind
+kind-prefix c = refl
+
+pub kind-other : (c k : ℕ) → 28 ≤ k → k ≢ 28 → k ≢ 30 → k ≢ 31 → byKind c k ≡ invalid
+unfolding byKind
+kind-other c k h p q r = rw (le-ltb k 28 h, ne-eqb k 28 p, ne-eqb k 30 q, ne-eqb k 31 r)
+
+module _ (layout : Layout) where
+  -- NONE, leaves and cells
+  pub pointer-zero : pointer layout 0 ≡ nothing
   unfolding pointer
-  word-names = go (eqb w 0) (leb 2147483648 w) (usable layout (w / 32)) refl refl refl
+  pointer-zero = refl
+
+  pub pointer-leaf : (w : ℕ) → 2147483648 ≤ w → pointer layout w ≡ leaf (4294967295 - w)
+  unfolding pointer
+  pointer-leaf w top = let other : w ≢ 0 = omega arith in rw (ne-eqb w 0 other, le-leb 2147483648 w top)
+
+  pub pointer-cell : (w : ℕ) → w ≢ 0 → w < 2147483648 → usable layout (w / 32) ≡ true → pointer layout w ≡ byKind (w / 32) (w % 32)
+  unfolding pointer
+  pointer-cell w other clear u = rw (ne-eqb w 0 other, lt-leb 2147483648 w clear, u)
+
+  pub pointer-invalid : (w : ℕ) → w ≢ 0 → w < 2147483648 → usable layout (w / 32) ≡ false → pointer layout w ≡ invalid
+  unfolding pointer
+  pointer-invalid w other clear u = rw (ne-eqb w 0 other, lt-leb 2147483648 w clear, u)
+
+  -- a word is what its pointer says
+  kind-names : (w c k : ℕ) → usable layout c ≡ true → w ≡ wordTo c k → Names layout w (byKind c k)
+  kind-names w c k u e = elim (decLt k 28) [
+    | yes place ↦ subst (Names layout w) (sym (kind-chain c k place)) (u, e, place)
+    | no above ↦ elim (ℕ-discrete k 28) [
+      | yes s ↦ subst (Names layout w) (sym (ap (byKind c) s ∙ kind-split c)) (u, e ∙ ap (wordTo c) s)
+      | no p ↦ elim (ℕ-discrete k 30) [
+        | yes s ↦ subst (Names layout w) (sym (ap (byKind c) s ∙ kind-sparse c)) (u, e ∙ ap (wordTo c) s)
+        | no q ↦ elim (ℕ-discrete k 31) [
+          | yes s ↦ subst (Names layout w) (sym (ap (byKind c) s ∙ kind-prefix c)) (u, e ∙ ap (wordTo c) s)
+          | no r ↦ subst (Names layout w) (sym (kind-other c k (omega arith) p q r)) tt
+        ]
+      ]
+    ]
+  ]
+
+  word-names : (w : ℕ) → Names layout w (pointer layout w)
+  word-names w = elim (ℕ-discrete w 0) [
+    | yes z ↦ subst (Names layout w) (sym (ap (pointer layout) z ∙ pointer-zero)) z
+    | no other ↦ elim (decLt w 2147483648) [
+      | no top ↦ subst (Names layout w) (sym (pointer-leaf w (omega arith))) (omega arith, refl)
+      | yes clear ↦ cell (usable layout (w / 32)) refl other clear
+    ]
+  ]
     where
-      go : (s t p : Bool) → eqb w 0 ≡ s → leb 2147483648 w ≡ t → usable layout (w / 32) ≡ p
-          → Names layout w (pick s nothing (pick t (leaf (4294967295 - w)) (pick p (byKind (w / 32) (w % 32)) invalid)))
-      go true t p es et ep = eqb-true w 0 es
-      go false true p es et ep = (leb-true 2147483648 w et, refl)
-      go false false true es et ep = kind-names (w / 32) (w % 32) ep (sym (cell-kind w))
-      go false false false es et ep = tt
+      cell : (t : Bool) → usable layout (w / 32) ≡ t → w ≢ 0 → w < 2147483648 → Names layout w (pointer layout w)
+      cell true u other clear =
+          subst (Names layout w) (sym (pointer-cell w other clear u)) (kind-names w (w / 32) (w % 32) u (sym (cell-kind w)))
+      cell false u other clear = subst (Names layout w) (sym (pointer-invalid w other clear u)) tt
 
-  pub names : (p : Pointer) → pointer layout w ≡ p → Names layout w p
-  names p e = subst (Names layout w) e word-names
+  pub names : (w : ℕ) (p : Pointer) → pointer layout w ≡ p → Names layout w p
+  names w p e = subst (Names layout w) e (word-names w)
 
--- a word made of a usable cell and a kind names that kind there
-pub made : (layout : Layout) (c k : ℕ) → layout .cells ≤ 2048 → usable layout c ≡ true → k < 32 → pointer layout (wordTo c k) ≡ byKind c k
-unfolding pointer
-made layout c k small u h =
-    let low = usable-low layout c u in
-    let high = usable-inside layout c u in
-    let some-word : c * 32 + k ≢ 0 = omega arith in
-    rw (ne-eqb (c * 32 + k) 0 some-word, lt-leb 2147483648 (c * 32 + k) (omega arith), cell-of-made c k h, kind-of-made c k h, u)
+  -- a word made of a usable cell and a kind names that kind there
+  pub made : (c k : ℕ) → layout .cells ≤ 2048 → usable layout c ≡ true → k < 32 → pointer layout (wordTo c k) ≡ byKind c k
+  made c k small u h =
+      let low = usable-low layout c u in
+      let high = usable-inside layout c u in
+      let cell : (c * 32 + k) / 32 ≡ c = cell-of-made c k h in
+      pointer-cell (wordTo c k) (omega arith) (omega arith) (ap (usable layout) cell ∙ u)
+      ∙ ap (λ d. byKind d (wordTo c k % 32)) cell ∙ ap (byKind c) (kind-of-made c k h)
 
-pub made-chain : (layout : Layout) (c k : ℕ) → layout .cells ≤ 2048 → usable layout c ≡ true → k < 28 → pointer layout (wordTo c k) ≡ chain c k
-unfolding byKind
-made-chain layout c k small u h = made layout c k small u (omega arith) ∙ rw (lt-ltb k 28 h)
+  pub made-chain : (c k : ℕ) → layout .cells ≤ 2048 → usable layout c ≡ true → k < 28 → pointer layout (wordTo c k) ≡ chain c k
+  made-chain c k small u h = made c k small u (omega arith) ∙ kind-chain c k h
 
-pub made-split : (layout : Layout) (c : ℕ) → layout .cells ≤ 2048 → usable layout c ≡ true → pointer layout (wordTo c 28) ≡ split c
-unfolding byKind
-made-split layout c small u = made layout c 28 small u (omega arith)
+  pub made-split : (c : ℕ) → layout .cells ≤ 2048 → usable layout c ≡ true → pointer layout (wordTo c 28) ≡ split c
+  made-split c small u = made c 28 small u (omega arith) ∙ kind-split c
 
-pub made-sparse : (layout : Layout) (c : ℕ) → layout .cells ≤ 2048 → usable layout c ≡ true → pointer layout (wordTo c 30) ≡ sparse c
-unfolding byKind
-made-sparse layout c small u = made layout c 30 small u (omega arith)
+  pub made-sparse : (c : ℕ) → layout .cells ≤ 2048 → usable layout c ≡ true → pointer layout (wordTo c 30) ≡ sparse c
+  made-sparse c small u = made c 30 small u (omega arith) ∙ kind-sparse c
 
-pub made-prefix : (layout : Layout) (c : ℕ) → layout .cells ≤ 2048 → usable layout c ≡ true → pointer layout (wordTo c 31) ≡ prefix c
-unfolding byKind
-made-prefix layout c small u = made layout c 31 small u (omega arith)
+  pub made-prefix : (c : ℕ) → layout .cells ≤ 2048 → usable layout c ≡ true → pointer layout (wordTo c 31) ≡ prefix c
+  made-prefix c small u = made c 31 small u (omega arith) ∙ kind-prefix c
 
--- the word of a value names its leaf, and the value of a leaf has its top bit clear
-pub leaf-made : (layout : Layout) (v : ℕ) → v < 2147483648 → pointer layout (leafWord v) ≡ leaf v
-unfolding pointer leafWord
-leaf-made layout v h =
-    let some-word : 4294967295 - v ≢ 0 = omega arith in
-    rw (ne-eqb (4294967295 - v) 0 some-word, le-leb 2147483648 (4294967295 - v) (leaf-top v h), inverted-twice v (omega arith))
+  -- the word of a value names its leaf, and the value of a leaf has its top bit clear
+  pub leaf-made : (v : ℕ) → v < 2147483648 → pointer layout (leafWord v) ≡ leaf v
+  unfolding leafWord
+  leaf-made v h = pointer-leaf (leafWord v) (leaf-top v h) ∙ ap leaf (inverted-twice v (omega arith))
 
-pub leaf-value : (layout : Layout) (w v : ℕ) → pointer layout w ≡ leaf v → v < 2147483648
-leaf-value layout w v e = let n = names layout w (leaf v) e in omega (arith, n .0, n .1)
-
--- NONE names nothing
-pub pointer-zero : (layout : Layout) → pointer layout 0 ≡ nothing
-unfolding pointer
-pointer-zero layout = refl
+  pub leaf-value : (w v : ℕ) → pointer layout w ≡ leaf v → v < 2147483648
+  leaf-value w v e = let n = names w (leaf v) e in omega (arith, n .0, n .1)

@@ -16,9 +16,9 @@ use Rattle.nodes.specs.Prefix.{prefixValue, prefixLink, validPrefix}
 
 pub record Node : Type 0 where
   pub value : Option ℕ
-  pub cells : List ℕ         -- the cells that the node visits; 01: "enters"
-  pub footprint : List ℕ     -- the cells that its bytes were read from
-  pub child : ℕ → ℕ          -- the child word of each character, NONE where it has none
+  pub cells : List ℕ  -- the cells that the node visits; 01: "enters"
+  pub footprint : List ℕ  -- the cells that its bytes were read from
+  pub child : ℕ → ℕ  -- the child word of each character, NONE where it has none
 
 -- a node with no children
 abbrev pub childless : Option ℕ → Node
@@ -34,7 +34,7 @@ chainNode bytes cell place =
       value = none;
       cells = pick (eqb place 0x1B) (cell ∷ []) [];
       footprint = cell ∷ [];
-      child = oneChild (chainCharacter bytes place) (chainChild bytes cell place)
+      child = oneChild (chainCharacter bytes place) (chainChild bytes cell place);
     }
 
 abbrev pub sparseNode : List ℕ → ℕ → Node

@@ -7,12 +7,12 @@ use Rattle.nodes.specs.Layout.{Layout, usable}
 
 -- what a word names
 pub data Pointer : Type 0 where
-  nothing : Pointer                -- 01: NONE
-  leaf : ℕ → Pointer               -- value
-  chain : ℕ → ℕ → Pointer          -- cell, place of the character
-  split : ℕ → Pointer              -- cell
-  sparse : ℕ → Pointer             -- cell
-  prefix : ℕ → Pointer             -- cell
+  nothing : Pointer  -- 01: NONE
+  leaf : ℕ → Pointer  -- value
+  chain : ℕ → ℕ → Pointer  -- cell, place of the character
+  split : ℕ → Pointer  -- cell
+  sparse : ℕ → Pointer  -- cell
+  prefix : ℕ → Pointer  -- cell
   invalid : Pointer
 
 -- 01: "00-1B chain", "1C split", "1E sparse", "1F prefix", "1D is no kind"

@@ -24,6 +24,7 @@ tableWord bytes i = wordAt bytes (4 * i)
 -- 01: "A split head, mid and end each hold at least one pointer."
 abbrev pub validHead : List ℕ → Bool
 validHead bytes = someWord (headWord bytes) 4 0
+
 abbrev pub validTable : List ℕ → Bool
 validTable bytes = someWord (tableWord bytes) 8 0
 

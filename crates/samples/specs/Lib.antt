@@ -1,4 +1,4 @@
 pub mod Line
-pub mod Expected
-pub mod Computed
+pub mod Bytes
+pub mod Calls
 pub mod Samples

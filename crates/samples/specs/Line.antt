@@ -11,12 +11,12 @@ pub data Letter : Type 0 where
 -- what the value is
 pub data Says : Type 0 where
   answer count root block : Says
-  cell : ℕ → Says                        -- the bytes of a cell
-  link : ℕ → Says                        -- the word at 1C of a cell
+  cell : ℕ → Says  -- the bytes of a cell
+  link : ℕ → Says  -- the word at 1C of a cell
   orderWord : Says
-  validWord : ℕ → Says                   -- whether an order word is valid
+  validWord : ℕ → Says  -- whether an order word is valid
   packed : Says
-  answerOn : ℕ → ℕ → ℕ → Says            -- the verdict of a day: year, month, day
+  answerOn : ℕ → ℕ → ℕ → Says  -- the verdict of a day: year, month, day
   dose degrees : Says
 
 pub data Value : Type 0 where

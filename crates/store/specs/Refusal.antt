@@ -34,6 +34,7 @@ changedBy refusals block new =
 -- 01, answer 3: "label empty (but not for the next label) or over 48"
 unfoldable pub overLong : List ℕ → Bool
 overLong key = ltb keyLimit (length key)
+
 unfoldable pub badKey : List ℕ → Bool
 badKey key = eqb (length key) 0 || overLong key
 

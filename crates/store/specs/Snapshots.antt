@@ -16,6 +16,7 @@ unfoldable pub withBit : Layout → List ℕ → ℕ → ℕ
 withBit layout block slot =
     let bits = getD block (bitsAt layout) 0 in
     pick (inUse layout block slot) bits (bits + slotBit slot)
+
 unfoldable pub withoutBit : Layout → List ℕ → ℕ → ℕ
 withoutBit layout block slot =
     let bits = getD block (bitsAt layout) 0 in

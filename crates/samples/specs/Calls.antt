@@ -1,0 +1,57 @@
+-- The calls that the samples make, by the definitions of the calls.
+use mathlib.Core.List.{List, [], _∷_}
+use Prim.Native.Nat.{ℕ, _*_}
+use lib.IntN.{pos}
+use lib.ListN.{replicate}
+use Rattle.store.specs.Trailer.{layoutOf, rootWord}
+use Rattle.store.specs.Format.{format}
+use Rattle.store.specs.Insert.{Inserted, insert}
+use Rattle.store.specs.Snapshots.{snapshot, restore}
+use Rattle.calendar.specs.Date.{yearOf, monthOf, dayOf, dateOf, packedDate}
+use Rattle.dosing.specs.declared.temperature.Reading.the-variants.{Celsius}
+use Rattle.dosing.specs.declared.temperature.TemperatureGate.the-variants.{Any}
+use Rattle.dosing.specs.Temperature.{whole}
+use Rattle.dosing.specs.Sheet.{sheetOf}
+use Rattle.dosing.specs.Verdict.{Verdict, verdict}
+
+-- 01: "'fresh n' is a fresh book of n cells", made of memory that held other bytes
+unfoldable pub fresh : ℕ → List ℕ
+fresh n = format (replicate (n * 32) 0xA5) .block
+
+unfoldable pub sampleA : Inserted
+sampleA = insert (fresh 4) (0x41 ∷ []) 0
+
+unfoldable pub sampleB : Inserted
+sampleB = insert (snapshot (sampleA .block) 1 .block) (0x41 ∷ []) 1
+
+unfoldable pub sampleC : Inserted
+sampleC = insert (sampleB .block) (0x41 ∷ []) 2
+
+unfoldable pub sampleD : Inserted
+sampleD = insert (restore (sampleB .block) 1 .block) (0x41 ∷ []) 2
+
+unfoldable pub sampleE : Inserted
+sampleE = insert (fresh 8) (0x43 ∷ 0x48 ∷ 0x41 ∷ []) 0
+
+unfoldable pub sampleF : Inserted
+sampleF = insert (sampleE .block) (0x41 ∷ []) 1
+
+unfoldable pub sampleG : Inserted
+sampleG = insert (sampleF .block) (0x35 ∷ []) 2
+
+unfoldable pub sampleH : Inserted
+sampleH = insert (sampleE .block) (0x43 ∷ []) 5
+
+-- 7 March 2025
+unfoldable pub expiryJ : ℕ
+expiryJ = packedDate (dateOf (yearOf 2025) (monthOf 3) (dayOf 7))
+
+-- the verdict of a day on a label with that expiry, with K's section and length
+unfoldable pub verdictOn : ℕ → ℕ → ℕ → Verdict
+verdictOn year month day =
+    verdict (insert (fresh 4) (0x41 ∷ []) expiryJ .block) (0x41 ∷ []) (dateOf (yearOf year) (monthOf month) (dayOf day))
+    (Celsius (whole (pos 20)))
+    (sheetOf Any (whole (pos 60)) (whole (pos 4000)))
+
+abbrev pub rootOf : List ℕ → ℕ
+rootOf b = rootWord (layoutOf b) b
