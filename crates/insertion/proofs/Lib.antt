@@ -9,3 +9,8 @@ pub mod CellBytes
 pub mod SplitBound
 pub mod Bound
 pub mod Commit
+pub mod SplitWords
+pub mod SplitCells
+pub mod SplitRows
+pub mod SplitOf
+pub mod SplitCopied

@@ -2,10 +2,7 @@
 use mathlib.Core.Bool.{Bool, _&&_}
 use Prim.Native.Nat.{ℕ, _+_}
 use lib.Dec.{leb, ltb}
-
-pub record Layout : Type 0 where
-  pub edition : ℕ
-  pub cells : ℕ
+pub use Rattle.nodes.specs.declared.layout.Layout.{Layout}
 
 -- the cells at the end of the block that hold the trailer; 01: "Cell n-1 is the trailer"
 unfoldable pub trailerCells : Layout → ℕ

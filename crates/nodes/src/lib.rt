@@ -1,1 +1,2 @@
 // Pointers and nodes: what one word names, read from its cells.
+pub mod layout;
