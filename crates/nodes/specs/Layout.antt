@@ -2,7 +2,10 @@
 use mathlib.Core.Bool.{Bool, _&&_}
 use Prim.Native.Nat.{ℕ, _+_}
 use lib.Dec.{leb, ltb}
-pub use Rattle.nodes.specs.declared.layout.Layout.{Layout}
+
+-- edition and number of cells, as the code's struct has them
+abbrev pub Layout : Type 0
+Layout = Rattle.nodes.specs.declared.layout.Layout.Layout
 
 -- the cells at the end of the block that hold the trailer; 01: "Cell n-1 is the trailer"
 unfoldable pub trailerCells : Layout → ℕ

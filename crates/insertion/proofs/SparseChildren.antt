@@ -1,0 +1,152 @@
+-- What a sparse cell is, and which child it has for a character.
+use mathlib.Core.Path.{_≡_, refl, sym, ap, _∙_, subst}
+use mathlib.Core.Logic.{_≢_}
+use mathlib.Core.Bool.{Bool, true, false, not}
+use mathlib.Core.List.{List, map}
+use native.Mathlib.Decide.{ℕ-discrete}
+use native.Mathlib.Omega.{arith}
+use Prim.Native.Nat.{ℕ, zero, suc, _+_, _-_, _≤_, _<_}
+use lib.Dec.{eqb}
+use lib.ListN.{length}
+use borrow.Author.Tests.{eqb-true, eqb-false, eq-eqb, ne-eqb, not-true}
+use Rattle.cells.specs.Choice.{pick}
+use Rattle.cells.proofs.Choice.{both, absurd-false}
+use Rattle.order_words.specs.Order.{validDigits, rising}
+use Rattle.order_words.proofs.Both.{each-of-four}
+use Rattle.order_words.proofs.Valid.{at-most-six}
+use Rattle.nodes.specs.Sparse.{someWord, everyWord, sparseWord, sparseCharacter, sparseDigits, sparseCount, validSparse, positionOf, childFrom}
+use Rattle.insertion.proofs.SplitWords.{some-word-at, some-word-not}
+
+-- every word is a pointer just where each one is
+pub every-word-is : (words : ℕ → ℕ) (count from : ℕ) → ((q : ℕ) → from ≤ q → q < from + count → words q ≢ 0) → everyWord words count from ≡ true
+unfolding everyWord
+every-word-is words zero from each = refl
+every-word-is words (suc count) from each =
+    rw (ne-eqb (words from) 0 (each from (omega arith) (omega arith)))
+    (every-word-is words count (from + 1) (λ q low high. each q (omega arith) (omega arith)))
+
+pub every-word-at : (words : ℕ → ℕ) (count from : ℕ) → everyWord words count from ≡ true → (q : ℕ) → from ≤ q → q < from + count → words q ≢ 0
+unfolding everyWord
+every-word-at words zero from e q low high = absurd (omega arith)
+every-word-at words (suc count) from e q low high =
+    go (eqb (words from) 0) refl e (λ later after. every-word-at words count (from + 1) later q after (omega arith))
+  where
+    go : (t : Bool) → eqb (words from) 0 ≡ t → pick t false (everyWord words count (from + 1)) ≡ true
+        → (everyWord words count (from + 1) ≡ true → from + 1 ≤ q → words q ≢ 0) → words q ≢ 0
+    go true first e later = absurd-false e
+    go false first e later = elim (ℕ-discrete from q) [
+      | yes here ↦ subst (λ r. words r ≢ 0) here (eqb-false (words from) 0 first)
+      | no other ↦ later e (omega arith)
+    ]
+
+-- no word is a pointer where each one is NONE
+pub no-word-is : (words : ℕ → ℕ) (count from : ℕ) → ((q : ℕ) → from ≤ q → q < from + count → words q ≡ 0) → someWord words count from ≡ false
+no-word-is words count from each = go (someWord words count from) refl
+  where
+    go : (t : Bool) → someWord words count from ≡ t → t ≡ false
+    go true e = let r = some-word-at words count from e in absurd (r .3 (each (r .0) (r .1) (r .2)))
+    go false e = refl
+
+-- a cell whose order word has these digits, with a child at each position that they name and no other
+pub record Sparse (bytes ds : List ℕ) : Type 0 where
+  pub digits : sparseDigits bytes ≡ ds
+  pub order : validDigits ds ≡ true
+  pub words : (q : ℕ) → q < length ds → sparseWord bytes q ≢ 0
+  pub others : (q : ℕ) → length ds ≤ q → q < 6 → sparseWord bytes q ≡ 0
+  pub rises : rising (map (sparseCharacter bytes) ds) ≡ true
+
+-- a valid sparse cell is one
+pub sparse-parts : (bytes : List ℕ) → validSparse bytes ≡ true → Sparse bytes (sparseDigits bytes)
+unfolding validSparse
+sparse-parts bytes valid =
+    let parts =
+    each-of-four (validDigits (sparseDigits bytes)) (everyWord (sparseWord bytes) (sparseCount bytes) 0)
+    (not (someWord (sparseWord bytes) (6 - sparseCount bytes) (sparseCount bytes))) (rising (map (sparseCharacter bytes) (sparseDigits bytes))) valid in
+    record {
+      digits = refl;
+      order = parts .0;
+      words = λ q inside. every-word-at (sparseWord bytes) (sparseCount bytes) 0 (parts .1) q (omega arith) (omega arith);
+      others = λ q low high.
+          some-word-not (sparseWord bytes) (6 - sparseCount bytes) (sparseCount bytes) (not-true _ (parts .2)) q low (omega arith);
+      rises = parts .3;
+    }
+
+pub sparse-valid : (bytes ds : List ℕ) → Sparse bytes ds → validSparse bytes ≡ true
+unfolding validSparse
+sparse-valid bytes ds h =
+    let some : everyWord (sparseWord bytes) (length ds) 0 ≡ true =
+    every-word-is (sparseWord bytes) (length ds) 0 (λ q low high. h .words q (omega arith)) in
+    let none : someWord (sparseWord bytes) (6 - length ds) (length ds) ≡ false =
+    no-word-is (sparseWord bytes) (6 - length ds) (length ds) (λ q low high. h .others q low (omega (arith, at-most-six ds (h .order)))) in
+    rw (h .digits) (both (both (both (h .order) some) (ap not none)) (h .rises))
+
+-- the position found for a character is the first that has it
+module _ (bytes : List ℕ) (x : ℕ) where
+  pub position-has : (count from : ℕ) → positionOf bytes count from x < from + count → sparseCharacter bytes (positionOf bytes count from x) ≡ x
+  unfolding positionOf
+  position-has zero from inside = absurd (omega arith)
+  position-has (suc count) from inside = go (eqb x (sparseCharacter bytes from)) refl inside (position-has count (from + 1))
+    where
+      go : (t : Bool) → eqb x (sparseCharacter bytes from) ≡ t → pick t from (positionOf bytes count (from + 1) x) < from + suc count
+          → (positionOf bytes count (from + 1) x < from + 1 + count → sparseCharacter bytes (positionOf bytes count (from + 1) x) ≡ x)
+          → sparseCharacter bytes (pick t from (positionOf bytes count (from + 1) x)) ≡ x
+      go true e inside later = sym (eqb-true x (sparseCharacter bytes from) e)
+      go false e inside later = later (omega arith)
+
+  pub position-first : (count from q : ℕ) → from ≤ q → q < from + count → q < positionOf bytes count from x → sparseCharacter bytes q ≢ x
+  unfolding positionOf
+  position-first zero from q low high before = absurd (omega arith)
+  position-first (suc count) from q low high before =
+      go (eqb x (sparseCharacter bytes from)) refl before (λ after. position-first count (from + 1) q after (omega arith))
+    where
+      go : (t : Bool) → eqb x (sparseCharacter bytes from) ≡ t → q < pick t from (positionOf bytes count (from + 1) x)
+          → (from + 1 ≤ q → q < positionOf bytes count (from + 1) x → sparseCharacter bytes q ≢ x) → sparseCharacter bytes q ≢ x
+      go true e before later = absurd (omega arith)
+      go false e before later = elim (ℕ-discrete from q) [
+        | yes here ↦ λ same. eqb-false x (sparseCharacter bytes from) e (sym same ∙ ap (sparseCharacter bytes) (sym here))
+        | no other ↦ later (omega arith) before
+      ]
+
+-- the child of a character is the word at the first position that has it
+pub child-found : (bytes : List ℕ) (y count from q : ℕ) → from ≤ q → q < from + count → sparseCharacter bytes q ≡ y
+    → ((r : ℕ) → from ≤ r → r < q → sparseCharacter bytes r ≢ y) → childFrom bytes count from y ≡ sparseWord bytes q
+unfolding childFrom
+child-found bytes y zero from q low high has first = absurd (omega arith)
+child-found bytes y (suc count) from q low high has first = elim (ℕ-discrete from q) [
+  | yes here ↦ rw (eq-eqb y (sparseCharacter bytes from) (sym has ∙ ap (sparseCharacter bytes) (sym here))) (ap (sparseWord bytes) here)
+  | no other ↦
+      let not-here : y ≢ sparseCharacter bytes from = λ e. first from (omega arith) (omega arith) (sym e) in
+      rw (ne-eqb y (sparseCharacter bytes from) not-here)
+      (child-found bytes y count (from + 1) q (omega arith) (omega arith) has (λ r after before. first r (omega arith) before))
+]
+
+-- cells with the same characters, and the same words where the character is the one asked for, have the same child
+pub child-alike : (bytes bytes′ : List ℕ) (y count from : ℕ)
+    → ((q : ℕ) → from ≤ q → q < from + count → sparseCharacter bytes′ q ≡ sparseCharacter bytes q)
+    → ((q : ℕ) → from ≤ q → q < from + count → y ≡ sparseCharacter bytes q → sparseWord bytes′ q ≡ sparseWord bytes q)
+    → childFrom bytes′ count from y ≡ childFrom bytes count from y
+unfolding childFrom
+child-alike bytes bytes′ y zero from characters words = refl
+child-alike bytes bytes′ y (suc count) from characters words =
+    rw (
+      characters from (omega arith) (omega arith),
+      child-alike bytes bytes′ y count (from + 1) (λ q low high. characters q (omega arith) (omega arith)) (λ q low high. words q (omega arith) (omega arith)),
+    ) (go (eqb y (sparseCharacter bytes from)) refl)
+  where
+    go : (t : Bool) → eqb y (sparseCharacter bytes from) ≡ t
+        → pick t (sparseWord bytes′ from) (childFrom bytes count (from + 1) y) ≡ pick t (sparseWord bytes from) (childFrom bytes count (from + 1) y)
+    go true e = words from (omega arith) (omega arith) (eqb-true y (sparseCharacter bytes from) e)
+    go false e = refl
+
+-- one more position changes nothing for another character than its own
+pub child-last : (bytes : List ℕ) (y count from : ℕ) → y ≢ sparseCharacter bytes (from + count)
+    → childFrom bytes (suc count) from y ≡ childFrom bytes count from y
+unfolding childFrom
+child-last bytes y zero from other =
+    let here : from + 0 ≡ from = omega arith in
+    let not-here : y ≢ sparseCharacter bytes from = λ e. other (e ∙ ap (sparseCharacter bytes) (sym here)) in
+    rw (ne-eqb y (sparseCharacter bytes from) not-here)
+child-last bytes y (suc count) from other =
+    let there : from + 1 + count ≡ from + suc count = omega arith in
+    ap (pick (eqb y (sparseCharacter bytes from)) (sparseWord bytes from))
+    (child-last bytes y count (from + 1) (λ e. other (e ∙ ap (sparseCharacter bytes) there)))
