@@ -17,3 +17,8 @@ pub mod SplitCopied
 pub mod SparseChildren
 pub mod SparseCells
 pub mod SparseSet
+pub mod SetChild
+pub mod Grow
+pub mod Aside
+pub mod KeyEnd
+pub mod Law

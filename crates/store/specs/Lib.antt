@@ -6,3 +6,4 @@ pub mod Format
 pub mod Read
 pub mod Insert
 pub mod Snapshots
+pub mod Examples
