@@ -1,8 +1,8 @@
 -- A node's value set aside, and put back after a child is set.
 use mathlib.Core.Path.{_≡_, refl, sym, ap, _∙_, subst}
 use mathlib.Core.Bool.{true}
-use mathlib.Core.List.{List, [], _∷_}
-use mathlib.Core.Option.{Option, none, some}
+use mathlib.Core.List.{List}
+use mathlib.Core.Option.{none, some}
 use Prim.Native.Nat.{ℕ, _≤_, _<_}
 use native.Mathlib.Omega.{arith}
 use lib.Dec.{ltb, eqb}
@@ -17,7 +17,7 @@ use Rattle.nodes.specs.Layout.{Layout}
 use Rattle.nodes.specs.Pointer.{Pointer, pointer}
 use Rattle.nodes.specs.Pointer.Pointer.{nothing, leaf, chain, split, sparse, prefix, invalid}
 use Rattle.nodes.specs.Prefix.{prefixValue, prefixLink, validPrefix}
-use Rattle.nodes.specs.Node.{Node, childless, chainNode, plain, readAt, read}
+use Rattle.nodes.specs.Node.{Node, childless, plain, readAt, read}
 use Rattle.nodes.proofs.Pointers.{leaf-value}
 use Rattle.nodes.proofs.Frame.{chain-cut, split-cut, sparse-cut, prefix-cut, read-is, read-zero}
 use Rattle.nodes.proofs.Read.{read-plain}

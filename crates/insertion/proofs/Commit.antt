@@ -58,7 +58,7 @@ module _ (number : ℕ → ℕ) (m : Memory) where
   memoryWith-agrees cells cs apart = λ c h. sym (memoryWith-other cells c (apart c h))
 
   module _ (layout : Layout) where
-    holds-of : (m′ : Memory) (cells : List (List ℕ)) → ((c : ℕ) → 1 ≤ occurrences c (numbers number cells) → usable layout c ≡ true)
+    pub holds-of : (m′ : Memory) (cells : List (List ℕ)) → ((c : ℕ) → 1 ≤ occurrences c (numbers number cells) → usable layout c ≡ true)
         → ((c : ℕ) → occurrences c (numbers number cells) ≤ 1)
         → ((c : ℕ) → 1 ≤ occurrences c (numbers number cells) → m′ c ≡ memoryWith number m cells c) → Holds layout number m′ cells
     holds-of m′ [] free once same = tt
@@ -104,7 +104,7 @@ written-memory number b (newest ∷ rest) whole fits c =
 
 -- numbers from a list of free cells
 module _ (layout : Layout) (free : List ℕ) where
-  numbers-taken : (c : ℕ) (cells : List (List ℕ)) → length cells ≤ length free
+  pub numbers-taken : (c : ℕ) (cells : List (List ℕ)) → length cells ≤ length free
       → occurrences c (numbers (numberFrom layout free) cells) ≡ occurrences c (take (length cells) free)
   unfolding numberFrom numbers occurrences
   numbers-taken c [] enough = refl

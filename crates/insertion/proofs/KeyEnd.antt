@@ -3,10 +3,9 @@ use mathlib.Core.Path.{_≡_, refl, sym, ap, _∙_}
 use mathlib.Core.Logic.{_≢_}
 use mathlib.Core.List.{List, [], _∷_, _++_}
 use mathlib.Core.Option.{Option, none, some}
-use Prim.Native.Nat.{ℕ, zero, _+_, _-_, _*_, _≤_, _<_}
+use Prim.Native.Nat.{ℕ, _+_, _≤_, _<_}
 use native.Mathlib.Decide.{decLt}
 use native.Mathlib.Omega.{arith}
-use lib.ListN.{length}
 use Rattle.cells.specs.Bytes.{IsBytes}
 use Rattle.cells.specs.Memory.{Memory}
 use Rattle.cells.specs.Occurrences.{occurrences}
@@ -19,7 +18,7 @@ use Rattle.nodes.specs.Prefix.{prefixLink}
 use Rattle.nodes.specs.Node.{Node, childless, prefixed, plain, readAt, read}
 use Rattle.nodes.proofs.Pointers.{names, usable-inside, leaf-made}
 use Rattle.nodes.proofs.Gather.{gather-nil, under-zero}
-use Rattle.nodes.proofs.Frame.{Like, plain-frame, read-is}
+use Rattle.nodes.proofs.Frame.{plain-frame, read-is}
 use Rattle.nodes.proofs.Read.{read-plain, read-leaf, read-prefix}
 use Rattle.trees.specs.Tree.{tree}
 use Rattle.trees.specs.Lookup.{Table, lookup, sameKey, update}

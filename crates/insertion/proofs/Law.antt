@@ -2,15 +2,14 @@
 -- a tree of old cells and of each allocated one, and the old table with the key updated.
 use mathlib.Core.Path.{_≡_, refl, sym, ap, _∙_, subst}
 use mathlib.Core.Logic.{_≢_}
-use mathlib.Core.Bool.{Bool, true, false}
+use mathlib.Core.Bool.{true}
 use mathlib.Core.List.{List, [], _∷_}
 use mathlib.Core.Option.{Option, none, some}
-use Prim.Native.Nat.{ℕ, zero, suc, _+_, _≤_, _<_}
+use Prim.Native.Nat.{ℕ, zero, suc, _≤_, _<_}
 use native.Mathlib.Omega.{arith}
-use lib.ListN.{length, getD}
+use lib.ListN.{length}
 use Rattle.cells.specs.Bytes.{IsBytes}
 use Rattle.cells.specs.Memory.{Memory}
-use Rattle.cells.specs.Occurrences.{occurrences}
 use Rattle.cells.proofs.Choice.{never, absurd-false}
 use Rattle.cells.proofs.Occurrences.{Agree, agree-less}
 use Rattle.nodes.specs.Layout.{Layout}

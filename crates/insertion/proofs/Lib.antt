@@ -22,3 +22,5 @@ pub mod Grow
 pub mod Aside
 pub mod KeyEnd
 pub mod Law
+pub mod Taken
+pub mod InsertLaw

@@ -3,3 +3,5 @@ pub mod Gather
 pub mod Frame
 pub mod Chain
 pub mod Read
+pub mod Usable
+pub mod Coded

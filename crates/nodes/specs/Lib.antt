@@ -5,3 +5,4 @@ pub mod Sparse
 pub mod Split
 pub mod Prefix
 pub mod Node
+pub mod Coded

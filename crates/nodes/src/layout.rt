@@ -1,5 +1,29 @@
 // What a block's edition and size decide.
+ghost use mathlib.Core.Path.{_≡_};
+ghost use Rattle.nodes.specs.Layout.{trailerCells, usable};
+
 pub struct Layout {
     pub edition: u32,
     pub cells: usize,
+}
+
+// How many cells at the end of the block hold the trailer.
+pub fn trailer_cells(layout: Layout) -> usize
+    ensures { λ r. ⌜ r ≡ trailerCells layout ⌝ }
+{
+    1
+}
+
+// Whether a cell may hold a node: all but the first and the trailer's may.
+pub fn is_usable(layout: Layout, cell: usize) -> bool
+    ensures { λ r. ⌜ r ≡ usable layout cell ⌝ }
+{
+    let cells = layout.cells;
+    if cell < 1 {
+        return false;
+    }
+    if cells <= cell {
+        return false;
+    }
+    trailer_cells(layout) < cells - cell
 }

@@ -34,8 +34,10 @@ letter = 0x41 ∷ []
 -- a block of four cells that holds 41 with 0, with a snapshot of it, then 41 with 1
 unfoldable pub marked : List ℕ
 marked = snapshot (insert (format (zeros 128) .block) letter 0 .block) 1 .block
+
 unfoldable pub replaced : List ℕ
 replaced = insert marked letter 1 .block
+
 unfoldable pub released : List ℕ
 released = release replaced 1 .block
 

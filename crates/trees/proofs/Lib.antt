@@ -1,3 +1,4 @@
 pub mod Tree
 pub mod Pairs
 pub mod Frame
+pub mod Usable
