@@ -5,3 +5,11 @@ pub mod Chain
 pub mod Read
 pub mod Usable
 pub mod Coded
+pub mod WordRows
+pub mod Neighbours
+pub mod SparseSteps
+pub mod PrefixSteps
+pub mod Rest
+pub mod StepWays
+pub mod ValueWays
+pub mod StepRead

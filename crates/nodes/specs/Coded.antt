@@ -1,8 +1,17 @@
 -- What the values of the code's types stand for, in the terms of the definitions.
-use Rattle.nodes.specs.Pointer.{Pointer}
+use mathlib.Core.Path.{_≡_}
+use mathlib.Core.Option.{Option, none, some}
+use Prim.Native.Nat.{ℕ}
+use Rattle.nodes.specs.Layout.{Layout}
+use Rattle.nodes.specs.Pointer.{Pointer, pointer}
 use Rattle.nodes.specs.Pointer.Pointer.{nothing, leaf, chain, split, sparse, prefix, invalid}
+use Rattle.nodes.specs.Step.{Step, found, missing, broken}
 use Rattle.nodes.specs.declared.pointer.Pointer.{Pointer as CodedPointer}
 use Rattle.nodes.specs.declared.pointer.Pointer.the-variants.{Nothing, Leaf, Chain, Split, Sparse, Prefix, Invalid}
+use Rattle.nodes.specs.declared.step.ChildStep.{ChildStep}
+use Rattle.nodes.specs.declared.step.ChildStep.the-variants.{Found, Missing, Broken}
+use Rattle.nodes.specs.declared.value.Value.{Value}
+use Rattle.nodes.specs.declared.value.Value.the-variants.{Held, Empty}
 
 -- what a word names
 abbrev pub pointerOf : CodedPointer → Pointer
@@ -13,3 +22,18 @@ pointerOf (Split c) = split c
 pointerOf (Sparse c) = sparse c
 pointerOf (Prefix c) = prefix c
 pointerOf Invalid = invalid
+
+-- a pointer that some word has
+abbrev pub Named : Layout → CodedPointer → Type 0
+Named layout p = (word : ℕ) × (pointerOf p ≡ pointer layout word)
+
+-- a step down
+abbrev pub stepOf : ChildStep → Step
+stepOf (Found w) = found w
+stepOf Missing = missing
+stepOf Broken = broken
+
+-- a value, or none
+abbrev pub heldOf : Value → Option ℕ
+heldOf (Held v) = some v
+heldOf Empty = none

@@ -6,3 +6,7 @@ pub mod Split
 pub mod Prefix
 pub mod Node
 pub mod Coded
+pub mod Least
+pub mod Words
+pub mod Step
+pub mod Value

@@ -1,0 +1,13 @@
+pub mod Bits
+pub mod Refusals
+pub mod Trailer
+pub mod TrailerWrites
+pub mod Roots
+pub mod Free
+pub mod After
+pub mod SnapshotCalls
+pub mod Format
+pub mod Committed
+pub mod InsertCall
+pub mod TrailerSteps
+pub mod FormatSteps

@@ -7,3 +7,5 @@ pub mod Read
 pub mod Insert
 pub mod Snapshots
 pub mod Examples
+pub mod Fits
+pub mod Answers

@@ -1,1 +1,4 @@
 // The calls on a block.
+pub mod answer;
+pub mod formatting;
+pub mod trailer_fields;

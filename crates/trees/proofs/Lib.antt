@@ -2,3 +2,12 @@ pub mod Tree
 pub mod Pairs
 pub mod Frame
 pub mod Usable
+pub mod Keys
+pub mod EntriesLookup
+pub mod EveryPair
+pub mod EntriesRising
+pub mod Next
+pub mod Children
+pub mod Shown
+pub mod NextParts
+pub mod NextWalk

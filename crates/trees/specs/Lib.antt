@@ -2,3 +2,5 @@ pub mod Tree
 pub mod Root
 pub mod Lookup
 pub mod Entries
+pub mod EntryAt
+pub mod NextWalk

@@ -1,0 +1,96 @@
+// Sparse cells: two to six children.
+ghost use mathlib.Core.Path.{_≡_};
+ghost use mathlib.Core.List.{map};
+ghost use lib.ListN.{length, getD};
+ghost use Rattle.order_words.specs.Order.{rising};
+ghost use Rattle.nodes.specs.Sparse.{sparseOrder, sparseDigits, sparseCount, sparseCharacter, sparseChild, validSparse};
+use crate::words::every_word;
+use crate::words::some_word;
+use cells::word_at;
+use order_words::digit_at;
+use order_words::digit_count;
+use order_words::is_valid_order;
+
+// The order word of a sparse cell.
+fn sparse_order(cell: &[u8]) -> u16
+    requires { ⌜ length (now cell) ≡ 32 ⌝ }
+    ensures { λ r. ⌜ r ≡ sparseOrder (now (cell .entry)) ⌝ }
+{
+    (cell[30] as u16) * 256 + (cell[31] as u16)
+}
+
+// How many children a sparse cell has.
+pub fn sparse_count(cell: &[u8]) -> usize
+    requires { ⌜ length (now cell) ≡ 32 ⌝ }
+    ensures { λ r. ⌜ r ≡ sparseCount (now (cell .entry)) ⌝ }
+{
+    digit_count(sparse_order(cell))
+}
+
+// The position of the i-th child by rising character.
+pub fn sparse_position(cell: &[u8], i: usize) -> usize
+    requires { ⌜ length (now cell) ≡ 32 ⌝ }
+    ensures { λ r. ⌜ r ≡ getD (sparseDigits (now (cell .entry))) i 0 ⌝ }
+{
+    digit_at(sparse_order(cell), i)
+}
+
+// The character of the i-th child.
+pub fn sparse_character(cell: &[u8], i: usize) -> u8
+    requires { ⌜ length (now cell) ≡ 32 ⌝ }
+    ensures { λ r. ⌜ r ≡ sparseCharacter (now (cell .entry)) (getD (sparseDigits (now (cell .entry))) i 0) ⌝ }
+{
+    let position = sparse_position(cell, i);
+    cell[24 + position]
+}
+
+// Whether the characters rise strictly in the order given: each is below the next.
+fn is_rising(cell: &[u8], count: usize) -> bool
+    requires { ⌜ (length (now cell) ≡ 32) × (count ≡ sparseCount (now cell)) ⌝ }
+    ensures { λ r. ⌜ r ≡ rising (map (sparseCharacter (now (cell .entry))) (sparseDigits (now (cell .entry)))) ⌝ }
+{
+    let mut i: usize = 0;
+    while i + 1 < count {
+        let character = sparse_character(cell, i);
+        let next = sparse_character(cell, i + 1);
+        if next <= character {
+            return false;
+        }
+        i += 1;
+    }
+    true
+}
+
+// Whether a sparse cell obeys its rules.
+pub fn is_valid_sparse(cell: &[u8]) -> bool
+    requires { ⌜ length (now cell) ≡ 32 ⌝ }
+    ensures { λ r. ⌜ r ≡ validSparse (now (cell .entry)) ⌝ }
+{
+    if !is_valid_order(sparse_order(cell)) {
+        return false;
+    }
+    let count = sparse_count(cell);
+    if !every_word(cell, 0, count, 0) {
+        return false;
+    }
+    if some_word(cell, 0, 6 - count, count) {
+        return false;
+    }
+    is_rising(cell, count)
+}
+
+// The child word of a character, NONE where the cell has none.
+pub fn sparse_child(cell: &[u8], character: u8) -> u32
+    requires { ⌜ length (now cell) ≡ 32 ⌝ }
+    ensures { λ r. ⌜ r ≡ sparseChild (now (cell .entry)) character ⌝ }
+{
+    let count = sparse_count(cell);
+    let mut i: usize = 0;
+    while i < count {
+        if character == cell[24 + i] {
+            return word_at(cell, 4 * i);
+        }
+        i += 1;
+    }
+    0
+}

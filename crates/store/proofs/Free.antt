@@ -1,0 +1,151 @@
+-- Laws of the free cells: the usable cells that neither the root nor a slot in use reaches, each once.
+use mathlib.Core.Path.{_≡_, refl, sym, ap, _∙_}
+use mathlib.Core.Bool.{Bool, true, false}
+use mathlib.Core.List.{List, [], _∷_}
+use Prim.Native.Nat.{ℕ, zero, suc, _+_, _-_, _≤_, _<_}
+use native.Mathlib.Decide.{decLe, decLt, ℕ-discrete}
+use native.Mathlib.Omega.{arith}
+use lib.Dec.{eqb}
+use borrow.Author.Tests.{eq-eqb, ne-eqb}
+use Rattle.cells.specs.Memory.{memoryOf}
+use Rattle.cells.specs.Occurrences.{occurrences, select}
+use Rattle.cells.proofs.Choice.{absurd-bool}
+use Rattle.cells.proofs.Occurrences.{occurrences-none, occurrences-same, occurrences-cons-other}
+use Rattle.nodes.specs.Layout.{Layout, trailerCells, usable}
+use Rattle.nodes.proofs.Pointers.{usable-low, usable-high, usable-is}
+use Rattle.trees.specs.Root.{rootCells}
+use Rattle.store.specs.Trailer.{rootWord, validSlot, slotWord, inUse}
+use Rattle.store.specs.Sound.{reachable}
+use Rattle.store.specs.Free.{countUp, allocationOrder, free}
+use Rattle.store.proofs.Roots.{root-reachable, slot-reachable}
+
+-- a number passes a test as often as it stands there, or never
+module _ (test : ℕ → Bool) where
+  select-kept : (x : ℕ) (xs : List ℕ) → test x ≡ true → select test (x ∷ xs) ≡ x ∷ select test xs
+  unfolding select
+  select-kept x xs e = rw e
+
+  select-dropped : (x : ℕ) (xs : List ℕ) → test x ≡ false → select test (x ∷ xs) ≡ select test xs
+  unfolding select
+  select-dropped x xs e = rw e
+
+  pub select-passed : (c : ℕ) → test c ≡ true → (xs : List ℕ) → occurrences c (select test xs) ≡ occurrences c xs
+  select-passed c passes [] = unfold select in refl
+  select-passed c passes (x ∷ xs) = go (test x) refl (select-passed c passes xs)
+    where
+      go : (t : Bool) → test x ≡ t → occurrences c (select test xs) ≡ occurrences c xs → occurrences c (select test (x ∷ xs)) ≡ occurrences c (x ∷ xs)
+      go true e later = elim (ℕ-discrete c x) [
+        | yes same ↦
+            ap (occurrences c) (select-kept x xs e)
+            ∙ omega (arith, later, occurrences-same c x xs same, occurrences-same c x (select test xs) same)
+        | no other ↦
+            ap (occurrences c) (select-kept x xs e)
+            ∙ omega (arith, later, occurrences-cons-other c x xs other, occurrences-cons-other c x (select test xs) other)
+      ]
+      go false e later =
+          ap (occurrences c) (select-dropped x xs e) ∙ later ∙ sym (occurrences-cons-other c x xs (λ same. absurd-bool (sym passes ∙ ap test same ∙ e)))
+
+  pub select-failed : (c : ℕ) → test c ≡ false → (xs : List ℕ) → occurrences c (select test xs) ≡ 0
+  select-failed c fails [] = unfold select in occurrences-none c
+  select-failed c fails (x ∷ xs) = go (test x) refl (select-failed c fails xs)
+    where
+      go : (t : Bool) → test x ≡ t → occurrences c (select test xs) ≡ 0 → occurrences c (select test (x ∷ xs)) ≡ 0
+      go true e later =
+          ap (occurrences c) (select-kept x xs e) ∙ occurrences-cons-other c x (select test xs) (λ same. absurd-bool (sym e ∙ ap test (sym same) ∙ fails)) ∙ later
+      go false e later = ap (occurrences c) (select-dropped x xs e) ∙ later
+
+  -- where every element passes, all of them are selected
+  pub select-all : (xs : List ℕ) → ((c : ℕ) → test c ≡ true) → select test xs ≡ xs
+  select-all [] each = unfold select in refl
+  select-all (x ∷ xs) each = select-kept x xs (each x) ∙ ap (λ (l : List ℕ). x ∷ l) (select-all xs each)
+
+-- so many numbers from one on: each of them once
+count-up-before : (count from c : ℕ) → c < from → occurrences c (countUp count from) ≡ 0
+unfolding countUp
+count-up-before zero from c h = occurrences-none c
+count-up-before (suc count) from c h =
+    occurrences-cons-other c from (countUp count (from + 1)) (omega arith) ∙ count-up-before count (from + 1) c (omega arith)
+
+pub count-up-within : (count from c : ℕ) → from ≤ c → c < from + count → occurrences c (countUp count from) ≡ 1
+unfolding countUp
+count-up-within zero from c low high = absurd (omega arith)
+count-up-within (suc count) from c low high = elim (ℕ-discrete c from) [
+  | yes same ↦ omega (arith, occurrences-same c from (countUp count (from + 1)) same, count-up-before count (from + 1) c (omega arith))
+  | no other ↦ occurrences-cons-other c from (countUp count (from + 1)) other ∙ count-up-within count (from + 1) c (omega arith) (omega arith)
+]
+
+pub count-up-outside : (count from c : ℕ) → from + count ≤ c → occurrences c (countUp count from) ≡ 0
+unfolding countUp
+count-up-outside zero from c h = occurrences-none c
+count-up-outside (suc count) from c h =
+    occurrences-cons-other c from (countUp count (from + 1)) (omega arith) ∙ count-up-outside count (from + 1) c (omega arith)
+
+-- the order of allocation has each usable cell once, and no other
+module _ (layout : Layout) (root c : ℕ) where
+  pub order-usable : usable layout c ≡ true → occurrences c (allocationOrder layout root) ≡ 1
+  unfolding allocationOrder
+  order-usable u =
+      count-up-within (layout .cells - 1 - trailerCells layout) 1 c (usable-low layout c u) (omega (arith, usable-low layout c u, usable-high layout c u))
+
+  pub order-only : 1 ≤ occurrences c (allocationOrder layout root) → usable layout c ≡ true
+  unfolding allocationOrder
+  order-only h = elim (decLt c 1) [
+    | yes before ↦ absurd (omega (arith, h, count-up-before (layout .cells - 1 - trailerCells layout) 1 c before))
+    | no from ↦ elim (decLt (c + trailerCells layout) (layout .cells)) [
+      | yes inside ↦ usable-is layout c (omega arith) inside
+      | no outside ↦ absurd (omega (arith, h, count-up-outside (layout .cells - 1 - trailerCells layout) 1 c (omega arith)))
+    ]
+  ]
+
+  pub order-most : occurrences c (allocationOrder layout root) ≤ 1
+  order-most = elim (decLe 1 (occurrences c (allocationOrder layout root))) [
+    | yes h ↦ omega (arith, order-usable (order-only h))
+    | no h ↦ omega arith
+  ]
+
+module _ (layout : Layout) (b : List ℕ) (c : ℕ) where
+  -- a cell that is reached is not free; any other is free as often as it stands in the order
+  pub free-reached : 1 ≤ occurrences c (reachable layout b) → occurrences c (free layout b) ≡ 0
+  unfolding free
+  free-reached h =
+      select-failed (λ d. eqb (occurrences d (reachable layout b)) 0) c (ne-eqb (occurrences c (reachable layout b)) 0 (omega arith)) (allocationOrder layout (rootWord layout b))
+
+  pub free-unreached : occurrences c (reachable layout b) ≡ 0 → occurrences c (free layout b) ≡ occurrences c (allocationOrder layout (rootWord layout b))
+  unfolding free
+  free-unreached e =
+      select-passed (λ d. eqb (occurrences d (reachable layout b)) 0) c (eq-eqb (occurrences c (reachable layout b)) 0 e) (allocationOrder layout (rootWord layout b))
+
+  -- every usable cell that nothing reaches is free
+  pub free-every : usable layout c ≡ true → occurrences c (reachable layout b) ≡ 0 → occurrences c (free layout b) ≡ 1
+  free-every u e = free-unreached e ∙ order-usable layout (rootWord layout b) c u
+
+  -- a free cell is in no tree
+  pub free-apart : 1 ≤ occurrences c (free layout b) → occurrences c (reachable layout b) ≡ 0
+  free-apart h = elim (decLe 1 (occurrences c (reachable layout b))) [
+    | yes reached ↦ absurd (omega (arith, h, free-reached reached))
+    | no other ↦ omega arith
+  ]
+
+  pub free-apart-root : 1 ≤ occurrences c (free layout b) → occurrences c (rootCells layout (memoryOf b) (rootWord layout b)) ≡ 0
+  free-apart-root h = omega (arith, free-apart h, root-reachable layout b c)
+
+  pub free-apart-slot : 1 ≤ occurrences c (free layout b) → (slot : ℕ) → validSlot layout slot ≡ true → inUse layout b slot ≡ true
+      → occurrences c (rootCells layout (memoryOf b) (slotWord layout b slot)) ≡ 0
+  free-apart-slot h slot lawful on = omega (arith, free-apart h, slot-reachable layout b slot lawful on c)
+
+  -- it is usable, and free once
+  pub free-usable : 1 ≤ occurrences c (free layout b) → usable layout c ≡ true
+  free-usable h = order-only layout (rootWord layout b) c (omega (arith, h, free-unreached (free-apart h)))
+
+  pub free-once : occurrences c (free layout b) ≤ 1
+  free-once = elim (decLe 1 (occurrences c (free layout b))) [
+    | yes h ↦ omega (arith, free-unreached (free-apart h), order-most layout (rootWord layout b) c)
+    | no h ↦ omega arith
+  ]
+
+-- where nothing is reached, all usable cells are free, in their order
+pub free-all : (layout : Layout) (b : List ℕ) → ((c : ℕ) → occurrences c (reachable layout b) ≡ 0) → free layout b ≡ allocationOrder layout (rootWord layout b)
+unfolding free
+free-all layout b unreached =
+    select-all (λ d. eqb (occurrences d (reachable layout b)) 0) (allocationOrder layout (rootWord layout b))
+    (λ c. eq-eqb (occurrences c (reachable layout b)) 0 (unreached c))

@@ -1,0 +1,196 @@
+-- The laws of the calls on snapshots: snapshot, restore and release.
+use mathlib.Core.Path.{_≡_, refl, sym, subst}
+use mathlib.Core.Logic.{_≢_}
+use mathlib.Core.Bool.{Bool, true, false, not}
+use mathlib.Core.List.{List}
+use Prim.Native.Nat.{ℕ}
+use native.Mathlib.Omega.{arith}
+use lib.Dec.{eqb}
+use borrow.Author.Tests.{not-false}
+use Rattle.cells.specs.Choice.{pick}
+use Rattle.cells.specs.Bytes.{IsBytes}
+use Rattle.cells.specs.Memory.{Memory, memoryOf}
+use Rattle.cells.proofs.Choice.{absurd-bool, absurd-false}
+use Rattle.cells.proofs.Words.{word-bound, withWord-bytes}
+use Rattle.nodes.specs.Layout.{Layout}
+use Rattle.trees.specs.Lookup.{Table, lookup}
+use Rattle.store.specs.Trailer.{badSize, trailerAt, layoutOf, rootWord, validSlot, slotWord, inUse}
+use Rattle.store.specs.Sound.{sound}
+use Rattle.store.specs.Refusal.{firstRefusal}
+use Rattle.store.specs.Read.{shown}
+use Rattle.store.specs.Snapshots.{withBit, withoutBit, slotRefusals, usedSlotRefusals, snapshotBlock, restoreBlock, releaseBlock, snapshot, restore, release}
+use Rattle.store.proofs.Refusals.{done-block, refused-block, slot-answers, used-slot-answers}
+use Rattle.store.proofs.Trailer.{sized, trailer-parts}
+use Rattle.store.proofs.TrailerWrites.{replacedAt, root-written, root-written-cells, slot-block-bytes, slot-block-cells, slot-written}
+use Rattle.store.proofs.TrailerWrites.{with-bit-fits, with-bit-uses, without-bit-fits, without-bit-uses, bits-byte}
+use Rattle.store.proofs.Roots.{sound-parts}
+use Rattle.store.proofs.After.{After, after-same, slotShown, OldRoot, present-root, slot-root, after-trailer}
+
+-- a table by slot, where the words are replaced at one
+pick-lookup : (layout : Layout) (m : Memory) (t : Bool) (w v : ℕ) (key : List ℕ)
+    → lookup layout m (pick t w v) key ≡ pick {A = Table} t (lookup layout m w) (lookup layout m v) key
+pick-lookup layout m true w v key = refl
+pick-lookup layout m false w v key = refl
+
+-- where a slot is not in use any more, the others show what they did
+pick-used : (layout : Layout) (m : Memory) (t : Bool) (old : Bool) (w v : ℕ) (key : List ℕ) → pick t false old ≡ true
+    → lookup layout m (pick t w v) key ≡ lookup layout m v key
+pick-used layout m true old w v key on = absurd-false on
+pick-used layout m false old w v key on = refl
+
+-- the words of slots in use, one replaced by an old root
+replaced-root : (b : List ℕ) (t used old : Bool) (w v : ℕ) → (used ≡ true → OldRoot b w) → (old ≡ true → OldRoot b v)
+    → pick t used old ≡ true → OldRoot b (pick t w v)
+replaced-root b true used old w v new kept on = new on
+replaced-root b false used old w v new kept on = kept on
+
+module _ (b : List ℕ) (bytes : IsBytes b) (size : badSize b ≡ false) (valid : sound b ≡ true) (slot : ℕ) (lawful : validSlot (layoutOf b) slot ≡ true) where
+  snapshotted : After b (snapshotBlock (layoutOf b) b slot) (shown b) (replacedAt (inUse (layoutOf b) b) slot true) (replacedAt (slotShown b) slot (shown b))
+  unfolding snapshotBlock rootWord
+  snapshotted =
+      let p = sound-parts (layoutOf b) b valid in
+      let s = sized b size in
+      let v : ℕ = withBit (layoutOf b) b slot in
+      let w : ℕ = rootWord (layoutOf b) b in
+      let fits = with-bit-fits (layoutOf b) b slot lawful (trailer-parts (layoutOf b) b (p .trailer) .bits) in
+      after-same b _ _ _ (replacedAt (inUse (layoutOf b) b) slot true) _ _ (λ key. refl)
+      (λ other on key. pick-lookup (layoutOf b) (memoryOf b) (eqb other slot) w (slotWord (layoutOf b) b other) key)
+      (after-trailer b p size s bytes _ (slot-block-bytes b s slot v w lawful bytes (bits-byte (layoutOf b) v fits)) w
+      (replacedAt (slotWord (layoutOf b) b) slot w) (replacedAt (inUse (layoutOf b) b) slot true)
+      (slot-written b s slot v w lawful true (p .trailer) (word-bound b _ bytes) fits (with-bit-uses (layoutOf b) b slot lawful) (λ e. absurd-bool e))
+      (slot-block-cells b s slot v w lawful)
+      (present-root b p)
+      (λ other other-lawful on. replaced-root b (eqb other slot) true (inUse (layoutOf b) b other) w (slotWord (layoutOf b) b other)
+      (λ e. present-root b p) (slot-root b p other other-lawful) on))
+
+  module _ (on : inUse (layoutOf b) b slot ≡ true) where
+    restored : After b (restoreBlock (layoutOf b) b slot) (slotShown b slot) (inUse (layoutOf b) b) (slotShown b)
+    unfolding restoreBlock
+    restored =
+        let p = sound-parts (layoutOf b) b valid in
+        let w : ℕ = slotWord (layoutOf b) b slot in
+        after-trailer b p size (sized b size) bytes _ (withWord-bytes b (trailerAt (layoutOf b)) w bytes) w (slotWord (layoutOf b) b) (inUse (layoutOf b) b)
+        (root-written b (sized b size) w (p .trailer) (word-bound b _ bytes))
+        (root-written-cells b (sized b size) w)
+        (slot-root b p slot lawful on)
+        (slot-root b p)
+
+    released : After b (releaseBlock (layoutOf b) b slot) (shown b) (replacedAt (inUse (layoutOf b) b) slot false) (slotShown b)
+    unfolding releaseBlock
+    released =
+        let p = sound-parts (layoutOf b) b valid in
+        let s = sized b size in
+        let v : ℕ = withoutBit (layoutOf b) b slot in
+        let fits = without-bit-fits (layoutOf b) b slot lawful on (trailer-parts (layoutOf b) b (p .trailer) .bits) in
+        after-same b _ _ _ (replacedAt (inUse (layoutOf b) b) slot false) _ _ (λ key. refl)
+        (λ other other-on key. pick-used (layoutOf b) (memoryOf b) (eqb other slot) (inUse (layoutOf b) b other) 0 (slotWord (layoutOf b) b other) key other-on)
+        (after-trailer b p size s bytes _ (slot-block-bytes b s slot v 0 lawful bytes (bits-byte (layoutOf b) v fits)) (rootWord (layoutOf b) b)
+        (replacedAt (slotWord (layoutOf b) b) slot 0) (replacedAt (inUse (layoutOf b) b) slot false)
+        (slot-written b s slot v 0 lawful false (p .trailer) (omega arith) fits (without-bit-uses (layoutOf b) b slot lawful on) (λ e. refl))
+        (slot-block-cells b s slot v 0 lawful)
+        (present-root b p)
+        (λ other other-lawful other-on. replaced-root b (eqb other slot) false (inUse (layoutOf b) b other) 0 (slotWord (layoutOf b) b other)
+        (λ e. absurd-false e) (slot-root b p other other-lawful) other-on))
+
+-- what holds where a call on a slot is done
+pub record SlotAccepted (b : List ℕ) (slot : ℕ) : Type 0 where
+  pub size : badSize b ≡ false
+  pub valid : sound b ≡ true
+  pub lawful : validSlot (layoutOf b) slot ≡ true
+
+pub record UsedSlotAccepted (b : List ℕ) (slot : ℕ) : Type 0 where
+  pub size : badSize b ≡ false
+  pub valid : sound b ≡ true
+  pub lawful : validSlot (layoutOf b) slot ≡ true
+  pub on : inUse (layoutOf b) b slot ≡ true
+
+module _ (b : List ℕ) (slot : ℕ) where
+  slot-accepted : firstRefusal (slotRefusals b slot) ≡ 0 → SlotAccepted b slot
+  slot-accepted e =
+      let c = slot-answers b slot .1 .1 .1 .only e in
+      record { size = c .0; valid = not-false _ (c .1 .0); lawful = not-false _ (c .1 .1 .0) }
+
+  used-slot-accepted : firstRefusal (usedSlotRefusals b slot) ≡ 0 → UsedSlotAccepted b slot
+  used-slot-accepted e =
+      let c = used-slot-answers b slot .1 .1 .1 .1 .only e in
+      record { size = c .0; valid = not-false _ (c .1 .0); lawful = not-false _ (c .1 .1 .0); on = not-false _ (c .1 .1 .1 .0) }
+
+  -- snapshot
+  pub snapshot-accepted : snapshot b slot .answer ≡ 0 → SlotAccepted b slot
+  unfolding snapshot
+  snapshot-accepted e = slot-accepted e
+
+  pub snapshot-law : IsBytes b → snapshot b slot .answer ≡ 0
+      → After b (snapshot b slot .block) (shown b) (replacedAt (inUse (layoutOf b) b) slot true) (replacedAt (slotShown b) slot (shown b))
+  unfolding snapshot
+  snapshot-law bytes e =
+      let a = slot-accepted e in
+      subst (λ (b′ : List ℕ). After b b′ (shown b) (replacedAt (inUse (layoutOf b) b) slot true) (replacedAt (slotShown b) slot (shown b)))
+      (sym (done-block (slotRefusals b slot) b (snapshotBlock (layoutOf b) b slot) e))
+      (snapshotted b bytes (a .size) (a .valid) slot (a .lawful))
+
+  pub snapshot-refused : snapshot b slot .answer ≢ 0 → snapshot b slot .block ≡ b
+  unfolding snapshot
+  snapshot-refused n = refused-block (slotRefusals b slot) b (snapshotBlock (layoutOf b) b slot) n
+
+  -- restore
+  pub restore-accepted : restore b slot .answer ≡ 0 → UsedSlotAccepted b slot
+  unfolding restore
+  restore-accepted e = used-slot-accepted e
+
+  pub restore-law : IsBytes b → restore b slot .answer ≡ 0 → After b (restore b slot .block) (slotShown b slot) (inUse (layoutOf b) b) (slotShown b)
+  unfolding restore
+  restore-law bytes e =
+      let a = used-slot-accepted e in
+      subst (λ (b′ : List ℕ). After b b′ (slotShown b slot) (inUse (layoutOf b) b) (slotShown b))
+      (sym (done-block (usedSlotRefusals b slot) b (restoreBlock (layoutOf b) b slot) e))
+      (restored b bytes (a .size) (a .valid) slot (a .lawful) (a .on))
+
+  pub restore-refused : restore b slot .answer ≢ 0 → restore b slot .block ≡ b
+  unfolding restore
+  restore-refused n = refused-block (usedSlotRefusals b slot) b (restoreBlock (layoutOf b) b slot) n
+
+  -- release
+  pub release-accepted : release b slot .answer ≡ 0 → UsedSlotAccepted b slot
+  unfolding release
+  release-accepted e = used-slot-accepted e
+
+  pub release-law : IsBytes b → release b slot .answer ≡ 0
+      → After b (release b slot .block) (shown b) (replacedAt (inUse (layoutOf b) b) slot false) (slotShown b)
+  unfolding release
+  release-law bytes e =
+      let a = used-slot-accepted e in
+      subst (λ (b′ : List ℕ). After b b′ (shown b) (replacedAt (inUse (layoutOf b) b) slot false) (slotShown b))
+      (sym (done-block (usedSlotRefusals b slot) b (releaseBlock (layoutOf b) b slot) e))
+      (released b bytes (a .size) (a .valid) slot (a .lawful) (a .on))
+
+  pub release-refused : release b slot .answer ≢ 0 → release b slot .block ≡ b
+  unfolding release
+  release-refused n = refused-block (usedSlotRefusals b slot) b (releaseBlock (layoutOf b) b slot) n
+
+  -- their answers on a sound block
+  module _ (size : badSize b ≡ false) (valid : sound b ≡ true) where
+    pub snapshot-answer : snapshot b slot .answer ≡ pick (validSlot (layoutOf b) slot) 0 5
+    unfolding snapshot firstRefusal
+    snapshot-answer = rw (size, valid) (go (validSlot (layoutOf b) slot))
+      where
+        go : (t : Bool) → pick {A = ℕ} (not t) 5 0 ≡ pick t 0 5
+        go true = refl
+        go false = refl
+
+    used-answer : firstRefusal (usedSlotRefusals b slot) ≡ pick (validSlot (layoutOf b) slot) (pick (inUse (layoutOf b) b slot) 0 6) 5
+    unfolding firstRefusal
+    used-answer = rw (size, valid) (go (validSlot (layoutOf b) slot) (inUse (layoutOf b) b slot))
+      where
+        go : (t u : Bool) → pick {A = ℕ} (not t) 5 (pick (not u) 6 0) ≡ pick t (pick u 0 6) 5
+        go true true = refl
+        go true false = refl
+        go false u = refl
+
+    pub restore-answer : restore b slot .answer ≡ pick (validSlot (layoutOf b) slot) (pick (inUse (layoutOf b) b slot) 0 6) 5
+    unfolding restore
+    restore-answer = used-answer
+
+    pub release-answer : release b slot .answer ≡ pick (validSlot (layoutOf b) slot) (pick (inUse (layoutOf b) b slot) 0 6) 5
+    unfolding release
+    release-answer = used-answer

@@ -1,0 +1,213 @@
+//! Every call of the specification on a block, its answers tried in rising order of their numbers.
+
+use crate::coverage::Coverage;
+use crate::desk::{self, Question};
+use crate::encode::{entered, fresh_cells, Cases, Layer};
+use crate::model::{put_word, word_at, Book, CELL, LONGEST_KEY};
+use std::ops::Bound;
+
+/// A call with its arguments.
+#[derive(Clone, Debug)]
+pub enum Call {
+    Format,
+    Validate,
+    Insert { key: Vec<u8>, value: u32 },
+    Get { key: Vec<u8> },
+    NextKey { key: Vec<u8> },
+    Snapshot { slot: u32 },
+    Restore { slot: u32 },
+    Release { slot: u32 },
+    Verdict(Question),
+}
+
+/// An answer number with every value that goes beside it; the dose by its bits.
+#[derive(Clone, Copy, Debug, PartialEq, Eq)]
+pub struct Outcome {
+    pub answer: u8,
+    pub number: u32,
+    pub key: [u8; LONGEST_KEY],
+    pub dose: u32,
+}
+
+impl Outcome {
+    /// An answer with zeros beside it, which is how every refusal comes.
+    pub fn bare(answer: u8) -> Outcome {
+        Outcome { answer, number: 0, key: [0; LONGEST_KEY], dose: 0 }
+    }
+
+    /// Done, with a count, value or size.
+    pub fn done(number: u32) -> Outcome {
+        Outcome { number, ..Outcome::bare(0) }
+    }
+}
+
+impl Call {
+    /// The call's place in the list of calls.
+    pub fn number(&self) -> usize {
+        match self {
+            Call::Format => 0,
+            Call::Validate => 1,
+            Call::Insert { .. } => 2,
+            Call::Get { .. } => 3,
+            Call::NextKey { .. } => 4,
+            Call::Snapshot { .. } => 5,
+            Call::Restore { .. } => 6,
+            Call::Release { .. } => 7,
+            Call::Verdict(_) => 8,
+        }
+    }
+}
+
+/// Makes a call on a block and counts what it met.
+pub fn perform(block: &mut [u8], call: &Call, coverage: &mut Coverage) -> Outcome {
+    let outcome = answer(block, call, coverage);
+    coverage.call(call.number(), outcome.answer, block.len());
+    outcome
+}
+
+/// The answers that every call shares, and then the call's own.
+fn answer(block: &mut [u8], call: &Call, coverage: &mut Coverage) -> Outcome {
+    if !lawful_length(block.len()) {
+        return Outcome::bare(1);
+    }
+    if let Call::Format = call {
+        return format(block);
+    }
+    let book = match Book::decode(block) {
+        Ok(book) => book,
+        Err(flaw) => {
+            coverage.flaw(flaw);
+            return Outcome::bare(2);
+        }
+    };
+    coverage.meet(&book.met);
+    match call {
+        Call::Format | Call::Validate => Outcome::bare(0),
+        Call::Insert { key, value } => insert(block, book, key, *value, coverage),
+        Call::Get { key } => get(&book, key),
+        Call::NextKey { key } => next_key(&book, key),
+        Call::Snapshot { slot } => snapshot(block, *slot),
+        Call::Restore { slot } => restore(block, *slot),
+        Call::Release { slot } => release(block, *slot),
+        Call::Verdict(question) => desk::verdict(&book, question),
+    }
+}
+
+/// Whether a block of this length holds from 4 to 2,048 whole cells.
+pub fn lawful_length(length: usize) -> bool {
+    length % CELL == 0 && (4..=2048).contains(&(length / CELL))
+}
+
+/// Whether a key that must name something has a lawful length.
+pub fn lawful_key(key: &[u8]) -> bool {
+    (1..=LONGEST_KEY).contains(&key.len())
+}
+
+/// Makes a block fresh: all zero but for the number of cells and the edition.
+fn format(block: &mut [u8]) -> Outcome {
+    let trailer = block.len() - CELL;
+    block.fill(0);
+    put_word(block, trailer + 0x14, (trailer / CELL + 1) as u32);
+    put_word(block, trailer + 0x1C, 1);
+    Outcome::bare(0)
+}
+
+/// Puts one pair into the root's table; the number is the count of cells taken.
+fn insert(block: &mut [u8], book: Book, key: &[u8], value: u32, coverage: &mut Coverage) -> Outcome {
+    if !lawful_key(key) {
+        return Outcome::bare(3);
+    }
+    if value > 0x7FFF_FFFF {
+        return Outcome::bare(4);
+    }
+    let free = book.free_cells();
+    let mut cases = Cases::new();
+    let tree = entered(book.root.top, key, value, &mut cases);
+    let count = fresh_cells(&tree);
+    coverage.room(count, free.len());
+    if count > free.len() {
+        return Outcome::bare(7);
+    }
+    coverage.built(&cases);
+    let trailer = block.len() - CELL;
+    let mut layer = Layer { block, free: free.into_iter() };
+    let root = layer.lay(&tree);
+    put_word(block, trailer, root);
+    Outcome::done(count as u32)
+}
+
+/// The value of a key that the root shows.
+fn get(book: &Book, key: &[u8]) -> Outcome {
+    if !lawful_key(key) {
+        return Outcome::bare(3);
+    }
+    match book.root.table().get(key) {
+        Some(value) => Outcome::done(*value),
+        None => Outcome::bare(11),
+    }
+}
+
+/// The least key shown that is greater than the given one; the number is its size.
+fn next_key(book: &Book, key: &[u8]) -> Outcome {
+    if key.len() > LONGEST_KEY {
+        return Outcome::bare(3);
+    }
+    let table = book.root.table();
+    let mut greater = table.range::<[u8], _>((Bound::Excluded(key), Bound::Unbounded));
+    let Some((next, _)) = greater.next() else {
+        return Outcome::bare(11);
+    };
+    let mut outcome = Outcome::done(next.len() as u32);
+    outcome.key[..next.len()].copy_from_slice(next);
+    outcome
+}
+
+/// Whether a slot's held bit is set.
+fn is_held(block: &[u8], slot: u32) -> bool {
+    block[block.len() - CELL + 0x10] >> (slot - 1) & 1 == 1
+}
+
+/// Where a slot's word stands in the block.
+fn slot_offset(block: &[u8], slot: u32) -> usize {
+    block.len() - CELL + 4 * slot as usize
+}
+
+/// Holds the present root in a slot, in place of any older one.
+fn snapshot(block: &mut [u8], slot: u32) -> Outcome {
+    if !(1..=3).contains(&slot) {
+        return Outcome::bare(5);
+    }
+    let trailer = block.len() - CELL;
+    let root = word_at(block, trailer);
+    put_word(block, slot_offset(block, slot), root);
+    block[trailer + 0x10] |= 1 << (slot - 1);
+    Outcome::bare(0)
+}
+
+/// Makes a held slot's word the root; the slot stays held.
+fn restore(block: &mut [u8], slot: u32) -> Outcome {
+    if !(1..=3).contains(&slot) {
+        return Outcome::bare(5);
+    }
+    if !is_held(block, slot) {
+        return Outcome::bare(6);
+    }
+    let root = word_at(block, slot_offset(block, slot));
+    let trailer = block.len() - CELL;
+    put_word(block, trailer, root);
+    Outcome::bare(0)
+}
+
+/// Clears a held slot, word and bit.
+fn release(block: &mut [u8], slot: u32) -> Outcome {
+    if !(1..=3).contains(&slot) {
+        return Outcome::bare(5);
+    }
+    if !is_held(block, slot) {
+        return Outcome::bare(6);
+    }
+    put_word(block, slot_offset(block, slot), 0);
+    let trailer = block.len() - CELL;
+    block[trailer + 0x10] &= !(1 << (slot - 1));
+    Outcome::bare(0)
+}

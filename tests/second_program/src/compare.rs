@@ -1,0 +1,91 @@
+//! One call on both programs: answer, values and every byte of the block are compared.
+
+use crate::calls::{perform, Call, Outcome};
+use crate::coverage::Coverage;
+use crate::ledger::Ledger;
+use crate::model::{Book, CELL};
+
+/// The other program's way to make a call.
+pub type Other = fn(&mut [u8], &Call) -> Outcome;
+
+/// The most differences that are printed in full.
+const PRINTED: u64 = 5;
+
+/// The counts of a run, its differences, and the other program where there is one.
+pub struct Comparison {
+    pub coverage: Coverage,
+    pub differences: u64,
+    pub seed: u64,
+    other: Option<Other>,
+}
+
+impl Comparison {
+    /// Nothing compared yet.
+    pub fn new(other: Option<Other>) -> Comparison {
+        Comparison { coverage: Coverage::new(), differences: 0, seed: 0, other }
+    }
+
+    /// Makes a call on the block, compares, and leaves the model's bytes in the block.
+    pub fn step(&mut self, block: &mut Vec<u8>, call: &Call) -> Outcome {
+        let before = block.clone();
+        let own = perform(block, call, &mut self.coverage);
+        if let Some(other) = self.other {
+            let mut their_block = before.clone();
+            let their = other(&mut their_block, call);
+            if own != their || *block != their_block {
+                self.note(call, &before, &format!("the model answers {own:?}\nthe library answers {their:?}"));
+                self.print_cells(block, &their_block);
+            }
+        }
+        #[cfg(alone)]
+        if let Err(fault) = crate::invariants::check(&before, block, call, &own) {
+            self.note(call, &before, &fault);
+        }
+        own
+    }
+
+    /// Makes a call of a history and holds its answer and the block against the ledger.
+    pub fn step_with_ledger(&mut self, block: &mut Vec<u8>, call: &Call, ledger: &mut Ledger) -> Outcome {
+        let before = block.clone();
+        let outcome = self.step(block, call);
+        let Some(expected) = ledger.feed(call, outcome.answer == 7) else {
+            return outcome;
+        };
+        if expected != outcome.answer {
+            self.note(call, &before, &format!("the ledger says {expected}, the model {}", outcome.answer));
+        }
+        let shown = Book::decode(block).is_ok_and(|book| ledger.shown_by(&book));
+        if !shown {
+            self.note(call, &before, "the block does not show the ledger's tables");
+        }
+        outcome
+    }
+
+    /// Counts a difference, and prints the first few with the call and the block as it was before.
+    pub fn note(&mut self, call: &Call, before: &[u8], what: &str) {
+        self.differences += 1;
+        if self.differences <= PRINTED {
+            println!("DIFFERENCE in the scene of seed {}", self.seed);
+            println!("call: {call:?}");
+            println!("block of {} bytes before it: {}", before.len(), hexadecimal(before));
+            println!("{what}");
+        }
+    }
+
+    /// Prints the cells in which two blocks differ.
+    fn print_cells(&self, own: &[u8], their: &[u8]) {
+        if self.differences > PRINTED {
+            return;
+        }
+        let cells = own.chunks(CELL).zip(their.chunks(CELL)).enumerate();
+        for (cell, (own, their)) in cells.filter(|(_, (own, their))| own != their) {
+            println!("cell {cell} of the model:   {}", hexadecimal(own));
+            println!("cell {cell} of the library: {}", hexadecimal(their));
+        }
+    }
+}
+
+/// Bytes as hexadecimal digits.
+fn hexadecimal(bytes: &[u8]) -> String {
+    bytes.iter().map(|byte| format!("{byte:02X}")).collect()
+}

@@ -1,0 +1,223 @@
+//! What must hold of every call of the model, told from the block's bytes before and after it.
+
+use crate::calls::{perform, Call, Outcome};
+use crate::coverage::Coverage;
+use crate::encode::Layer;
+use crate::ledger::Ledger;
+use crate::model::{put_word, word_at, Book, Node, Place, CELL};
+
+/// The first promise that a call broke, in words.
+type Verdict = Result<(), String>;
+
+/// Demands one promise.
+fn demand(kept: bool, promise: &str) -> Verdict {
+    match kept {
+        true => Ok(()),
+        false => Err(format!("broken: {promise}")),
+    }
+}
+
+/// Judges a call by the block before and after it and its outcome.
+pub fn check(before: &[u8], after: &[u8], call: &Call, outcome: &Outcome) -> Verdict {
+    if let (Call::Get { key }, 0 | 11) = (call, outcome.answer) {
+        let value = look_up(before, key);
+        demand(value.is_none() == (outcome.answer == 11), "a look-up finds what the bytes show")?;
+        demand(value.unwrap_or(0) == outcome.number, "a look-up gives the value that the bytes show")?;
+    }
+    if let (Call::NextKey { key }, 0 | 11) = (call, outcome.answer) {
+        check_next(before, key, outcome)?;
+    }
+    if outcome.answer != 0 {
+        demand(before == after, "a refusal leaves the block")?;
+        demand(*outcome == Outcome::bare(outcome.answer), "a refusal gives zeros")?;
+        return check_no_room(before, call, outcome);
+    }
+    let book = Book::decode(after).map_err(|flaw| format!("broken: the block is sound after the call ({flaw:?})"))?;
+    match call {
+        Call::Format => demand(is_fresh(after), "a fresh block is zero but for its size and edition"),
+        Call::Validate | Call::Get { .. } | Call::NextKey { .. } | Call::Verdict(_) => {
+            demand(before == after, "a reading call leaves the block")
+        }
+        _ => {
+            let old = Book::decode(before).expect("an accepted call had a sound block");
+            let mut ledger = Ledger::of(&old);
+            demand(ledger.feed(call, false) == Some(0), "the ledger accepts too")?;
+            demand(ledger.shown_by(&book), "the tables are those of the ledger")?;
+            check_bytes(before, after, call, &old, &book, outcome)
+        }
+    }
+}
+
+/// Whether a block is that of a fresh book.
+fn is_fresh(block: &[u8]) -> bool {
+    let trailer = block.len() - CELL;
+    let numbers = [trailer + 0x16, trailer + 0x17, trailer + 0x1F];
+    let zero = (0..block.len()).all(|offset| numbers.contains(&offset) || block[offset] == 0);
+    zero && word_at(block, trailer + 0x14) as usize == block.len() / CELL && word_at(block, trailer + 0x1C) == 1
+}
+
+/// The next key is shown, is greater, and no shown key lies between.
+fn check_next(block: &[u8], key: &[u8], outcome: &Outcome) -> Verdict {
+    let shown: Vec<Vec<u8>> = Book::decode(block).expect("sound").root.table().into_keys().collect();
+    let greater = shown.iter().filter(|candidate| candidate.as_slice() > key).min();
+    let size = outcome.number as usize;
+    let expected = greater.map(|next| next.as_slice());
+    demand(expected == (outcome.answer == 0).then_some(&outcome.key[..size]), "the next key is the least greater one")?;
+    demand(outcome.key[size..].iter().all(|byte| *byte == 0), "the key is zero past its size")
+}
+
+/// Which bytes a mutating call may write.
+fn check_bytes(before: &[u8], after: &[u8], call: &Call, old: &Book, new: &Book, outcome: &Outcome) -> Verdict {
+    let trailer = before.len() - CELL;
+    let Call::Insert { key, value } = call else {
+        return demand(before[..trailer] == after[..trailer], "a mark's call writes the trailer alone");
+    };
+    let count = outcome.number as usize;
+    let free = old.free_cells();
+    demand((1..=4 * key.len() + 10).contains(&count), "the count keeps its bound")?;
+    let taken: Vec<usize> = free.iter().copied().filter(|cell| new.root.entered[*cell].is_some()).collect();
+    demand(taken.len() == count, "the count is that of the newly reached cells")?;
+    demand(taken == free[..count], "the lowest free cells are taken")?;
+    let mut rebuilt = before.to_vec();
+    put_word(&mut rebuilt, trailer, word_at(after, trailer));
+    for cell in &taken {
+        rebuilt[cell * CELL..][..CELL].fill(0);
+    }
+    let top = Book::decode(after).expect("sound").root.top.expect("an insertion leaves a root");
+    let top = as_new(top, &taken);
+    let root = Layer { block: &mut rebuilt, free: taken.clone().into_iter() }.lay(&top);
+    demand(root == word_at(after, trailer), "the decoded tree encodes to the same root")?;
+    demand(rebuilt == after, "the decoded tree encodes to the same bytes, and no other byte moved")?;
+    let path = path_cells(after, key);
+    let new_path: Vec<usize> = path.into_iter().filter(|cell| taken.contains(cell)).collect();
+    demand(new_path.windows(2).all(|pair| pair[0] > pair[1]), "the deepest node takes its cell first")?;
+    check_enlarged(before, key, *value, count as u32)
+}
+
+/// The same insertion with plenty of room takes the same number of cells, whatever the value.
+fn check_enlarged(before: &[u8], key: &[u8], value: u32, count: u32) -> Verdict {
+    let Some(mut enlarged) = enlarge(before) else {
+        return Ok(());
+    };
+    let call = Call::Insert { key: key.to_vec(), value: value ^ 1 };
+    let outcome = perform(&mut enlarged, &call, &mut Coverage::new());
+    demand(outcome == Outcome::done(count), "the count depends on the tree and key alone")
+}
+
+/// Answer 7 comes exactly when the same insertion in a larger block takes more cells than were free.
+fn check_no_room(before: &[u8], call: &Call, outcome: &Outcome) -> Verdict {
+    let larger = if outcome.answer == 7 { enlarge(before) } else { None };
+    let Some(mut enlarged) = larger else {
+        return Ok(());
+    };
+    let free = Book::decode(before).expect("sound").free_cells().len();
+    let outcome = perform(&mut enlarged, call, &mut Coverage::new());
+    demand(outcome.answer == 0, "a larger block has room")?;
+    demand(outcome.number as usize > free, "more cells are taken than were free")
+}
+
+/// The same block with 210 more cells before its trailer, more than any insertion takes.
+fn enlarge(block: &[u8]) -> Option<Vec<u8>> {
+    let trailer = block.len() - CELL;
+    let cells = block.len() / CELL + 210;
+    if cells > 2048 {
+        return None;
+    }
+    let mut enlarged = block[..trailer].to_vec();
+    enlarged.resize((cells - 1) * CELL, 0xEE);
+    enlarged.extend_from_slice(&block[trailer..]);
+    put_word(&mut enlarged, (cells - 1) * CELL + 0x14, cells as u32);
+    Some(enlarged)
+}
+
+/// A decoded tree with the nodes of some cells set as still to be written.
+fn as_new(node: Node, taken: &[usize]) -> Node {
+    let place_of = |place: Place| match place {
+        Place::Held(cell) if taken.contains(&cell) => Place::Fresh,
+        other => other,
+    };
+    match node {
+        Node::Leaf(value) => Node::Leaf(value),
+        Node::Chain { place, run, child } => {
+            Node::Chain { place: place_of(place), run, child: Box::new(as_new(*child, taken)) }
+        }
+        Node::Prefix { place, value, linked } => {
+            Node::Prefix { place: place_of(place), value, linked: Box::new(as_new(*linked, taken)) }
+        }
+        Node::Sparse { place, children } => {
+            let children = children.into_iter().map(|(character, child)| (character, as_new(child, taken))).collect();
+            Node::Sparse { place: place_of(place), children }
+        }
+        Node::Split { place, mut mids } => {
+            for mid in mids.values_mut() {
+                mid.place = place_of(mid.place);
+                for end in mid.ends.values_mut() {
+                    end.place = place_of(end.place);
+                    let children = std::mem::take(&mut end.children);
+                    end.children = children.into_iter().map(|(last, child)| (last, as_new(child, taken))).collect();
+                }
+            }
+            Node::Split { place: place_of(place), mids }
+        }
+    }
+}
+
+/// The child word of a pointer by one character, read from the bytes; the cells on the way are noted.
+fn child_word(block: &[u8], word: u32, character: u8, cells: &mut Vec<usize>) -> u32 {
+    let at = |word: u32, offset: usize| word_at(block, (word / 32) as usize * CELL + offset);
+    cells.push((word / 32) as usize);
+    match word % 32 {
+        0x1C => {
+            let bits = character as usize;
+            let mid = at(word, 0x10 + bits / 64 * 4);
+            let end = if mid == 0 { 0 } else { at(mid, bits / 8 % 8 * 4) };
+            cells.extend([mid, end].iter().filter(|part| **part != 0).map(|part| (part / 32) as usize));
+            if end == 0 { 0 } else { at(end, bits % 8 * 4) }
+        }
+        0x1E => {
+            let characters = &block[(word / 32) as usize * CELL + 0x18..][..6];
+            let fits = |place: &usize| characters[*place] == character && at(word, 4 * place) != 0;
+            (0..6).find(fits).map_or(0, |place| at(word, 4 * place))
+        }
+        _ if block[word as usize] != character => 0,
+        0x1B => at(word, 0x1C),
+        _ => word + 1,
+    }
+}
+
+/// The node at the end of a key, with the cells on the way; NONE where the key is not to be followed.
+fn follow(block: &[u8], key: &[u8]) -> (u32, Vec<usize>) {
+    let mut word = word_at(block, block.len() - CELL);
+    let mut cells = Vec::new();
+    for character in key {
+        if word == 0 || word >> 31 == 1 {
+            return (0, cells);
+        }
+        if word % 32 == 0x1F {
+            cells.push((word / 32) as usize);
+            word = word_at(block, (word / 32) as usize * CELL + 0x1C);
+        }
+        word = child_word(block, word, *character, &mut cells);
+    }
+    (word, cells)
+}
+
+/// The value of a key by following the bytes alone.
+fn look_up(block: &[u8], key: &[u8]) -> Option<u32> {
+    match follow(block, key).0 {
+        0 => None,
+        word if word >> 31 == 1 => Some(!word),
+        word if word % 32 == 0x1F => Some(word_at(block, (word / 32) as usize * CELL)),
+        _ => None,
+    }
+}
+
+/// The cells on the path of a key that is shown, each once for a run, its own prefix cell last.
+fn path_cells(block: &[u8], key: &[u8]) -> Vec<usize> {
+    let (word, mut cells) = follow(block, key);
+    if word % 32 == 0x1F && word >> 31 == 0 {
+        cells.push((word / 32) as usize);
+    }
+    cells.dedup();
+    cells
+}

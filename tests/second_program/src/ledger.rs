@@ -1,0 +1,94 @@
+//! The ledger beside a history: it never looks into the block, and says what each call must answer.
+
+use crate::calls::{lawful_key, Call};
+use crate::model::{Book, Table};
+
+/// The present table, and for each slot a table or nothing.
+#[derive(Default)]
+pub struct Ledger {
+    present: Table,
+    slots: [Option<Table>; 3],
+}
+
+impl Ledger {
+    /// Feeds a call and whether it got 7; gives the answer that it must have had, or nothing for a call that only reads.
+    pub fn feed(&mut self, call: &Call, no_room: bool) -> Option<u8> {
+        match call {
+            Call::Format => {
+                *self = Ledger::default();
+                Some(0)
+            }
+            Call::Insert { key, value } => Some(self.insert(key, *value, no_room)),
+            Call::Snapshot { slot } => Some(self.snapshot(*slot)),
+            Call::Restore { slot } => Some(self.restore(*slot)),
+            Call::Release { slot } => Some(self.release(*slot)),
+            Call::Validate | Call::Get { .. } | Call::NextKey { .. } | Call::Verdict(_) => None,
+        }
+    }
+
+    /// The ledger of a sound block that no history made: what its root and marks show.
+    #[cfg(alone)]
+    pub fn of(book: &Book) -> Ledger {
+        let slots = [0, 1, 2].map(|place: usize| book.marks[place].as_ref().map(|tree| tree.table()));
+        Ledger { present: book.root.table(), slots }
+    }
+
+    /// Whether a block shows the present table, and its marks exactly the tables of the slots.
+    pub fn shown_by(&self, book: &Book) -> bool {
+        let mut slots = self.slots.iter().zip(&book.marks);
+        let same = slots.all(|(slot, mark)| *slot == mark.as_ref().map(|tree| tree.table()));
+        same && book.root.table() == self.present
+    }
+
+    /// Entering: 3 or 4 by the arguments, 7 if that was fed, else the key has this value.
+    fn insert(&mut self, key: &[u8], value: u32, no_room: bool) -> u8 {
+        if !lawful_key(key) {
+            return 3;
+        }
+        if value > i32::MAX as u32 {
+            return 4;
+        }
+        if no_room {
+            return 7;
+        }
+        self.present.insert(key.to_vec(), value);
+        0
+    }
+
+    /// A lawful slot's place in the list.
+    fn place(slot: u32) -> Option<usize> {
+        [1, 2, 3].iter().position(|lawful| *lawful == slot)
+    }
+
+    /// Marking: the slot holds the present table.
+    fn snapshot(&mut self, slot: u32) -> u8 {
+        let Some(place) = Ledger::place(slot) else {
+            return 5;
+        };
+        self.slots[place] = Some(self.present.clone());
+        0
+    }
+
+    /// Going back: the present table is the slot's, which the slot keeps.
+    fn restore(&mut self, slot: u32) -> u8 {
+        let Some(place) = Ledger::place(slot) else {
+            return 5;
+        };
+        let Some(table) = &self.slots[place] else {
+            return 6;
+        };
+        self.present = table.clone();
+        0
+    }
+
+    /// Dropping: the slot has nothing.
+    fn release(&mut self, slot: u32) -> u8 {
+        let Some(place) = Ledger::place(slot) else {
+            return 5;
+        };
+        match self.slots[place].take() {
+            Some(_) => 0,
+            None => 6,
+        }
+    }
+}

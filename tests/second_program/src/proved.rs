@@ -1,0 +1,115 @@
+//! The proved library behind its C functions; all use of them stands in this file.
+
+use crate::calls::{Call, Outcome};
+use crate::desk::Question;
+
+extern "C" {
+    fn exports_format(block: *mut u8, block_len: usize) -> u8;
+    fn exports_validate(block: *const u8, block_len: usize) -> u8;
+    fn exports_insert(block: *mut u8, block_len: usize, key: *const u8, key_len: usize, value: u32, count: *mut u32) -> u8;
+    fn exports_get(block: *const u8, block_len: usize, key: *const u8, key_len: usize, value: *mut u32) -> u8;
+    fn exports_next_key(
+        block: *const u8,
+        block_len: usize,
+        key: *const u8,
+        key_len: usize,
+        size: *mut u32,
+        key_out: *mut u8,
+    ) -> u8;
+    fn exports_snapshot(block: *mut u8, block_len: usize, slot: u32) -> u8;
+    fn exports_restore(block: *mut u8, block_len: usize, slot: u32) -> u8;
+    fn exports_release(block: *mut u8, block_len: usize, slot: u32) -> u8;
+    fn exports_verdict(
+        block: *const u8,
+        block_len: usize,
+        label: *const u8,
+        label_len: usize,
+        year: u32,
+        month: u32,
+        day: u32,
+        unit: u32,
+        degrees: f32,
+        kind: u32,
+        low: f32,
+        high: f32,
+        section: f32,
+        length: f32,
+        dose: *mut f32,
+    ) -> u8;
+}
+
+/// Bytes set before and after the block; an odd number, so that the block stands at an odd address.
+const MARGIN: usize = 37;
+
+/// What stands in the margins and in values that are still to be given.
+const FILLER: u8 = 0xA5;
+
+/// Makes a call on the library, on a copy of the block whose margins must stay as they are.
+pub fn perform(block: &mut [u8], call: &Call) -> Outcome {
+    let mut lent = vec![FILLER; block.len() + 2 * MARGIN];
+    lent[MARGIN..][..block.len()].copy_from_slice(block);
+    let outcome = perform_lent(&mut lent[MARGIN..][..block.len()], call);
+    let outside = lent[..MARGIN].iter().chain(&lent[MARGIN + block.len()..]);
+    assert!(outside.into_iter().all(|byte| *byte == FILLER), "the library wrote outside the block in {call:?}");
+    block.copy_from_slice(&lent[MARGIN..][..block.len()]);
+    outcome
+}
+
+/// Makes a call on the library; each value starts with a filler, so that a refusal must set it to zero.
+fn perform_lent(block: &mut [u8], call: &Call) -> Outcome {
+    let (start, size) = (block.as_mut_ptr(), block.len());
+    let filler = u32::from_be_bytes([FILLER; 4]);
+    let mut outcome = Outcome { number: filler, ..Outcome::bare(0) };
+    let number = &mut outcome.number;
+    // Each pointer comes with the length of its own slice, and no slice overlaps another.
+    outcome.answer = unsafe {
+        match call {
+            Call::Insert { key, value } => exports_insert(start, size, key.as_ptr(), key.len(), *value, number),
+            Call::Get { key } => exports_get(start, size, key.as_ptr(), key.len(), number),
+            Call::NextKey { key } => {
+                outcome.key = [FILLER; 48];
+                exports_next_key(start, size, key.as_ptr(), key.len(), number, outcome.key.as_mut_ptr())
+            }
+            Call::Format => without_value(number, exports_format(start, size)),
+            Call::Validate => without_value(number, exports_validate(start, size)),
+            Call::Snapshot { slot } => without_value(number, exports_snapshot(start, size, *slot)),
+            Call::Restore { slot } => without_value(number, exports_restore(start, size, *slot)),
+            Call::Release { slot } => without_value(number, exports_release(start, size, *slot)),
+            Call::Verdict(question) => {
+                let (answer, dose) = verdict(start, size, question);
+                outcome.dose = dose.to_bits();
+                without_value(number, answer)
+            }
+        }
+    };
+    outcome
+}
+
+/// The answer of a call that gives no number beside it.
+fn without_value(number: &mut u32, answer: u8) -> u8 {
+    *number = 0;
+    answer
+}
+
+/// The library's verdict and dose.
+unsafe fn verdict(start: *const u8, size: usize, question: &Question) -> (u8, f32) {
+    let mut dose = f32::from_be_bytes([FILLER; 4]);
+    let answer = exports_verdict(
+        start,
+        size,
+        question.label.as_ptr(),
+        question.label.len(),
+        question.year,
+        question.month,
+        question.day,
+        question.unit,
+        question.degrees,
+        question.kind,
+        question.low,
+        question.high,
+        question.section,
+        question.length,
+        &mut dose,
+    );
+    (answer, dose)
+}

@@ -1,0 +1,144 @@
+//! Which blocks are met, in which order, and how many calls each gets.
+
+use crate::calls::Call;
+use crate::compare::Comparison;
+use crate::foreign::{foreign_block, junk, order_word_block};
+use crate::generate::{Scene, Weights, FOREIGN, HISTORY, HOSTILE, UNLAWFUL};
+use crate::hostile::{crafted_block, damage, noise_block, unlawful_block};
+use crate::ledger::Ledger;
+use crate::model::{Book, LONGEST_KEY};
+use crate::random::Random;
+
+/// Every order word there is, then scenes of random calls until the target is reached; each scene has its own seed.
+pub fn run(comparison: &mut Comparison, target: u64) {
+    for order in 0..=u16::MAX {
+        try_order_word(comparison, order);
+    }
+    comparison.seed = 0;
+    while comparison.coverage.calls < target {
+        comparison.seed += 1;
+        let mut random = Random::seeded(comparison.seed);
+        let cells = draw_cells(comparison, &mut random);
+        match random.weighted(&[20, 45, 35]) {
+            0 => history(comparison, cells, &mut random),
+            1 => foreign(comparison, cells, &mut random),
+            _ => hostile(comparison, cells, &mut random),
+        }
+    }
+}
+
+/// The number of cells of the next block: under 64 unless the larger ones lag behind their share.
+fn draw_cells(comparison: &Comparison, random: &mut Random) -> usize {
+    let calls = comparison.coverage.calls;
+    let large = (calls - comparison.coverage.small_calls) * 100 < calls * 7;
+    match (large, random.below(10)) {
+        (false, 0 | 1) => random.between(4, 8),
+        (false, 2..=4) => random.between(9, 20),
+        (false, _) => random.between(21, 63),
+        (true, 0..=5) => random.between(64, 128),
+        (true, 6..=8) => random.between(129, 512),
+        (true, _) => random.pick(&[513, 1024, 2047, 2048]),
+    }
+}
+
+/// Judges the sparse node of one order word, and uses it where it is sound.
+fn try_order_word(comparison: &mut Comparison, order: u16) {
+    comparison.seed = u64::from(order);
+    let mut random = Random::seeded(u64::from(order) + 0x1_0000);
+    let mut block = order_word_block(order, &mut random);
+    let answer = comparison.step(&mut block, &Call::Validate).answer;
+    if answer == 0 {
+        let mut scene = Scene::drawn(&mut random);
+        remember_shown(&mut scene, &block);
+        calls(comparison, &mut block, &mut scene, &FOREIGN, 4, &mut random);
+    }
+}
+
+/// Lets a scene draw its keys from those that a sound block shows.
+fn remember_shown(scene: &mut Scene, block: &[u8]) {
+    if let Ok(book) = Book::decode(block) {
+        scene.remember(book.root.table().into_keys());
+    }
+}
+
+/// So many random calls on a block.
+fn calls(
+    comparison: &mut Comparison,
+    block: &mut Vec<u8>,
+    scene: &mut Scene,
+    weights: &Weights,
+    count: usize,
+    random: &mut Random,
+) {
+    for _ in 0..count {
+        let call = scene.call(weights, random);
+        comparison.step(block, &call);
+    }
+}
+
+/// A history from a formatted block, with the ledger beside it; then copies of its last block damaged.
+fn history(comparison: &mut Comparison, cells: usize, random: &mut Random) {
+    let mut scene = Scene::drawn(random);
+    let mut ledger = Ledger::default();
+    let mut block = junk(cells, random);
+    comparison.step_with_ledger(&mut block, &Call::Format, &mut ledger);
+    for _ in 0..random.between(20, 160) {
+        let call = scene.call(&HISTORY, random);
+        comparison.step_with_ledger(&mut block, &call, &mut ledger);
+    }
+    walk(comparison, &mut block, 6);
+    damaged(comparison, &block, &mut scene, random);
+}
+
+/// A foreign block, which must be sound, and calls on it; then copies of it damaged.
+fn foreign(comparison: &mut Comparison, cells: usize, random: &mut Random) {
+    let mut scene = Scene::drawn(random);
+    let mut block = foreign_block(cells, LONGEST_KEY, &scene, random);
+    if comparison.step(&mut block, &Call::Validate).answer != 0 {
+        comparison.note(&Call::Validate, &block, "a block that was built sound is not");
+    }
+    remember_shown(&mut scene, &block);
+    calls(comparison, &mut block, &mut scene, &FOREIGN, random.between(6, 24), random);
+    walk(comparison, &mut block, 6);
+    damaged(comparison, &block, &mut scene, random);
+}
+
+/// Steps through the keys in order from the empty key.
+fn walk(comparison: &mut Comparison, block: &mut Vec<u8>, steps: usize) {
+    let mut key = Vec::new();
+    for _ in 0..steps {
+        let outcome = comparison.step(block, &Call::NextKey { key });
+        if outcome.answer != 0 {
+            return;
+        }
+        key = outcome.key[..outcome.number as usize].to_vec();
+        comparison.step(block, &Call::Get { key: key.clone() });
+    }
+}
+
+/// Copies of a sound block, each damaged in one place, seldom in two.
+fn damaged(comparison: &mut Comparison, block: &[u8], scene: &mut Scene, random: &mut Random) {
+    for _ in 0..5 {
+        let mut copy = block.to_vec();
+        damage(&mut copy, random);
+        if random.chance(15) {
+            damage(&mut copy, random);
+        }
+        calls(comparison, &mut copy, scene, &HOSTILE, 3, random);
+    }
+}
+
+/// A block that owes nothing to a sound one: crafted, noise, too deep, or of unlawful length.
+fn hostile(comparison: &mut Comparison, cells: usize, random: &mut Random) {
+    let mut scene = Scene::drawn(random);
+    let (mut block, weights) = match random.weighted(&[30, 10, 25, 35]) {
+        0 => (crafted_block(cells, random), &HOSTILE),
+        1 => (noise_block(cells, random), &HOSTILE),
+        2 => {
+            let limit = LONGEST_KEY + random.pick(&[1, 1, 1, 2, 16]);
+            (foreign_block(cells, limit, &scene, random), &HOSTILE)
+        }
+        _ => (unlawful_block(random), &UNLAWFUL),
+    };
+    calls(comparison, &mut block, &mut scene, weights, 5, random);
+}

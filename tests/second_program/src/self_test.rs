@@ -1,0 +1,256 @@
+//! The specification's samples A to L, its further cases, and what can be tried out whole.
+
+use crate::calls::{perform, Call, Outcome};
+use crate::coverage::Coverage;
+use crate::desk::{celsius, day_number, rounded, Question, CELSIUS, FAHRENHEIT, GATE_ANY, GATE_AT_LEAST, GATE_BETWEEN};
+use crate::foreign::order_word_block;
+use crate::generate::Scene;
+use crate::model::{put_word, word_at, Book, CELL};
+use crate::random::Random;
+
+/// Runs every case; the first that fails ends the program.
+pub fn run() {
+    samples_a_to_d();
+    samples_e_to_h();
+    sample_i_order_words();
+    samples_j_to_l();
+    long_labels();
+    seven_children();
+    lengths();
+    limits_met_exactly();
+    a_cell_entered_twice();
+    arithmetic();
+    foreign_tables_rebuilt();
+    println!("second_program alone: samples A to L and the further cases hold");
+}
+
+/// A call on the model.
+fn make(block: &mut [u8], call: Call) -> Outcome {
+    perform(block, &call, &mut Coverage::new())
+}
+
+/// A fresh block.
+fn fresh(cells: usize) -> Vec<u8> {
+    let mut block = vec![0xAA; cells * CELL];
+    assert_eq!(make(&mut block, Call::Format), Outcome::bare(0));
+    block
+}
+
+/// Inserts, and gives answer and count.
+fn insert(block: &mut [u8], key: &[u8], value: u32) -> (u8, u32) {
+    let outcome = make(block, Call::Insert { key: key.to_vec(), value });
+    (outcome.answer, outcome.number)
+}
+
+/// The root word.
+fn root(block: &[u8]) -> u32 {
+    word_at(block, block.len() - CELL)
+}
+
+/// The bytes that hexadecimal digits name; blanks between them are for the eye.
+fn bytes(digits: &str) -> Vec<u8> {
+    let digits: Vec<u8> = digits.bytes().filter(|digit| *digit != b' ').collect();
+    let byte = |pair: &[u8]| u8::from_str_radix(std::str::from_utf8(pair).unwrap(), 16).unwrap();
+    digits.chunks(2).map(byte).collect()
+}
+
+/// Samples A, B, C and D.
+fn samples_a_to_d() {
+    let mut a = fresh(4);
+    assert_eq!(insert(&mut a, &[0x41], 0), (0, 1));
+    let mut expected = vec![0; 32 + 27];
+    expected.extend(bytes("41 FFFFFFFF"));
+    expected.extend([0; 32]);
+    expected.extend(bytes("0000003B 00000000 00000000 00000000 00000000 00000004 00000000 00000001"));
+    assert_eq!(a, expected);
+    let mut b = a;
+    assert_eq!(make(&mut b, Call::Snapshot { slot: 1 }), Outcome::bare(0));
+    assert_eq!(insert(&mut b, &[0x41], 1), (0, 1));
+    assert_eq!(root(&b), 0x5B);
+    let mut c = b.clone();
+    assert_eq!(insert(&mut c, &[0x41], 2), (7, 0));
+    assert_eq!(c, b);
+    let mut d = b;
+    assert_eq!(make(&mut d, Call::Restore { slot: 1 }), Outcome::bare(0));
+    assert_eq!(insert(&mut d, &[0x41], 2), (0, 1));
+    assert_eq!((root(&d), word_at(&d, 2 * CELL + 0x1C)), (0x5B, !2));
+}
+
+/// Samples E, F, G and H.
+fn samples_e_to_h() {
+    let mut e = fresh(8);
+    assert_eq!(insert(&mut e, &[0x43, 0x48, 0x41], 0), (0, 1));
+    assert_eq!(root(&e), 0x39);
+    let mut f = e.clone();
+    assert_eq!(insert(&mut f, &[0x41], 1), (0, 1));
+    assert_eq!(root(&f), 0x5E);
+    let cell = bytes("FFFFFFFE 0000003A 00000000 00000000 00000000 00000000 41430000 00000006");
+    assert_eq!(f[2 * CELL..3 * CELL], cell);
+    let mut g = f;
+    assert_eq!(insert(&mut g, &[0x35], 2), (0, 1));
+    assert_eq!((root(&g), word_at(&g, 3 * CELL + 0x1C) & 0xFFFF), (0x7E, 0x26));
+    let mut h = e;
+    assert_eq!(insert(&mut h, &[0x43], 5), (0, 2));
+    assert_eq!((root(&h), word_at(&h, 2 * CELL + 0x1C)), (0x7B, 0x3A));
+}
+
+/// The rule of order words, digit by digit as the specification says it.
+fn lawful_order(order: u16) -> bool {
+    let mut digits = Vec::new();
+    let mut rest = order;
+    while rest > 0 {
+        digits.push(rest % 6);
+        rest /= 6;
+    }
+    let mut sorted = digits.clone();
+    sorted.sort_unstable();
+    let place = |digit: u16| digits.iter().position(|held| *held == digit);
+    (2..=6).contains(&digits.len()) && sorted.into_iter().eq(0..digits.len() as u16) && place(1) > place(0)
+}
+
+/// Sample I, and every other word: a sparse node whose characters rise as its word lists them is sound if that is lawful.
+fn sample_i_order_words() {
+    assert!([0x0006, 0x0026, 0x8129].into_iter().all(lawful_order));
+    assert!(![0x0001, 0x0007].into_iter().any(lawful_order));
+    assert_eq!((0..=u16::MAX).filter(|order| lawful_order(*order)).count(), 436);
+    let mut random = Random::seeded(436);
+    for order in 0..=u16::MAX {
+        let sound = Book::decode(&order_word_block(order, &mut random)).is_ok();
+        assert_eq!(sound, lawful_order(order), "order word {order:04X}");
+    }
+}
+
+/// A question about label 41 on a day, all else lawful.
+fn question(year: u32, month: u32, day: u32) -> Question {
+    Question {
+        label: vec![0x41],
+        year,
+        month,
+        day,
+        unit: CELSIUS,
+        degrees: 20.0,
+        kind: GATE_ANY,
+        low: f32::NAN,
+        high: f32::NAN,
+        section: 60.0,
+        length: 4000.0,
+    }
+}
+
+/// Samples J, K and L.
+fn samples_j_to_l() {
+    assert_eq!(2025 * 512 + 3 * 32 + 7, 1_036_903);
+    let mut block = fresh(4);
+    assert_eq!(insert(&mut block, &[0x41], 1_036_903), (0, 1));
+    let good = make(&mut block, Call::Verdict(question(2025, 3, 7)));
+    assert_eq!(good, Outcome { dose: 240.0f32.to_bits(), ..Outcome::bare(0) });
+    assert_eq!(make(&mut block, Call::Verdict(question(2025, 3, 8))), Outcome::bare(13));
+    assert_eq!(make(&mut block, Call::Verdict(question(2025, 7, 3))), Outcome::bare(13));
+    assert_eq!(celsius(FAHRENHEIT, 392.0), Some(200.0));
+}
+
+/// Labels of 28, 29, 48 and 49 bytes in a fresh block of 4 cells.
+fn long_labels() {
+    for (length, answer, word) in [(28, 0, 0x20), (29, 0, 0x5B), (48, 0, 0x48), (49, 3, 0)] {
+        let mut block = fresh(4);
+        assert_eq!(insert(&mut block, &vec![0x41; length], 1).0, answer);
+        assert_eq!(root(&block), word, "label of {length}");
+    }
+}
+
+/// The seven children that make a split of 6 cells.
+fn seven_children() {
+    let mut block = fresh(32);
+    for (value, character) in [0x33, 0x35, 0x41, 0x42, 0x43, 0x50].into_iter().enumerate() {
+        assert_eq!(insert(&mut block, &[character], value as u32), (0, 1));
+    }
+    assert_eq!(insert(&mut block, &[0x51], 6), (0, 6));
+}
+
+/// Blocks of 3 and 2,049 cells, and the last lengths that are lawful.
+fn lengths() {
+    for (length, answer) in [(3 * CELL, 1), (4 * CELL, 0), (2048 * CELL, 0), (2049 * CELL, 1), (0, 1), (4 * CELL + 1, 1)] {
+        let mut block = vec![0xAA; length];
+        let before = block.clone();
+        assert_eq!(make(&mut block, Call::Format).answer, answer);
+        assert_eq!(make(&mut block, Call::Validate).answer, answer);
+        assert_eq!(block == before, answer == 1);
+    }
+}
+
+/// Limits of gate, sheet and reading, met exactly and just missed.
+fn limits_met_exactly() {
+    let mut block = fresh(4);
+    insert(&mut block, &[0x41], 1_036_903);
+    let mut ask = |change: &dyn Fn(&mut Question)| {
+        let mut asked = question(2025, 3, 7);
+        change(&mut asked);
+        make(&mut block, Call::Verdict(asked)).answer
+    };
+    assert_eq!(ask(&|asked| (asked.kind, asked.low) = (GATE_AT_LEAST, 20.0)), 0);
+    assert_eq!(ask(&|asked| (asked.kind, asked.low) = (GATE_AT_LEAST, 20.0f32.next_up())), 14);
+    assert_eq!(ask(&|asked| (asked.kind, asked.low, asked.high) = (GATE_BETWEEN, 20.0, 20.0)), 0);
+    assert_eq!(ask(&|asked| (asked.kind, asked.low, asked.high) = (GATE_BETWEEN, 10.0, 20.0f32.next_down())), 14);
+    assert_eq!(ask(&|asked| (asked.kind, asked.low, asked.high) = (GATE_BETWEEN, 20.0, 19.0)), 8);
+    assert_eq!(ask(&|asked| (asked.kind, asked.low, asked.high) = (GATE_BETWEEN, -100.0, 400.0)), 0);
+    assert_eq!(ask(&|asked| (asked.kind, asked.low) = (GATE_AT_LEAST, f32::NAN)), 8);
+    assert_eq!(ask(&|asked| (asked.section, asked.length) = (0.5, 1.0)), 0);
+    assert_eq!(ask(&|asked| (asked.section, asked.length) = (100.0, 10_000.0)), 0);
+    assert_eq!(ask(&|asked| asked.section = 0.5f32.next_down()), 8);
+    assert_eq!(ask(&|asked| asked.length = 10_000.0f32.next_up()), 8);
+    assert_eq!(ask(&|asked| asked.degrees = 400.0), 0);
+    assert_eq!(ask(&|asked| asked.degrees = (-100.0f32).next_down()), 9);
+    assert_eq!(ask(&|asked| asked.degrees = f32::NAN), 9);
+    assert_eq!(ask(&|asked| (asked.kind, asked.unit) = (4, 3)), 8);
+    assert_eq!(ask(&|asked| (asked.unit, asked.month) = (3, 35)), 9);
+    assert_eq!(ask(&|asked| (asked.month, asked.label) = (35, vec![0x42])), 10);
+    assert_eq!(ask(&|asked| asked.label = vec![0x42]), 11);
+    assert_eq!(ask(&|asked| (asked.label, asked.kind) = (vec![], 4)), 3);
+}
+
+/// A sparse node with both children in one chain cell is unsound; with one of them a leaf it is sound.
+fn a_cell_entered_twice() {
+    let mut block = fresh(4);
+    put_word(&mut block, CELL, 0x5B);
+    put_word(&mut block, CELL + 4, 0x5A);
+    block[CELL + 0x18..CELL + 0x20].copy_from_slice(&[0x41, 0x42, 0, 0, 0, 0, 0, 6]);
+    put_word(&mut block, 2 * CELL + 0x1C, u32::MAX);
+    put_word(&mut block, 3 * CELL, 0x3E);
+    assert_eq!(make(&mut block, Call::Validate).answer, 2);
+    put_word(&mut block, CELL + 4, u32::MAX);
+    assert_eq!(make(&mut block, Call::Validate).answer, 0);
+}
+
+/// Fahrenheit and dose by the model's detour equal plain single operations; the exact cases; the calendar.
+fn arithmetic() {
+    for whole in -14..=40 {
+        assert_eq!(celsius(FAHRENHEIT, (32 + 9 * whole) as f32), Some((5 * whole) as f32));
+    }
+    let mut random = Random::seeded(9);
+    for _ in 0..200_000 {
+        let degrees = (random.word() as f32 / u32::MAX as f32) * 500.0 - 100.0;
+        assert_eq!(celsius(FAHRENHEIT, degrees), Some((degrees - 32.0) * 5.0 / 9.0));
+        let (left, right) = (f32::from_bits(random.word()), f32::from_bits(random.word()));
+        let product = rounded(left, right, |left, right| left * right);
+        assert!(product.to_bits() == (left * right).to_bits() || product.is_nan());
+    }
+    let days = (0..1 << 21).filter(|value| day_number(value / 512 % 4096, value / 32 % 16, value % 32).is_some());
+    assert_eq!(days.count(), 200 * 365 + 50);
+    assert!(day_number(2100, 2, 29).is_some() && day_number(2023, 2, 29).is_none());
+}
+
+/// The table of a foreign block, inserted into a fresh one in order, is shown there again.
+fn foreign_tables_rebuilt() {
+    let mut random = Random::seeded(48);
+    for _ in 0..300 {
+        let scene = Scene::drawn(&mut random);
+        let cells = random.between(4, 63);
+        let block = crate::foreign::foreign_block(cells, 48, &scene, &mut random);
+        let table = Book::decode(&block).expect("a foreign block is sound").root.table();
+        let mut rebuilt = fresh(2048);
+        for (key, value) in &table {
+            assert_eq!(insert(&mut rebuilt, key, *value).0, 0);
+        }
+        assert_eq!(Book::decode(&rebuilt).expect("sound").root.table(), table);
+    }
+}
