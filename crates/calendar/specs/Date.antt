@@ -51,7 +51,7 @@ packedDate date = date .year .0 * 512 + date .month .0 * 32 + date .day .0
 abbrev pub unpackedDate : ℕ → Date
 unpackedDate value = dateOf (yearOf (value / 512)) (monthOf (value / 32 % 16)) (dayOf (value % 32))
 
--- 01: "13: today after expiry": year, then month, then day.
+-- 01, answer 13: "today after expiry": year, then month, then day.
 unfoldable pub isAfter : Date → Date → Bool
 isAfter today expiry =
     ltb (expiry .year .0) (today .year .0)

@@ -1,4 +1,4 @@
--- 01: "One lent block of n cells of 32 bytes."
+-- 01: "One lent block of n cells of 32 bytes".
 use mathlib.Core.List.{List, _++_}
 use Prim.Native.Nat.{ℕ, _*_}
 use lib.ListN.{take, drop}

@@ -6,7 +6,7 @@ use Rattle.dosing.specs.Temperature.{whole, _⊗_, _⊘_, within, validG
 use Rattle.dosing.specs.declared.sheet.ProductSheet.{ProductSheet}
 use Rattle.dosing.specs.declared.temperature.TemperatureGate.{TemperatureGate}
 
--- "A product sheet of gate, bead section in mm² and bead length in mm."
+-- 01: "a product sheet of gate, bead section in mm² and bead length in mm".
 abbrev pub sheetOf : TemperatureGate → Float → Float → ProductSheet
 sheetOf gate section extent = record { gate = gate; section = section; length = extent }
 

@@ -67,7 +67,7 @@ inGate Any degrees = true
 inGate (AtLeast low) degrees = Ieee.le low degrees
 inGate (Between low high) degrees = within low high degrees
 
--- "For whole k from -14 to 40, 32 + 9k becomes exactly 5k": the claim, which the proofs show.
+-- 01: "for whole k from -14 to 40, 32 + 9k becomes exactly 5k": the claim, which the proofs show.
 abbrev pub WholeReadings : Type 0
 WholeReadings =
     (k : ℤ) → negℤ (pos 14) ≤ℤ k → k ≤ℤ pos 40 → toCelsius (whole (pos 32 +ℤ pos 9 *ℤ k)) ≡ whole (pos 5 *ℤ k)

@@ -1,15 +1,17 @@
--- What 01 leaves free at the C boundary, in one place. The laws of these calls hold for every choice whose numbers differ.
+-- What 01 leaves free at the C boundary, in one place. Laws of these calls are stated for every choice whose numbers differ.
 use mathlib.Core.Path.{_≡_}
 use mathlib.Core.Logic.{_≢_}
+use mathlib.Core.Bool.{Bool, true}
 use Prim.Native.Nat.{ℕ}
 
--- the numbers that name gate kinds and units
+-- the numbers that name gate kinds and units, and which of the two limits "at least" uses
 pub record Choices : Type 0 where
   pub anyGate : ℕ
   pub atLeastGate : ℕ
   pub betweenGate : ℕ
   pub celsiusUnit : ℕ
   pub fahrenheitUnit : ℕ
+  pub atLeastIsLow : Bool
 
 -- no number names two things
 pub record Injective (choices : Choices) : Type 0 where
@@ -20,4 +22,4 @@ pub record Injective (choices : Choices) : Type 0 where
 
 -- ours begin at 1, so that memory left at zero names no gate kind and no unit
 unfoldable pub ours : Choices
-ours = record { anyGate = 1; atLeastGate = 2; betweenGate = 3; celsiusUnit = 1; fahrenheitUnit = 2 }
+ours = record { anyGate = 1; atLeastGate = 2; betweenGate = 3; celsiusUnit = 1; fahrenheitUnit = 2; atLeastIsLow = true }

@@ -27,11 +27,11 @@ insertNumbers block key value = insert block key value
 abbrev pub getNumbers : List ℕ → List ℕ → Found
 getNumbers block key = get block key
 
--- the gate of a number; "at least" uses the low limit. 01: "a limit that the gate kind doesn't use isn't judged"
+-- the gate of a number. 01: "a limit that the gate kind doesn't use isn't judged"
 unfoldable pub gateOf : Choices → ℕ → Float → Float → Option TemperatureGate
 gateOf choices kind low high =
     pick (eqb kind (choices .anyGate)) (some Any)
-    (pick (eqb kind (choices .atLeastGate)) (some (AtLeast low))
+    (pick (eqb kind (choices .atLeastGate)) (some (AtLeast (pick (choices .atLeastIsLow) low high)))
     (pick (eqb kind (choices .betweenGate)) (some (Between low high)) none))
 
 unfoldable pub readingOf : Choices → ℕ → Float → Option Reading

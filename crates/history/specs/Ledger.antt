@@ -48,7 +48,7 @@ noteInsert ledger key value noRoom =
     (pick noRoom (unaltered 7 ledger)
     (done (record { present = update (ledger .present) key value; held = ledger .held }))))
 
--- 01: "a lawful slot (one that doesn't get 5)"
+-- 01: "each lawful slot (one that doesn't get 5)"
 unfoldable pub ledgerSlot : ℕ → ℕ → Bool
 ledgerSlot slots slot = leb 1 slot && leb slot slots
 

@@ -1,4 +1,4 @@
--- The bytes of the cells that a call allocates. 01: "A taken cell's meaningless bytes are zero."
+-- The bytes of the cells that a call allocates. 01: "A taken cell's meaningless bytes are zero".
 use mathlib.Core.Bool.{Bool}
 use mathlib.Core.List.{List}
 use Prim.Native.Nat.{ℕ, zero, suc, _+_, _-_, _*_, _/_, _%_}

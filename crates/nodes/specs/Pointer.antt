@@ -24,7 +24,7 @@ byKind cell kind =
     (pick (eqb kind 0x1F) (prefix cell) invalid)))
 
 -- 01: "0 is NONE. A word with its top bit set is a leaf whose value is the word with all bits inverted. Otherwise the
--- word divided by 32 is the cell (1 to n-2) and the rest is the kind."
+-- word divided by 32 is the cell (1 to n-2) and the rest is the kind".
 unfoldable pub pointer : Layout → ℕ → Pointer
 pointer layout word =
     pick (eqb word 0) nothing

@@ -2,3 +2,4 @@ pub mod Line
 pub mod Bytes
 pub mod Calls
 pub mod Samples
+pub mod Pinned

@@ -25,7 +25,7 @@ isRoot invalid = false
 unfoldable pub rootTree : Layout → Memory → ℕ → Option (List ℕ)
 rootTree layout m word = pick (isRoot (pointer layout word)) (tree layout m keyLimit word) none
 
--- 01: "In the tree of one root no cell is entered twice."
+-- 01: "In the tree of one root no cell is entered twice".
 unfoldable pub onceVisited : Option (List ℕ) → Bool
 onceVisited none = false
 onceVisited (some cells) = distinct cells
