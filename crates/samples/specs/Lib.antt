@@ -3,3 +3,4 @@ pub mod Bytes
 pub mod Calls
 pub mod Samples
 pub mod Pinned
+pub mod Foreign
