@@ -1,0 +1,5 @@
+pub mod Beside
+pub mod OneCall
+pub mod Lists
+pub mod Proved
+pub mod Dummies

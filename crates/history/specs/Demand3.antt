@@ -4,7 +4,7 @@ use mathlib.Core.Logic.{_≢_}
 use mathlib.Core.Bool.{Bool, true, false}
 use mathlib.Core.List.{List, [], _∷_, _++_}
 use mathlib.Core.Option.{Option, none, some}
-use Prim.Native.Nat.{ℕ, _-_, _/_, _≤_, _<_}
+use Prim.Native.Nat.{ℕ, _+_, _-_, _*_, _/_, _≤_, _<_}
 use lib.Dec.{leb}
 use lib.ListN.{length}
 use Rattle.cells.specs.Word.{withWord}
@@ -18,6 +18,7 @@ use Rattle.store.specs.Trailer.{badSize, layoutOf, rootWord, slots, validSlot, 
 use Rattle.store.specs.Sound.{sound, reachable}
 use Rattle.store.specs.Free.{free}
 use Rattle.store.specs.Refusal.{badNewKey, badValue}
+use Rattle.store.specs.Format.{format}
 use Rattle.store.specs.Read.{shown}
 use Rattle.store.specs.Insert.{numbering, blockBuild}
 use Rattle.history.specs.Calls.{Call, inserting, snapshotting, restoring, releasing, Implementation, Outcome, outcome, run, answersOf, KeysAreBytes}
@@ -53,6 +54,8 @@ pub record Laid (block key : List ℕ) (value : ℕ) (o : Outcome) : Type 0 wher
   -- in the trailer only the root word moves
   pub trailer : memoryOf (o .block) (length block / 32 - 1) ≡ withWord (memoryOf block (length block / 32 - 1)) 0 (blockBuild block key value .word)
   pub count : o .count ≡ length (blockBuild block key value .cells)
+  -- 01: "for m label bytes at most 4m + 10"
+  pub most : o .count ≤ 4 * length key + 10
   -- 01: "which are the cells of the new tree that were free before"
   pub newly : o .count ≡ length (select (λ c. leb 1 (occurrences c (rootCells (layoutOf (o .block)) (memoryOf (o .block)) (rootWord (layoutOf (o .block)) (o .block))))) (free (layoutOf block) block))
 
@@ -79,13 +82,17 @@ AtKind block (releasing slot) o = Unit {0}
 pub record AtCall (impl : Implementation) (block : List ℕ) (call : Call) : Type 0 where
   -- 00: "A cell that the root or a held mark reaches as a call begins holds the same bytes when that call ends."
   pub kept : (c : ℕ) → 1 ≤ occurrences c (reachable (layoutOf block) block) → memoryOf (outcome impl block call .block) c ≡ memoryOf block c
+  pub size : length (outcome impl block call .block) ≡ length block
+  -- 01: "A no returns zeros beside its number"
+  pub zeros : outcome impl block call .answer ≢ 0 → outcome impl block call .count ≡ 0
   -- 00: "A call that says no has altered nothing in the book."
   pub refused : outcome impl block call .answer ≢ 0 → outcome impl block call .block ≡ block
   pub kind : AtKind block call (outcome impl block call)
 
 -- 01: "Demand 3 holds from every fresh book that can be made. It is a single claim about the whole list"
 pub record Demand3 (impl : Implementation) : Type 0 where
-  pub formats : (start : List ℕ) → badSize start ≡ false → impl .formatCall start .answer ≡ 0
+  -- 01: "A fresh book is all zero but for n and the edition", and answer 1 leaves the block
+  pub formats : (start : List ℕ) → impl .formatCall start ≡ format start
   pub afterList : (start : List ℕ) → impl .formatCall start .answer ≡ 0 → (calls : List Call) → KeysAreBytes calls
       → AfterList impl (impl .formatCall start .block) calls
   pub atCall : (start : List ℕ) → impl .formatCall start .answer ≡ 0 → (before : List Call) (call : Call) (after : List Call) → KeysAreBytes (before ++ call ∷ after)

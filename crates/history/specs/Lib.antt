@@ -1,3 +1,5 @@
 pub mod Calls
 pub mod Ledger
 pub mod Demand3
+pub mod Dummies
+pub mod Worked

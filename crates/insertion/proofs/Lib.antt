@@ -24,3 +24,8 @@ pub mod KeyEnd
 pub mod Law
 pub mod Taken
 pub mod InsertLaw
+pub mod StageLaws
+pub mod StageWrites
+pub mod CellPuts
+pub mod OrderInsert
+pub mod SparsePuts

@@ -5,3 +5,4 @@ pub mod SetChild
 pub mod Build
 pub mod Commit
 pub mod OldChild
+pub mod Staged

@@ -13,3 +13,6 @@ pub mod Rest
 pub mod StepWays
 pub mod ValueWays
 pub mod StepRead
+pub mod FirstStep
+pub mod SparseLeast
+pub mod LeastWays

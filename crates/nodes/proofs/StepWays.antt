@@ -98,16 +98,16 @@ module _ (layout : Layout) (m : Memory) (c x : ℕ) (bytes : List ℕ) (cell : b
     split-missing e = rw (← cell, ← read, holds, ← there, e)
 
     module _ (other : mid ≢ 0) (s : ChildStep) (step : stepOf s ≡ tableStep layout m mid (x / 8 % 8)) where
-      onwards : splitStep layout m c x ≡ onward (stepOf s) (λ end. tableStep layout m end (x % 8))
+      pub split-onwards : splitStep layout m c x ≡ onward (stepOf s) (λ end. tableStep layout m end (x % 8))
       unfolding splitStep wordStep onward
-      onwards = rw (← cell, ← read, holds, ← there, ne-eqb mid 0 other, ← step)
+      split-onwards = rw (← cell, ← read, holds, ← there, ne-eqb mid 0 other, ← step)
 
       pub split-stops : AmongSteps (1 ∷ 2 ∷ []) s → stepOf s ≡ splitStep layout m c x
-      split-stops rest = rest-of-found s (λ end. tableStep layout m end (x % 8)) rest ∙ sym onwards
+      split-stops rest = rest-of-found s (λ end. tableStep layout m end (x % 8)) rest ∙ sym split-onwards
 
       pub split-goes : (end : ℕ) → s ≡ Found end → (t : Step) → t ≡ tableStep layout m end (x % 8) → t ≡ splitStep layout m c x
       unfolding onward
-      split-goes end case t last = last ∙ sym (onwards ∙ ap (λ r. onward (stepOf r) (λ e. tableStep layout m e (x % 8))) case)
+      split-goes end case t last = last ∙ sym (split-onwards ∙ ap (λ r. onward (stepOf r) (λ e. tableStep layout m e (x % 8))) case)
 
 -- a chain, sparse or split, by the case of the pointer
 module _ (layout : Layout) (m : Memory) (p : CodedPointer) (x c : ℕ) (s : Step) where

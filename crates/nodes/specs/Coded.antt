@@ -6,10 +6,12 @@ use Rattle.nodes.specs.Layout.{Layout}
 use Rattle.nodes.specs.Pointer.{Pointer, pointer}
 use Rattle.nodes.specs.Pointer.Pointer.{nothing, leaf, chain, split, sparse, prefix, invalid}
 use Rattle.nodes.specs.Step.{Step, found, missing, broken}
+use Rattle.nodes.specs.LeastChild.{LeastChild, least, absent, unreadable}
 use Rattle.nodes.specs.declared.pointer.Pointer.{Pointer as CodedPointer}
 use Rattle.nodes.specs.declared.pointer.Pointer.the-variants.{Nothing, Leaf, Chain, Split, Sparse, Prefix, Invalid}
 use Rattle.nodes.specs.declared.step.ChildStep.{ChildStep}
 use Rattle.nodes.specs.declared.step.ChildStep.the-variants.{Found, Missing, Broken}
+use Rattle.nodes.specs.declared.least.Least.{Least}
 use Rattle.nodes.specs.declared.value.Value.{Value}
 use Rattle.nodes.specs.declared.value.Value.the-variants.{Held, Empty}
 
@@ -37,3 +39,9 @@ stepOf Broken = broken
 abbrev pub heldOf : Value → Option ℕ
 heldOf (Held v) = some v
 heldOf Empty = none
+
+-- the least character with a child
+abbrev pub leastOf : Least → LeastChild
+leastOf (Least.Found x w) = least x w
+leastOf Least.Missing = absent
+leastOf Least.Broken = unreadable

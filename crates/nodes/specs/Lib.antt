@@ -10,3 +10,4 @@ pub mod Least
 pub mod Words
 pub mod Step
 pub mod Value
+pub mod LeastChild

@@ -1,6 +1,7 @@
 // Pointers and nodes: what one word names, read from its cells.
 pub mod chains;
 pub mod layout;
+pub mod least;
 pub mod pointer;
 pub mod prefix;
 pub mod sparse;

@@ -62,7 +62,7 @@ fn sparse_step(bytes: &[u8], character: u8) -> ChildStep
 }
 
 // A step in the mid or end that a word names.
-fn table_step(layout: Layout, block: &[u8], word: u32, index: usize) -> ChildStep
+pub fn table_step(layout: Layout, block: &[u8], word: u32, index: usize) -> ChildStep
     requires { ⌜ (layout .cells * 32 ≤ length (now block)) × (index < 8) ⌝ }
     ensures { λ r. ⌜ stepOf r ≡ tableStep layout (memoryOf (now (block .entry))) word index ⌝ }
 {

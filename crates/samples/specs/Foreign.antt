@@ -39,7 +39,6 @@ use Rattle.store.specs.Insert.{Inserted, blockBuild, insertWrites, insert}
 use Rattle.samples.specs.Line.{word}
 use Rattle.samples.specs.Calls.{rootOf}
 
-
 -- bytes with no meaning
 abbrev junk : ℕ → List ℕ
 junk count = replicate count 0xEE

@@ -11,3 +11,15 @@ pub mod Children
 pub mod Shown
 pub mod NextParts
 pub mod NextWalk
+pub mod Joins
+pub mod Gathered
+pub mod Admit
+pub mod Judging
+pub mod ChildTrees
+pub mod ChainTrees
+pub mod SparseTrees
+pub mod SplitTrees
+pub mod PlainTrees
+pub mod Tags
+pub mod Reading
+pub mod RootCheck

@@ -4,3 +4,5 @@ pub mod Lookup
 pub mod Entries
 pub mod EntryAt
 pub mod NextWalk
+pub mod Visit
+pub mod Parts

@@ -1,1 +1,6 @@
 // The tree of one root.
+pub mod stamps;
+pub mod validate;
+
+// The most characters that a key may have.
+pub const KEY_LIMIT: usize = 48;

@@ -17,17 +17,21 @@ pub struct Comparison {
     pub differences: u64,
     pub seed: u64,
     other: Option<Other>,
+    traced: bool,
 }
 
 impl Comparison {
-    /// Nothing compared yet.
-    pub fn new(other: Option<Other>) -> Comparison {
-        Comparison { coverage: Coverage::new(), differences: 0, seed: 0, other }
+    /// Nothing compared yet; a traced run prints each call before it is made, to find one that never comes back.
+    pub fn new(other: Option<Other>, traced: bool) -> Comparison {
+        Comparison { coverage: Coverage::new(), differences: 0, seed: 0, other, traced }
     }
 
     /// Makes a call on the block, compares, and leaves the model's bytes in the block.
     pub fn step(&mut self, block: &mut Vec<u8>, call: &Call) -> Outcome {
         let before = block.clone();
+        if self.traced {
+            eprintln!("{call:?} on {}", hexadecimal(&before));
+        }
         let own = perform(block, call, &mut self.coverage);
         if let Some(other) = self.other {
             let mut their_block = before.clone();

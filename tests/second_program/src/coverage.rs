@@ -35,9 +35,10 @@ macro_rules! counted {
 
 counted! {
     /// The rules of soundness, one for each way to break them.
-    Flaw: HeldBits, StrayBytes, CellCount, Edition, OpenMarkWord, RootLeaf, RootPrefix, CellZero, TrailerCell,
-    BeyondTrailer, NoKind, EnteredTwice, ChainWithoutChild, TooDeep, SparseGap, SparseOfFew, Characters, OrderWord,
-    PartWord, EmptyHead, EmptyMid, EmptyEnd, PrefixValue, PrefixFlag, PrefixLink,
+    Flaw: HeldBits, StrayBytes, CellCount, Edition, OpenMarkWord, RootLeaf, RootPrefix, MarkLeaf, MarkPrefix, CellZero,
+    TrailerCell, BeyondTrailer, NoKind, EnteredTwice, ChainWithoutChild, DeepChain, DeepSparse, DeepSplit, SparseGap,
+    SparseOfFew, Characters, OrderWord, PartWord, EmptyHead, EmptyMid, EmptyEnd, PrefixValue, PrefixFlag,
+    PrefixOverNone, PrefixOverLeaf, PrefixOverPrefix,
 }
 
 counted! {
@@ -151,11 +152,12 @@ impl Coverage {
         let least = self.demanded();
         let mut short = 0;
         for (call, answers) in self.answers.iter().enumerate() {
-            let counts: Vec<String> = REACHABLE[call].iter().map(|answer| format!("{answer}: {}", answers[*answer])).collect();
+            let reachable = REACHABLE[call].iter().map(|answer| (*answer, answers[*answer]));
+            let counts: Vec<String> = reachable.clone().map(|(answer, count)| format!("{answer}: {count}")).collect();
             println!("{:<10} {}", CALLS[call], counts.join("  "));
-            let outside: u64 = answers.iter().sum::<u64>() - REACHABLE[call].iter().map(|answer| answers[*answer]).sum::<u64>();
-            let under = REACHABLE[call].iter().filter(|answer| answers[**answer] < least).count();
-            short += under + usize::from(outside > 0);
+            let inside: u64 = reachable.clone().map(|(_, count)| count).sum();
+            short += reachable.filter(|(_, count)| *count < least).count();
+            short += usize::from(inside != answers.iter().sum());
         }
         short += print_counts("shapes", Shape::NAMES, &self.shapes, least);
         short += print_counts("build cases", BuildCase::NAMES, &self.cases, least);

@@ -31,12 +31,16 @@ struct Planter<'a> {
     limit: usize,
 }
 
+/// How often a child is a leaf, in hundredths, and how a node's kind is drawn: chain, sparse, split.
+const WEIGHTS: [[usize; 4]; 6] =
+    [[40, 30, 20, 10], [30, 60, 10, 0], [2, 96, 1, 1], [45, 5, 45, 5], [45, 10, 5, 40], [60, 5, 5, 90]];
+
 /// A foreign block of so many cells; it is sound when the depth limit is the specification's.
 pub fn foreign_block(cells: usize, limit: usize, scene: &Scene, random: &mut Random) -> Vec<u8> {
     let mut unused: Vec<usize> = (1..cells - 1).collect();
     random.shuffle(&mut unused);
     unused.truncate(random.between(1, cells - 2));
-    let weights = random.pick(&[[40, 30, 20, 10], [30, 60, 10, 0], [2, 96, 1, 1], [45, 5, 45, 5], [45, 10, 5, 40], [60, 5, 5, 90]]);
+    let weights = random.pick(&WEIGHTS);
     let block = junk(cells, random);
     let (entered, planted) = (BTreeSet::new(), Vec::new());
     let mut planter = Planter { random, scene, block, unused, entered, planted, weights, limit };

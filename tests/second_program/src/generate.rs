@@ -40,7 +40,10 @@ impl Scene {
             4 => vec![0x00, 0xFF, 0x7F, 0x80, 0x3F, 0x40, 0xBF, 0xC0, 0x07, 0x08, 0x41],
             _ => (0..=255).collect(),
         };
-        let longest = if alphabet.len() > 8 { random.pick(&[1, 1, 1, 2, 4, 48]) } else { random.pick(&[1, 2, 3, 8, 30, 48]) };
+        let longest = match alphabet.len() {
+            0..=8 => random.pick(&[1, 2, 3, 8, 30, 48]),
+            _ => random.pick(&[1, 1, 1, 2, 4, 48]),
+        };
         let year = random.pick(&[2000, 2023, 2024, 2025, 2100, 2104, 2199]);
         let month = random.between(1, 12) as u32;
         let day = random.between(1, days_in_month(year, month) as usize) as u32;
@@ -114,26 +117,27 @@ impl Scene {
 
     /// A value: often a date near the scene's day, now and then over the greatest value.
     pub fn value(&self, random: &mut Random) -> u32 {
-        let [year, month, day] = self.date(random);
-        let date = year * 512 + month * 32 + day;
+        let [mut year, mut month, mut day] = self.date(random);
         match random.below(20) {
-            0 => random.pick(&[0, 1, 0x7FFF_FFFF]),
-            1 => random.word() >> 1,
-            2 => year * 512 + random.pick(&[0, 13, 14, 15]) * 32 + day,
-            3 => year * 512 + month * 32 + random.pick(&[0, 29, 30, 31]),
-            4 => random.pick(&[1999, 2200, 2199, 2000, 2100]) * 512 + random.pick(&[2 * 32 + 29, 2 * 32 + 30, 12 * 32 + 31]),
-            _ => date,
+            0 => return random.pick(&[0, 1, 0x7FFF_FFFF]),
+            1 => return random.word() >> 1,
+            2 => month = random.pick(&[0, 13, 14, 15]),
+            3 => day = random.pick(&[0, 29, 30, 31]),
+            4 => [year, month, day] = random.pick(&[[2100, 2, 29], [2023, 2, 29], [2024, 2, 30], [2199, 12, 31]]),
+            5 => year = random.pick(&[1999, 2200]),
+            _ => {}
         }
+        year * 512 + month * 32 + day
     }
 
     /// A date near the scene's day, so that days, months and years all get to decide.
     fn date(&self, random: &mut Random) -> [u32; 3] {
         let [year, month, day] = self.day;
         for _ in 0..8 {
-            let near = |random: &mut Random, number: u32| number + random.pick(&[0, 0, 0, 1, 2]) - random.pick(&[0, 0, 0, 1]);
-            let date = match random.below(8) {
-                0 => [year, day, month],
-                _ => [near(random, year), near(random, month), near(random, day)],
+            let mut near = |number: u32| number + random.pick(&[0, 0, 0, 1, 2]) - random.pick(&[0, 0, 0, 1]);
+            let date = match near(1) {
+                3 => [year, day, month],
+                _ => [near(year), near(month), near(day)],
             };
             if (2000..=2199).contains(&date[0]) && date[2] >= 1 && date[2] <= days_in_month(date[0], date[1]) {
                 return date;

@@ -1,4 +1,4 @@
-//! Hostile and damaged blocks: sound ones with one rule broken, crafted cycles, noise, unlawful lengths.
+//! Hostile and damaged blocks: sound ones with one rule broken, noise, unlawful lengths.
 
 use crate::foreign::{junk, write_trailer};
 use crate::model::{pointer, put_word, split_children, word_at, Book, Node, Place, CELL};
@@ -152,7 +152,10 @@ fn spoil_trailer(trailer: &mut [u8], random: &mut Random) {
     match random.below(6) {
         0 => trailer[0x10] ^= 1 << random.below(8),
         1 => trailer[random.pick(&[0x11, 0x12, 0x13, 0x18, 0x19, 0x1A, 0x1B])] = random.byte() | 1,
-        2 => put_word(trailer, 0x14, random.pick(&[0, 3, cells - 1, cells + 1, cells * CELL as u32, cells << 8, cells | 1 << 16])),
+        2 => {
+            let others = [0, 3, cells - 1, cells + 1, cells * CELL as u32, cells << 8, cells | 1 << 16];
+            put_word(trailer, 0x14, random.pick(&others));
+        }
         3 => put_word(trailer, 0x1C, random.pick(&[0, 2, 3, 4, 0x100_0000, 0x101, u32::MAX])),
         4 => {
             let slot = random.below(3);
@@ -179,8 +182,8 @@ fn spoil_spot(block: &mut [u8], offset: usize, role: Role, spots: &[Spot], rando
         }
         Role::Order => {
             let old = u16::from_be_bytes([block[offset], block[offset + 1]]);
-            let order = random.pick(&[0, 1, 6, 7, 0x26, 0x8129, old.wrapping_add(1), old / 6, old % 6 * 6 + old / 6, 0xFFFF, 46656]);
-            let order = if random.chance(30) { random.word() as u16 } else { order };
+            let chosen = [0, 1, 6, 7, 0x26, 0x8129, old.wrapping_add(1), old / 6, old % 6 * 6 + old / 6, 0xFFFF, 46656];
+            let order = if random.chance(30) { random.word() as u16 } else { random.pick(&chosen) };
             block[offset..offset + 2].copy_from_slice(&order.to_be_bytes());
         }
         Role::Character => {
@@ -199,9 +202,8 @@ fn spoil_spot(block: &mut [u8], offset: usize, role: Role, spots: &[Spot], rando
             block[offset + from..offset + CELL].fill(0);
         }
         Role::SparseCell => {
-            let position = random.below(6);
-            let word = if random.chance(50) { 0 } else { random.word() | 1 << 31 };
-            put_word(block, offset + 4 * position, word);
+            let word = random.pick(&[0, 0x8000_0000, u32::MAX]);
+            put_word(block, offset + 4 * random.below(6), word);
             if random.chance(30) {
                 block[offset + 4..offset + 0x18].fill(0);
             }
@@ -230,59 +232,6 @@ fn hostile_word(block: &[u8], offset: usize, spots: &[Spot], random: &mut Random
         11 => pointer(word_at(block, offset) as usize / CELL % cells, random.pick(&[0x1C, 0x1E, 0x1F, 0x1B, 0])),
         _ => word_at(block, random.pick(spots).0 / 4 * 4),
     }
-}
-
-/// A small block with one crafted trap: a cell that leads back to itself, a cycle, a path at or past the depth.
-pub fn crafted_block(cells: usize, random: &mut Random) -> Vec<u8> {
-    let mut block = junk(cells, random);
-    let last = cells - 2;
-    let (first, second) = (random.between(1, last), random.between(1, last));
-    let leaf = random.word() | 1 << 31;
-    let kind = random.below(0x1C);
-    let mut root = pointer(first, kind);
-    match random.below(7) {
-        0 => put_word(&mut block, first * CELL + 0x1C, pointer(first, random.below(0x1C))),
-        1 => {
-            (0..8).for_each(|place| put_word(&mut block, first * CELL + 4 * place, pointer(first, 0x1C)));
-            root = pointer(first, 0x1C);
-        }
-        2 => {
-            put_word(&mut block, second * CELL, random.word() >> 1);
-            block[second * CELL + 4] = 0xFF;
-            put_word(&mut block, second * CELL + 0x1C, pointer(second, random.between(5, 0x1F)));
-            put_word(&mut block, first * CELL + 0x1C, pointer(second, 0x1F));
-        }
-        3 => {
-            put_word(&mut block, first * CELL + 0x1C, pointer(second, random.below(0x1C)));
-            put_word(&mut block, second * CELL + 0x1C, pointer(first, random.below(0x1C)));
-        }
-        4 => root = chain_of_cells(&mut block, random),
-        5 => {
-            put_word(&mut block, first * CELL, pointer(second, random.below(0x1C)));
-            put_word(&mut block, first * CELL + 4, pointer(second, random.below(0x1C)));
-            block[first * CELL + 8..first * CELL + 0x18].fill(0);
-            block[first * CELL + 0x18..first * CELL + 0x20].copy_from_slice(&[0x41, 0x42, 0, 0, 0, 0, 0, 6]);
-            put_word(&mut block, second * CELL + 0x1C, leaf);
-            root = pointer(first, 0x1E);
-        }
-        _ => put_word(&mut block, first * CELL + 0x1C, random.pick(&[leaf, 0, root, pointer(cells - 1, 0x1B)])),
-    }
-    let marks = random.pick(&[[None; 3], [Some(0), None, None], [None, Some(root), None]]);
-    write_trailer(&mut block, if marks[1].is_some() && random.chance(50) { 0 } else { root }, &marks);
-    block
-}
-
-/// A path through chain cells of equal runs to a depth about the limit, closed by a leaf, NONE or the next cell.
-fn chain_of_cells(block: &mut [u8], random: &mut Random) -> u32 {
-    let usable = block.len() / CELL - 2;
-    let run = random.pick(&[28, 24, 16, 12, 7, 6, 4, 3, 2, 1]);
-    let steps = random.between(48 / run, 48 / run + 1).clamp(1, usable);
-    for cell in 1..=steps {
-        put_word(block, cell * CELL + 0x1C, pointer(cell + 1, 0x1C - run));
-    }
-    let close = random.pick(&[u32::MAX, u32::MAX, 0, pointer(steps + 1, 0x1B), pointer(1, 0x1B)]);
-    put_word(block, steps * CELL + 0x1C, close);
-    pointer(1, 0x1C - run + random.below(run.min(2)))
 }
 
 /// Noise: every cell random, mostly under a lawful trailer whose root leads somewhere.

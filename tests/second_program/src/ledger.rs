@@ -11,7 +11,7 @@ pub struct Ledger {
 }
 
 impl Ledger {
-    /// Feeds a call and whether it got 7; gives the answer that it must have had, or nothing for a call that only reads.
+    /// Feeds a call and whether it got 7; gives the answer it must have had, or nothing for a call that only reads.
     pub fn feed(&mut self, call: &Call, no_room: bool) -> Option<u8> {
         match call {
             Call::Format => {

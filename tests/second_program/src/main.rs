@@ -4,6 +4,7 @@
 mod calls;
 mod compare;
 mod coverage;
+mod crafted;
 mod desk;
 mod encode;
 mod foreign;
@@ -19,34 +20,38 @@ mod random;
 mod schedule;
 #[cfg(alone)]
 mod self_test;
+mod sweeps;
 
 use compare::{Comparison, Other};
 use std::process::ExitCode;
 
 /// The calls of a run that names no other number.
-const CALLS: u64 = 1_000_000;
+const CALLS: u64 = 1_200_000;
 
 /// The other program is the proved library.
 #[cfg(not(alone))]
-const OTHER: Option<Other> = Some(proved::perform);
+const OTHER: (Option<Other>, &str) = (Some(proved::perform), "second_program");
 
 /// The self-test has no other program; invariants and the ledger judge the model.
 #[cfg(alone)]
-const OTHER: Option<Other> = None;
+const OTHER: (Option<Other>, &str) = (None, "second_program alone");
 
 /// Makes the calls, prints the counts, and fails on any difference or on a count that falls short.
 fn main() -> ExitCode {
-    let argument = std::env::args().nth(1);
-    let target = argument.map_or(CALLS, |text| text.parse().expect("the argument is a number of calls"));
+    let arguments: Vec<String> = std::env::args().skip(1).collect();
+    let number = |text: &String| text.parse().expect("the first argument is a number of calls");
+    let target = arguments.first().map_or(CALLS, number);
+    let traced = arguments.get(1).is_some_and(|text| text == "trace");
     #[cfg(alone)]
     self_test::run();
-    let mut comparison = Comparison::new(OTHER);
+    let mut comparison = Comparison::new(OTHER.0, traced);
+    sweeps::run(&mut comparison);
     schedule::run(&mut comparison, target);
     let short = comparison.coverage.report();
     if short > 0 {
         println!("{short} counts fall short");
     }
-    println!("second_program: {} calls, {} differences", comparison.coverage.calls, comparison.differences);
+    println!("{}: {} calls, {} differences", OTHER.1, comparison.coverage.calls, comparison.differences);
     match short == 0 && comparison.differences == 0 {
         true => ExitCode::SUCCESS,
         false => ExitCode::FAILURE,

@@ -84,12 +84,12 @@ impl Book {
         let trailer = (cells - 1) * CELL;
         judge_trailer(&block[trailer..], cells)?;
         let mut met = Met::default();
-        let root = decode_tree(block, word_at(block, trailer), &mut met)?;
+        let root = decode_tree(block, word_at(block, trailer), [Flaw::RootLeaf, Flaw::RootPrefix], &mut met)?;
         let mut marks = [None, None, None];
         for (slot, mark) in marks.iter_mut().enumerate() {
             if block[trailer + 0x10] >> slot & 1 == 1 {
-                let tree = decode_tree(block, word_at(block, trailer + 4 + 4 * slot), &mut met)?;
-                *mark = Some(tree);
+                let word = word_at(block, trailer + 4 + 4 * slot);
+                *mark = Some(decode_tree(block, word, [Flaw::MarkLeaf, Flaw::MarkPrefix], &mut met)?);
             }
         }
         let mut book = Book { root, marks, met };
@@ -143,14 +143,14 @@ fn judge_trailer(trailer: &[u8], cells: usize) -> Result<(), Flaw> {
     Ok(())
 }
 
-/// Decodes the tree of one root word, with its own set of entered cells.
-fn decode_tree(block: &[u8], word: u32, met: &mut Met) -> Result<Tree, Flaw> {
+/// Decodes the tree of one root word, with its own set of entered cells; a leaf or prefix is no root.
+fn decode_tree(block: &[u8], word: u32, no_root: [Flaw; 2], met: &mut Met) -> Result<Tree, Flaw> {
     let entered = vec![None; block.len() / CELL];
     let mut reader = Reader { block, entered, met };
     let top = reader.node(word, LONGEST_KEY)?;
     match top {
-        Some(Node::Leaf(_)) => Err(Flaw::RootLeaf),
-        Some(Node::Prefix { .. }) => Err(Flaw::RootPrefix),
+        Some(Node::Leaf(_)) => Err(no_root[0]),
+        Some(Node::Prefix { .. }) => Err(no_root[1]),
         _ => {
             reader.met.add(Shape::EmptyRoot, u64::from(top.is_none()));
             Ok(Tree { top, entered: reader.entered })
@@ -214,7 +214,7 @@ impl Reader<'_> {
     fn chain(&mut self, cell: usize, kind: usize, left: usize) -> Result<Node, Flaw> {
         let run = self.block[cell * CELL + kind..cell * CELL + 0x1C].to_vec();
         if run.len() > left {
-            return Err(Flaw::TooDeep);
+            return Err(Flaw::DeepChain);
         }
         self.met.add(Shape::Chain, 1);
         let child = self.node(self.word(cell, 0x1C), left - run.len())?.ok_or(Flaw::ChainWithoutChild)?;
@@ -224,7 +224,7 @@ impl Reader<'_> {
     /// A sparse node: the children by position, and an order word that must be the one of their characters.
     fn sparse(&mut self, cell: usize, left: usize) -> Result<Node, Flaw> {
         if left == 0 {
-            return Err(Flaw::TooDeep);
+            return Err(Flaw::DeepSparse);
         }
         let words: Vec<u32> = (0..6).map(|position| self.word(cell, 4 * position)).collect();
         let count = words.iter().take_while(|word| **word != 0).count();
@@ -251,7 +251,7 @@ impl Reader<'_> {
     /// A split head and its mids.
     fn split(&mut self, cell: usize, left: usize) -> Result<Node, Flaw> {
         if left == 0 {
-            return Err(Flaw::TooDeep);
+            return Err(Flaw::DeepSplit);
         }
         let mut mids = BTreeMap::new();
         for leading in 0..4 {
@@ -319,7 +319,9 @@ impl Reader<'_> {
         }
         self.met.add(Shape::Prefix, 1);
         match self.node(self.word(cell, 0x1C), left)? {
-            None | Some(Node::Leaf(_)) | Some(Node::Prefix { .. }) => Err(Flaw::PrefixLink),
+            None => Err(Flaw::PrefixOverNone),
+            Some(Node::Leaf(_)) => Err(Flaw::PrefixOverLeaf),
+            Some(Node::Prefix { .. }) => Err(Flaw::PrefixOverPrefix),
             Some(node) => Ok(Node::Prefix { place: Place::Held(cell), value, linked: Box::new(node) }),
         }
     }

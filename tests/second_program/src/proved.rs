@@ -6,7 +6,14 @@ use crate::desk::Question;
 extern "C" {
     fn exports_format(block: *mut u8, block_len: usize) -> u8;
     fn exports_validate(block: *const u8, block_len: usize) -> u8;
-    fn exports_insert(block: *mut u8, block_len: usize, key: *const u8, key_len: usize, value: u32, count: *mut u32) -> u8;
+    fn exports_insert(
+        block: *mut u8,
+        block_len: usize,
+        key: *const u8,
+        key_len: usize,
+        value: u32,
+        count: *mut u32,
+    ) -> u8;
     fn exports_get(block: *const u8, block_len: usize, key: *const u8, key_len: usize, value: *mut u32) -> u8;
     fn exports_next_key(
         block: *const u8,

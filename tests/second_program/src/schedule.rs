@@ -2,24 +2,22 @@
 
 use crate::calls::Call;
 use crate::compare::Comparison;
-use crate::foreign::{foreign_block, junk, order_word_block};
+use crate::crafted::crafted_block;
+use crate::foreign::{foreign_block, junk};
 use crate::generate::{Scene, Weights, FOREIGN, HISTORY, HOSTILE, UNLAWFUL};
-use crate::hostile::{crafted_block, damage, noise_block, unlawful_block};
+use crate::hostile::{damage, noise_block, unlawful_block};
 use crate::ledger::Ledger;
 use crate::model::{Book, LONGEST_KEY};
 use crate::random::Random;
 
-/// Every order word there is, then scenes of random calls until the target is reached; each scene has its own seed.
+/// Scenes of random calls until the target is reached; each scene has its own seed, so that it can be met again.
 pub fn run(comparison: &mut Comparison, target: u64) {
-    for order in 0..=u16::MAX {
-        try_order_word(comparison, order);
-    }
     comparison.seed = 0;
     while comparison.coverage.calls < target {
         comparison.seed += 1;
         let mut random = Random::seeded(comparison.seed);
         let cells = draw_cells(comparison, &mut random);
-        match random.weighted(&[20, 45, 35]) {
+        match random.weighted(&[18, 40, 42]) {
             0 => history(comparison, cells, &mut random),
             1 => foreign(comparison, cells, &mut random),
             _ => hostile(comparison, cells, &mut random),
@@ -30,7 +28,7 @@ pub fn run(comparison: &mut Comparison, target: u64) {
 /// The number of cells of the next block: under 64 unless the larger ones lag behind their share.
 fn draw_cells(comparison: &Comparison, random: &mut Random) -> usize {
     let calls = comparison.coverage.calls;
-    let large = (calls - comparison.coverage.small_calls) * 100 < calls * 7;
+    let large = (calls - comparison.coverage.small_calls) * 100 < calls * 9;
     match (large, random.below(10)) {
         (false, 0 | 1) => random.between(4, 8),
         (false, 2..=4) => random.between(9, 20),
@@ -41,28 +39,15 @@ fn draw_cells(comparison: &Comparison, random: &mut Random) -> usize {
     }
 }
 
-/// Judges the sparse node of one order word, and uses it where it is sound.
-fn try_order_word(comparison: &mut Comparison, order: u16) {
-    comparison.seed = u64::from(order);
-    let mut random = Random::seeded(u64::from(order) + 0x1_0000);
-    let mut block = order_word_block(order, &mut random);
-    let answer = comparison.step(&mut block, &Call::Validate).answer;
-    if answer == 0 {
-        let mut scene = Scene::drawn(&mut random);
-        remember_shown(&mut scene, &block);
-        calls(comparison, &mut block, &mut scene, &FOREIGN, 4, &mut random);
-    }
-}
-
 /// Lets a scene draw its keys from those that a sound block shows.
-fn remember_shown(scene: &mut Scene, block: &[u8]) {
+pub fn remember_shown(scene: &mut Scene, block: &[u8]) {
     if let Ok(book) = Book::decode(block) {
         scene.remember(book.root.table().into_keys());
     }
 }
 
 /// So many random calls on a block.
-fn calls(
+pub fn calls(
     comparison: &mut Comparison,
     block: &mut Vec<u8>,
     scene: &mut Scene,
@@ -131,7 +116,7 @@ fn damaged(comparison: &mut Comparison, block: &[u8], scene: &mut Scene, random:
 /// A block that owes nothing to a sound one: crafted, noise, too deep, or of unlawful length.
 fn hostile(comparison: &mut Comparison, cells: usize, random: &mut Random) {
     let mut scene = Scene::drawn(random);
-    let (mut block, weights) = match random.weighted(&[30, 10, 25, 35]) {
+    let (mut block, weights) = match random.weighted(&[45, 8, 20, 27]) {
         0 => (crafted_block(cells, random), &HOSTILE),
         1 => (noise_block(cells, random), &HOSTILE),
         2 => {

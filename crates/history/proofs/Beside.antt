@@ -1,0 +1,100 @@
+-- The invariant of a run: a block beside its ledger; and how it follows for the block that a call leaves.
+use mathlib.Core.Path.{_≡_, refl, sym, ap, _∙_, subst}
+use mathlib.Core.Bool.{Bool, true, false}
+use mathlib.Core.List.{List}
+use mathlib.Core.Option.{Option, none, some}
+use Prim.Native.Nat.{ℕ}
+use Rattle.cells.specs.Choice.{pick}
+use Rattle.cells.specs.Bytes.{IsBytes}
+use Rattle.cells.proofs.Choice.{never}
+use Rattle.nodes.specs.Layout.{Layout}
+use Rattle.trees.specs.Lookup.{Table, emptyTable}
+use Rattle.store.specs.Trailer.{layoutOf, slots, validSlot, inUse}
+use Rattle.store.proofs.After.{After, slotShown}
+use Rattle.store.proofs.Format.{Fresh}
+use Rattle.history.specs.Ledger.{Ledger, emptyLedger}
+use Rattle.history.specs.Demand3.{Agrees}
+
+-- a block of bytes with so many slots that agrees with a ledger
+pub record Beside (count : ℕ) (block : List ℕ) (ledger : Ledger) : Type 0 where
+  pub agrees : Agrees block ledger
+  pub bytes : IsBytes block
+  pub counts : slots (layoutOf block) ≡ count
+
+-- a slot, whether it is in use and what it shows, beside what the ledger has in it
+pub record SlotHolds (used : Bool) (shows : Table) (table : Option Table) : Type 0 where
+  pub when-none : table ≡ none → used ≡ false
+  pub when-some : (t : Table) → table ≡ some t → used ≡ true
+  pub same : (t : Table) → table ≡ some t → (key : List ℕ) → shows key ≡ t key
+
+tableOr : Option Table → Table
+tableOr none = emptyTable
+tableOr (some t) = t
+
+-- a slot in use that shows a table, and one not in use
+pub holds-some : (shows table : Table) → ((key : List ℕ) → shows key ≡ table key) → SlotHolds true shows (some table)
+unfolding tableOr
+holds-some shows table same =
+    record {
+      when-none = λ e. never (sym e);
+      when-some = λ t e. refl;
+      same = λ t e key. same key ∙ ap (λ (o : Option Table). tableOr o key) e;
+    }
+
+pub holds-none : (shows : Table) → SlotHolds false shows none
+holds-none shows = record { when-none = λ e. refl; when-some = λ t e. never e; same = λ t e. never e }
+
+-- one slot replaced, the others as they were
+pub holds-replaced : (here : Bool) {used old : Bool} {shows showed : Table} {table was : Option Table} → SlotHolds used shows table → SlotHolds old showed was
+    → SlotHolds (pick here used old) (pick here shows showed) (pick here table was)
+holds-replaced true new kept = new
+holds-replaced false new kept = kept
+
+pub holds-dropped : (here : Bool) {old : Bool} {showed : Table} {was : Option Table} → SlotHolds old showed was
+    → SlotHolds (pick here false old) showed (pick here none was)
+holds-dropped true kept = holds-none _
+holds-dropped false kept = kept
+
+-- every lawful slot of a block beside a ledger
+pub slot-holds : (count : ℕ) (b : List ℕ) (l : Ledger) → Beside count b l → (slot : ℕ) → validSlot (layoutOf b) slot ≡ true
+    → SlotHolds (inUse (layoutOf b) b slot) (slotShown b slot) (l .held slot)
+slot-holds count b l beside slot lawful =
+    let a = beside .agrees .held slot lawful in
+    record { when-none = a .unused; when-some = a .used; same = a .shows }
+
+-- the invariant for a block made from another one
+module _ (count : ℕ) (b b′ : List ℕ) (same : slots (layoutOf b) ≡ count) (present : Table) (used : ℕ → Bool) (held : ℕ → Table)
+    (a : After b b′ present used held) where
+  pub beside-after : (l : Ledger) → ((key : List ℕ) → present key ≡ l .present key)
+      → ((slot : ℕ) → validSlot (layoutOf b) slot ≡ true → SlotHolds (used slot) (held slot) (l .held slot)) → Beside count b′ l
+  beside-after l shows holds =
+      let holds′ : (slot : ℕ) → validSlot (layoutOf b′) slot ≡ true → SlotHolds (used slot) (held slot) (l .held slot) =
+      λ slot lawful. holds slot (subst (λ (layout : Layout). validSlot layout slot ≡ true) (a .layout) lawful) in
+      record {
+        agrees = record {
+          size = a .size;
+          valid = a .valid;
+          present = λ key. a .shows key ∙ shows key;
+          held = λ slot lawful. record {
+            unused = λ e. a .uses slot lawful ∙ holds′ slot lawful .when-none e;
+            used = λ t e. a .uses slot lawful ∙ holds′ slot lawful .when-some t e;
+            shows = λ t e key. a .slot-shows slot lawful (holds′ slot lawful .when-some t e) key ∙ holds′ slot lawful .same t e key;
+          };
+        };
+        bytes = a .bytes;
+        counts = ap slots (a .layout) ∙ same;
+      }
+
+-- a fresh block stands beside the empty ledger
+pub beside-fresh : (b fresh : List ℕ) → Fresh b fresh → Beside (slots (layoutOf fresh)) fresh emptyLedger
+beside-fresh b fresh f =
+    record {
+      agrees = record {
+        size = f .size;
+        valid = f .valid;
+        present = f .shows;
+        held = λ slot lawful. record { unused = λ e. f .unused slot; used = λ t e. never e; shows = λ t e. never e };
+      };
+      bytes = f .bytes;
+      counts = refl;
+    }

@@ -1,0 +1,154 @@
+-- None of the dummies meets demand 3: each is refuted by a list of one to three calls on a block of four cells.
+use mathlib.Core.Path.{_≡_, refl, sym, ap, _∙_}
+use mathlib.Core.Logic.{_≢_}
+use mathlib.Core.Bool.{true, false}
+use mathlib.Core.List.{List, [], _∷_}
+use mathlib.Core.Option.{none, some}
+use Prim.Native.Nat.{ℕ, _<_}
+use native.Mathlib.Decide.{ℕ-discrete}
+use native.Mathlib.Omega.{arith}
+use lib.ListN.{length, getD}
+use borrow.Author.Tests.{ne-eqb}
+use Rattle.cells.specs.Choice.{bind}
+use Rattle.cells.specs.Bytes.{IsBytes, zeros}
+use Rattle.cells.specs.Word.{wordAt, withWord}
+use Rattle.cells.specs.Memory.{memoryOf}
+use Rattle.cells.specs.Writes.{written, wordWrites}
+use Rattle.cells.specs.Occurrences.{occurrences, all, distinct, select}
+use Rattle.cells.proofs.Choice.{never}
+use Rattle.cells.proofs.Words.{set-bytes, bytes-zeros}
+use Rattle.nodes.specs.Layout.{trailerCells, usable, keyLimit}
+use Rattle.nodes.specs.Pointer.{byKind, pointer, leafWord}
+use Rattle.nodes.specs.Chain.{chainChild}
+use Rattle.nodes.specs.Split.{gather, under}
+use Rattle.nodes.specs.Node.{chainNode, plain, readAt, read}
+use Rattle.trees.specs.Tree.{spread, step, tree}
+use Rattle.trees.specs.Root.{isRoot, rootTree, onceVisited, cellsOf}
+use Rattle.trees.specs.Lookup.{emptyTable, lookup, sameKey, update}
+use Rattle.insertion.specs.NewCells.{blank, chainCell}
+use Rattle.insertion.specs.Built.{allocate, room, chainWith, chainOver}
+use Rattle.insertion.specs.SetChild.{chainSet, setChild}
+use Rattle.insertion.specs.Build.{wordAside, valueAside, putBack, childOf, pathCopy, valueAt, build, cellsNeeded}
+use Rattle.insertion.specs.Commit.{numberFrom, buildWrites}
+use Rattle.store.specs.Trailer.{badSize, layoutOf, rootWord, slots, validSlot, slotAt, inUse, everySlot, validTrailer}
+use Rattle.store.specs.Sound.{slotRoots, roots, soundWith, reachedFrom}
+use Rattle.store.specs.Free.{countUp, allocationOrder, free}
+use Rattle.store.specs.Refusal.{firstRefusal, overLong, badKey, badNewKey, badValue}
+use Rattle.store.specs.Refusal.{Changed}
+use Rattle.store.specs.Format.{formatted, format}
+use Rattle.store.specs.Read.{shown}
+use Rattle.store.specs.Insert.{blockBuild, insertWrites, insert}
+use Rattle.store.specs.Snapshots.{withBit, snapshotBlock, restoreBlock, snapshot, restore}
+use Rattle.store.proofs.After.{slotShown}
+use Rattle.store.proofs.Format.{format-done}
+use Rattle.history.specs.Calls.{Call, inserting, snapshotting, restoring, outcome, run, answersOf}
+use Rattle.history.specs.Ledger.{emptyLedger, noteInsert, ledgerSlot, noteSnapshot, noteHeld, noteRestore, noteCall, ledgerAfter, ledgerAnswers, gotNoRoom, fedBy}
+use Rattle.history.specs.Demand3.{ledgerBeside, Demand3}
+use Rattle.history.specs.Dummies.{alwaysNo, onlyFormats, insertsNothing, rootlessBlock, storesNoRoot, restoresNothing, inventsCount}
+
+-- a key of one letter, a fresh block of four cells, and the lists of calls
+abbrev letter : List ℕ
+letter = 0x41 ∷ []
+
+letter-bytes : IsBytes letter
+unfolding zeros
+letter-bytes = set-bytes (zeros 1) 0 0x41 (bytes-zeros 1) (omega arith)
+
+abbrev fresh : List ℕ
+fresh = format (zeros 128) .block
+
+sized : badSize (zeros 128) ≡ false
+unfolding badSize zeros
+sized = refl
+
+formats : format (zeros 128) .answer ≡ 0
+formats = format-done (zeros 128) sized
+
+abbrev insertOne : Call
+insertOne = inserting letter 0
+
+abbrev thenSnapshot : List Call
+thenSnapshot = insertOne ∷ snapshotting 1 ∷ []
+
+abbrev thenRestore : List Call
+thenRestore = snapshotting 1 ∷ insertOne ∷ restoring 1 ∷ []
+
+-- always no: formatting must answer 0
+pub always-no-refuted : (number : ℕ) → number ≢ 0 → Demand3 (alwaysNo number) → ⊥
+unfolding alwaysNo
+always-no-refuted number other d = other (ap (λ (c : Changed). c .answer) (d .formats (zeros 128)) ∙ formats)
+
+-- always no once formatted: 7 needs a full block, and any other answer to a good key and value is the ledger's 0
+insert-fits : length (free (layoutOf fresh) fresh) < cellsNeeded (layoutOf fresh) (memoryOf fresh) (rootWord (layoutOf fresh) fresh) letter → ⊥
+unfolding bind zeros wordAt withWord memoryOf written wordWrites occurrences all distinct select trailerCells usable keyLimit byKind pointer leafWord chainChild gather under chainNode plain readAt read spread step tree isRoot rootTree onceVisited cellsOf blank chainCell allocate room chainWith chainOver chainSet setChild wordAside valueAside putBack childOf pathCopy valueAt build cellsNeeded badSize layoutOf rootWord slots validSlot slotAt inUse everySlot validTrailer slotRoots roots soundWith reachedFrom countUp allocationOrder free firstRefusal formatted format
+insert-fits more = omega (arith, more)
+
+ledger-zero : (number : ℕ) → number ≢ 7 → ledgerAnswers (slots (layoutOf fresh)) emptyLedger (fedBy (onlyFormats number) fresh (insertOne ∷ [])) ≡ 0 ∷ []
+unfolding ledgerAnswers fedBy onlyFormats outcome gotNoRoom noteCall noteInsert badNewKey badKey overLong keyLimit badValue
+ledger-zero number other = rw (ne-eqb number 7 other)
+
+answers-number : (number : ℕ) → answersOf (onlyFormats number) fresh (insertOne ∷ []) ≡ number ∷ []
+unfolding answersOf onlyFormats outcome
+answers-number number = refl
+
+pub only-formats-refuted : (number : ℕ) → number ≢ 0 → Demand3 (onlyFormats number) → ⊥
+unfolding onlyFormats outcome run
+only-formats-refuted number other d = elim (ℕ-discrete number 7) [
+  | yes e ↦ insert-fits (d .atCall (zeros 128) formats [] insertOne [] (letter-bytes, tt) .kind .lacks e .more)
+  | no n ↦
+      let same = sym (answers-number number) ∙ d .afterList (zeros 128) formats (insertOne ∷ []) (letter-bytes, tt) .answers ∙ ledger-zero number n in
+      other (ap (λ (l : List ℕ). getD l 0 0) same)
+]
+
+-- inserting nothing: the ledger has the key, the block does not show it
+nothing-inserted :
+    (shown (run insertsNothing fresh (insertOne ∷ [])) letter ≡ none)
+    × (ledgerBeside insertsNothing fresh (insertOne ∷ []) .present letter ≡ some 0)
+unfolding bind zeros wordAt withWord memoryOf written wordWrites occurrences all distinct select trailerCells usable keyLimit byKind pointer leafWord chainChild gather under chainNode plain readAt read spread step tree isRoot rootTree onceVisited cellsOf lookup sameKey update blank chainCell allocate room chainWith chainOver chainSet setChild wordAside valueAside putBack childOf pathCopy valueAt build cellsNeeded numberFrom buildWrites badSize layoutOf rootWord slots validSlot slotAt inUse everySlot validTrailer slotRoots roots soundWith reachedFrom countUp allocationOrder free firstRefusal overLong badKey badNewKey badValue formatted format blockBuild insertWrites insert withBit snapshotBlock restoreBlock snapshot restore outcome run ledgerSlot noteInsert noteSnapshot noteHeld noteRestore noteCall ledgerAfter gotNoRoom fedBy insertsNothing
+nothing-inserted = (refl, refl)
+
+pub inserts-nothing-refuted : Demand3 insertsNothing → ⊥
+unfolding insertsNothing
+inserts-nothing-refuted d =
+    never (sym (nothing-inserted .0) ∙ d .afterList (zeros 128) formats (insertOne ∷ []) (letter-bytes, tt) .agrees .present letter ∙ nothing-inserted .1)
+
+-- a snapshot that stores no root: the ledger's slot has the key, the block's slot does not show it
+no-root-stored :
+    (ledgerBeside storesNoRoot fresh thenSnapshot .held 1 ≡ some (update emptyTable letter 0))
+    × (slotShown (run storesNoRoot fresh thenSnapshot) 1 letter ≡ none)
+    × (update emptyTable letter 0 letter ≡ some 0)
+    × (validSlot (layoutOf (run storesNoRoot fresh thenSnapshot)) 1 ≡ true)
+unfolding bind zeros wordAt withWord memoryOf written wordWrites occurrences all distinct select trailerCells usable keyLimit byKind pointer leafWord chainChild gather under chainNode plain readAt read spread step tree isRoot rootTree onceVisited cellsOf lookup sameKey update blank chainCell allocate room chainWith chainOver chainSet setChild wordAside valueAside putBack childOf pathCopy valueAt build cellsNeeded numberFrom buildWrites badSize layoutOf rootWord slots validSlot slotAt inUse everySlot validTrailer slotRoots roots soundWith reachedFrom countUp allocationOrder free firstRefusal overLong badKey badNewKey badValue formatted format blockBuild insertWrites insert withBit snapshotBlock restoreBlock snapshot restore outcome run ledgerSlot noteInsert noteSnapshot noteHeld noteRestore noteCall ledgerAfter gotNoRoom fedBy rootlessBlock storesNoRoot
+no-root-stored = (refl, refl, refl, refl)
+
+pub stores-no-root-refuted : Demand3 storesNoRoot → ⊥
+unfolding storesNoRoot
+stores-no-root-refuted d =
+    let slot = d .afterList (zeros 128) formats thenSnapshot (letter-bytes, (tt, tt)) .agrees .held 1 (no-root-stored .3) in
+    never (sym (no-root-stored .1) ∙ slot .shows (update emptyTable letter 0) (no-root-stored .0) letter ∙ no-root-stored .2)
+
+-- a restore that alters nothing: the ledger's present table is empty again, the block still shows the key
+nothing-restored :
+    (ledgerBeside restoresNothing fresh thenRestore .present letter ≡ none)
+    × (shown (run restoresNothing fresh thenRestore) letter ≡ some 0)
+unfolding bind zeros wordAt withWord memoryOf written wordWrites occurrences all distinct select trailerCells usable keyLimit byKind pointer leafWord chainChild gather under chainNode plain readAt read spread step tree isRoot rootTree onceVisited cellsOf lookup sameKey update blank chainCell allocate room chainWith chainOver chainSet setChild wordAside valueAside putBack childOf pathCopy valueAt build cellsNeeded numberFrom buildWrites badSize layoutOf rootWord slots validSlot slotAt inUse everySlot validTrailer slotRoots roots soundWith reachedFrom countUp allocationOrder free firstRefusal overLong badKey badNewKey badValue formatted format blockBuild insertWrites insert withBit snapshotBlock restoreBlock snapshot restore outcome run ledgerSlot noteInsert noteSnapshot noteHeld noteRestore noteCall ledgerAfter gotNoRoom fedBy restoresNothing
+nothing-restored = (refl, refl)
+
+pub restores-nothing-refuted : Demand3 restoresNothing → ⊥
+unfolding restoresNothing
+restores-nothing-refuted d =
+    never (sym (nothing-restored .0) ∙ sym (d .afterList (zeros 128) formats thenRestore (tt, (letter-bytes, (tt, tt))) .agrees .present letter) ∙ nothing-restored .1)
+
+-- an invented count: the build lays down one cell, and two are counted
+count-invented :
+    (outcome inventsCount fresh insertOne .answer ≡ 0)
+    × (outcome inventsCount fresh insertOne .count ≡ 2)
+    × (length (blockBuild fresh letter 0 .cells) ≡ 1)
+unfolding bind zeros wordAt withWord memoryOf written wordWrites occurrences all distinct select trailerCells usable keyLimit byKind pointer leafWord chainChild gather under chainNode plain readAt read spread step tree isRoot rootTree onceVisited cellsOf lookup sameKey update blank chainCell allocate room chainWith chainOver chainSet setChild wordAside valueAside putBack childOf pathCopy valueAt build cellsNeeded numberFrom buildWrites badSize layoutOf rootWord slots validSlot slotAt inUse everySlot validTrailer slotRoots roots soundWith reachedFrom countUp allocationOrder free firstRefusal overLong badKey badNewKey badValue formatted format blockBuild insertWrites insert withBit snapshotBlock restoreBlock snapshot restore outcome run ledgerSlot noteInsert noteSnapshot noteHeld noteRestore noteCall ledgerAfter gotNoRoom fedBy inventsCount
+count-invented = (refl, refl, refl)
+
+pub invents-count-refuted : Demand3 inventsCount → ⊥
+unfolding inventsCount run
+invents-count-refuted d =
+    let laid = d .atCall (zeros 128) formats [] insertOne [] (letter-bytes, tt) .kind .laid (count-invented .0) in
+    omega (arith, laid .count, count-invented .1, count-invented .2)

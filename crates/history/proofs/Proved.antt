@@ -1,0 +1,30 @@
+-- Demand 3 of 00, proved of the calls as 01 defines them: from every fresh block and for every list of calls.
+use mathlib.Core.Path.{_≡_, refl}
+use mathlib.Core.List.{List, _∷_, _++_}
+use Prim.Native.Nat.{ℕ}
+use Rattle.store.specs.Trailer.{layoutOf, slots}
+use Rattle.store.specs.Format.{format}
+use Rattle.store.proofs.Format.{format-law}
+use Rattle.history.specs.Calls.{Call, ours, run, KeysAreBytes}
+use Rattle.history.specs.Ledger.{emptyLedger}
+use Rattle.history.specs.Demand3.{AfterList, AtCall, Demand3}
+use Rattle.history.proofs.Beside.{beside-fresh}
+use Rattle.history.proofs.OneCall.{call-at}
+use Rattle.history.proofs.Lists.{Ran, list-law, keys-before, key-at}
+
+module _ (start : List ℕ) (done : format start .answer ≡ 0) where
+  -- a run from the fresh block
+  fresh-ran : (calls : List Call) → KeysAreBytes calls → Ran (slots (layoutOf (format start .block))) (format start .block) emptyLedger calls
+  fresh-ran = list-law _ (format start .block) emptyLedger (beside-fresh start (format start .block) (format-law start done))
+
+  pub after-list : (calls : List Call) → KeysAreBytes calls → AfterList ours (format start .block) calls
+  after-list calls keys = let ran = fresh-ran calls keys in record { answers = ran .answers; agrees = ran .beside .agrees }
+
+  pub at-call : (before : List Call) (call : Call) (after : List Call) → KeysAreBytes (before ++ call ∷ after)
+      → AtCall ours (run ours (format start .block) before) call
+  at-call before call after keys =
+      call-at _ _ _ (fresh-ran before (keys-before before call after keys) .beside) call (key-at before call after keys)
+
+pub demand3 : Demand3 ours
+unfolding ours
+demand3 = record { formats = λ start. refl; afterList = after-list; atCall = at-call }

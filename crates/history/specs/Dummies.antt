@@ -1,0 +1,71 @@
+-- Implementations that do not do what 01 asks. 01: "These dummies have to fall"; that none of them meets demand 3 is proved.
+use mathlib.Core.List.{List}
+use Prim.Native.Nat.{ℕ, _+_}
+use lib.ListN.{set}
+use Rattle.cells.specs.Word.{withWord}
+use Rattle.nodes.specs.Layout.{Layout}
+use Rattle.store.specs.Trailer.{layoutOf, slotAt, bitsAt}
+use Rattle.store.specs.Refusal.{Changed, changedBy}
+use Rattle.store.specs.Format.{format}
+use Rattle.store.specs.Insert.{Inserted, insert}
+use Rattle.store.specs.Snapshots.{withBit, slotRefusals, snapshot, restore, release}
+use Rattle.history.specs.Calls.{Implementation}
+
+-- a refusal of any call
+abbrev refuses : ℕ → List ℕ → Changed
+refuses number block = record { answer = number; block = block }
+
+abbrev refusesInsert : ℕ → List ℕ → Inserted
+refusesInsert number block = record { answer = number; count = 0; block = block }
+
+-- 01: "the book that always says no"; the first will not even format
+unfoldable pub alwaysNo : ℕ → Implementation
+alwaysNo number =
+    record {
+      formatCall = refuses number;
+      insertCall = λ block key value. refusesInsert number block;
+      snapshotCall = λ block slot. refuses number block;
+      restoreCall = λ block slot. refuses number block;
+      releaseCall = λ block slot. refuses number block;
+    }
+
+unfoldable pub onlyFormats : ℕ → Implementation
+onlyFormats number =
+    record {
+      formatCall = format;
+      insertCall = λ block key value. refusesInsert number block;
+      snapshotCall = λ block slot. refuses number block;
+      restoreCall = λ block slot. refuses number block;
+      releaseCall = λ block slot. refuses number block;
+    }
+
+-- 01: "an entry that does nothing": the answer and the count as ours
+abbrev insertNothing : List ℕ → List ℕ → ℕ → Inserted
+insertNothing block key value = let i = insert block key value in record { answer = i .answer; count = i .count; block = block }
+
+unfoldable pub insertsNothing : Implementation
+insertsNothing = record { formatCall = format; insertCall = insertNothing; snapshotCall = snapshot; restoreCall = restore; releaseCall = release }
+
+-- 01: "marks that store no root": the slot is in use, with the word 0
+unfoldable pub rootlessBlock : Layout → List ℕ → ℕ → List ℕ
+rootlessBlock layout block slot = withWord (set block (bitsAt layout) (withBit layout block slot)) (slotAt layout slot) 0
+
+abbrev rootlessSnapshot : List ℕ → ℕ → Changed
+rootlessSnapshot block slot = changedBy (slotRefusals block slot) block (rootlessBlock (layoutOf block) block slot)
+
+unfoldable pub storesNoRoot : Implementation
+storesNoRoot = record { formatCall = format; insertCall = insert; snapshotCall = rootlessSnapshot; restoreCall = restore; releaseCall = release }
+
+-- 01: "a going back that alters nothing": the answer as ours
+abbrev restoreNothing : List ℕ → ℕ → Changed
+restoreNothing block slot = record { answer = restore block slot .answer; block = block }
+
+unfoldable pub restoresNothing : Implementation
+restoresNothing = record { formatCall = format; insertCall = insert; snapshotCall = snapshot; restoreCall = restoreNothing; releaseCall = release }
+
+-- 01: "an invented cell count": all else as ours
+abbrev insertOvercounted : List ℕ → List ℕ → ℕ → Inserted
+insertOvercounted block key value = let i = insert block key value in record { answer = i .answer; count = i .count + 1; block = i .block }
+
+unfoldable pub inventsCount : Implementation
+inventsCount = record { formatCall = format; insertCall = insertOvercounted; snapshotCall = snapshot; restoreCall = restore; releaseCall = release }

@@ -1,0 +1,127 @@
+-- Laws of judgements: a part that fails, parts one after the other, and a walk along a range.
+use mathlib.Core.Path.{_≡_, sym, ap, _∙_}
+use mathlib.Core.Logic.{_≢_}
+use mathlib.Core.Bool.{Bool, true, false}
+use mathlib.Core.List.{List, [], _∷_, _++_}
+use mathlib.Core.Option.{Option, none, some}
+use Prim.Native.Nat.{ℕ, suc, _+_, _*_}
+use native.Mathlib.Omega.{arith}
+use lib.ListN.{getD, set}
+use Rattle.cells.specs.Choice.{bind}
+use Rattle.cells.specs.Word.{wordAt}
+use Rattle.cells.proofs.Choice.{absurd-bool, absurd-false}
+use Rattle.nodes.specs.Split.{gather}
+use Rattle.trees.specs.Visit.{admit, visit, Judged}
+use Rattle.trees.specs.Parts.{foundAt}
+use Rattle.trees.proofs.Joins.{joined, bind-assoc, bind-same, bind-swap, bind-of, bind-none}
+use Rattle.trees.proofs.Gathered.{gather-none, gather-first}
+use Rattle.trees.proofs.Admit.{admit-none, admit-twice, admit-new, admit-append}
+
+module _ (stamp : ℕ) where
+  -- nothing found, no cells found, one cell, and one list behind the other
+  pub visit-nothing : (stamps : List ℕ) → visit stamp none stamps ≡ none
+  visit-nothing stamps = bind-none (λ cs. admit stamp cs stamps)
+
+  pub visit-found : (cs stamps : List ℕ) → visit stamp (some cs) stamps ≡ admit stamp cs stamps
+  visit-found cs stamps = bind-of cs (λ cs. admit stamp cs stamps)
+
+  pub visit-empty : (stamps : List ℕ) → visit stamp (some []) stamps ≡ some stamps
+  visit-empty stamps = visit-found [] stamps ∙ admit-none stamp stamps
+
+  pub visit-joined : (o p : Option (List ℕ)) (stamps : List ℕ)
+      → visit stamp (joined o p) stamps ≡ bind (visit stamp o stamps) (λ after. visit stamp p after)
+  visit-joined o p stamps =
+      bind-assoc o (λ a. bind p (λ b. some (a ++ b))) (λ cs. admit stamp cs stamps)
+      ∙ bind-same o _ _ first ∙ sym (bind-assoc o (λ a. admit stamp a stamps) (λ after. visit stamp p after))
+    where
+      first : (a : List ℕ) → visit stamp (bind p (λ b. some (a ++ b))) stamps ≡ bind (admit stamp a stamps) (λ after. visit stamp p after)
+      first a =
+          bind-assoc p (λ b. some (a ++ b)) (λ cs. admit stamp cs stamps)
+          ∙ bind-same p _ _ (λ b. visit-found (a ++ b) stamps ∙ admit-append stamp a b stamps)
+          ∙ bind-swap p (admit stamp a stamps) (λ b after. admit stamp b after)
+
+-- a judgement from the visit itself, and from a visit that comes to the same
+module _ (cells : Option (List ℕ)) (stamp : ℕ) (before after : List ℕ) where
+  pub judged-passed : visit stamp cells before ≡ some after → Judged cells stamp before after true
+  judged-passed e = record { accepted = λ t. e; refused = λ t. absurd-bool t }
+
+  pub judged-failed : visit stamp cells before ≡ none → Judged cells stamp before after false
+  judged-failed e = record { accepted = λ t. absurd-false t; refused = λ t. e }
+
+  pub judged-by : (other : Option (List ℕ)) (between : List ℕ) (passed : Bool) → visit stamp cells before ≡ visit stamp other between
+      → Judged other stamp between after passed → Judged cells stamp before after passed
+  judged-by other between passed e judged =
+      record { accepted = λ t. e ∙ judged .accepted t; refused = λ t. e ∙ judged .refused t }
+
+  pub judged-same : (other : Option (List ℕ)) (passed : Bool) → cells ≡ other → Judged other stamp before after passed
+      → Judged cells stamp before after passed
+  judged-same other passed e judged = judged-by other before passed (ap (λ o. visit stamp o before) e) judged
+
+  -- nothing found fails, and no cells pass
+  pub judged-none : cells ≡ none → Judged cells stamp before after false
+  judged-none e = judged-failed (ap (λ o. visit stamp o before) e ∙ visit-nothing stamp before)
+
+pub judged-empty : (cells : Option (List ℕ)) (stamp : ℕ) (stamps : List ℕ) → cells ≡ some [] → Judged cells stamp stamps stamps true
+judged-empty cells stamp stamps e =
+    judged-passed cells stamp stamps stamps (ap (λ o. visit stamp o stamps) e ∙ visit-empty stamp stamps)
+
+-- one cell
+pub cell-twice : (c stamp : ℕ) (before after : List ℕ) → getD before c 0 ≡ stamp → Judged (some (c ∷ [])) stamp before after false
+cell-twice c stamp before after has =
+    judged-failed (some (c ∷ [])) stamp before after (visit-found stamp (c ∷ []) before ∙ admit-twice stamp c [] before has)
+
+pub cell-new : (c stamp : ℕ) (before : List ℕ) → getD before c 0 ≢ stamp → Judged (some (c ∷ [])) stamp before (set before c stamp) true
+cell-new c stamp before other =
+    judged-passed (some (c ∷ [])) stamp before (set before c stamp)
+    (visit-found stamp (c ∷ []) before ∙ admit-new stamp c [] before other ∙ admit-none stamp (set before c stamp))
+
+-- two parts, of which the first fails, or passes and leaves the verdict to the second
+module _ (cells first second : Option (List ℕ)) (stamp : ℕ) (before between after : List ℕ) (passed : Bool)
+    (parts : cells ≡ joined first second) (judged : Judged first stamp before between passed) where
+  parts-visit : visit stamp cells before ≡ bind (visit stamp first before) (λ after. visit stamp second after)
+  parts-visit = ap (λ o. visit stamp o before) parts ∙ visit-joined stamp first second before
+
+  pub first-failed : passed ≡ false → Judged cells stamp before after false
+  first-failed t =
+      judged-failed cells stamp before after
+      (parts-visit ∙ ap (λ o. bind o (λ after. visit stamp second after)) (judged .refused t) ∙ bind-none (λ after. visit stamp second after))
+
+  pub then-second : (result : Bool) → passed ≡ true → Judged second stamp between after result → Judged cells stamp before after result
+  then-second result t =
+      judged-by cells stamp before after second between result
+      (parts-visit ∙ ap (λ o. bind o (λ after. visit stamp second after)) (judged .accepted t) ∙ bind-of between (λ after. visit stamp second after))
+
+-- a walk along a range, with what is left of it
+module _ (cells : Option (List ℕ)) (f : ℕ → Option (List ℕ)) (stamp : ℕ) (before : List ℕ) where
+  pub walk-starts : (total left : ℕ) → cells ≡ gather f total 0 → left ≡ total → visit stamp cells before ≡ visit stamp (gather f left 0) before
+  walk-starts total left e all = ap (λ o. visit stamp o before) e ∙ ap (λ n. visit stamp (gather f n 0) before) (sym all)
+
+  module _ (i count : ℕ) (here : List ℕ) (walked : visit stamp cells before ≡ visit stamp (gather f count i) here) where
+    pub walk-ends : count ≡ 0 → Judged cells stamp before here true
+    walk-ends z =
+        judged-passed cells stamp before here
+        (walked ∙ ap (λ n. visit stamp (gather f n i) here) z ∙ ap (λ o. visit stamp o here) (gather-none f i) ∙ visit-empty stamp here)
+
+    module _ (left : ℕ) (next : List ℕ) (passed : Bool) (judged : Judged (f i) stamp here next passed) (more : count ≡ left + 1) where
+      step-visit : visit stamp cells before ≡ bind (visit stamp (f i) here) (λ after. visit stamp (gather f left (i + 1)) after)
+      step-visit =
+          let one : count ≡ suc left = omega arith in
+          walked ∙ ap (λ n. visit stamp (gather f n i) here) one ∙ ap (λ o. visit stamp o here) (gather-first f left i)
+          ∙ visit-joined stamp (f i) (gather f left (i + 1)) here
+
+      pub walk-fails : (after : List ℕ) → passed ≡ false → Judged cells stamp before after false
+      walk-fails after t =
+          judged-failed cells stamp before after
+          (step-visit ∙ ap (λ o. bind o (λ after. visit stamp (gather f left (i + 1)) after)) (judged .refused t)
+          ∙ bind-none (λ after. visit stamp (gather f left (i + 1)) after))
+
+      pub walk-goes-on : passed ≡ true → visit stamp cells before ≡ visit stamp (gather f left (i + 1)) next
+      walk-goes-on t =
+          step-visit ∙ ap (λ o. bind o (λ after. visit stamp (gather f left (i + 1)) after)) (judged .accepted t)
+          ∙ bind-of next (λ after. visit stamp (gather f left (i + 1)) after)
+
+-- a judgement of what is found for a word of the block
+pub judged-word : (found : ℕ → Option (List ℕ)) (block : List ℕ) (at i word stamp : ℕ) (before after : List ℕ) (passed : Bool)
+    → word ≡ wordAt block (at + 4 * i) → Judged (found word) stamp before after passed → Judged (foundAt found block at i) stamp before after passed
+judged-word found block at i word stamp before after passed e judged =
+    judged-same (foundAt found block at i) stamp before after (found word) passed (unfold foundAt in ap found (sym e)) judged

@@ -1,0 +1,97 @@
+-- The checks of a node, of the words of a split and of a child, which call each other, meet their contracts.
+mod Measures
+mod ChildCheck
+mod NodeCheck
+mod SplitCheck
+use Rattle.trees.proofs.validate.+child_check+node_check+split_check.{statement}
+use Rattle.trees.proofs.validate.+child_check+node_check+split_check.Tie.{close}
+use Rattle.trees.proofs.validate.child_check.Reads as child-check
+use Rattle.trees.proofs.validate.+child_check+node_check+split_check.Lts-child_check as child-check-lts
+use Rattle.trees.proofs.validate.node_check.Reads as node-check
+use Rattle.trees.proofs.validate.+child_check+node_check+split_check.Lts-node_check as node-check-lts
+use Rattle.trees.proofs.validate.split_check.Reads as split-check
+use Rattle.trees.proofs.validate.+child_check+node_check+split_check.Lts-split_check as split-check-lts
+use Rattle.trees.proofs.validate.+child_check+node_check+split_check.Proof.Measures.{μ-child-check, μ-node-check, μ-split-check, child-check-at, node-check-at, split-check-at, child-told, node-told, split-told}
+use Rattle.trees.proofs.validate.+child_check+node_check+split_check.Proof.ChildCheck as child
+use Rattle.trees.proofs.validate.+child_check+node_check+split_check.Proof.NodeCheck as node
+use Rattle.trees.proofs.validate.+child_check+node_check+split_check.Proof.SplitCheck as split
+
+pub +child-check+node-check+split-check-spec : {M : Type 1} → statement M
++child-check+node-check+split-check-spec =
+    close μ-child-check μ-node-check μ-split-check
+    (λ t. child-check-lts.spec (child-told t) (child-check-at t) child-check.Post
+    (child.returns t)
+    (child.returns-2 t)
+    (child.pointer-of-requires t)
+    (child.enum-told t)
+    (child.enum-known-number t)
+    (child.cell-requires t)
+    (child.is-valid-prefix-requires t)
+    (child.returns-3 t)
+    (child.stamp-cell-requires t)
+    (child.returns-4 t)
+    (child.mul-word-at t)
+    (child.add-word-at t)
+    (child.word-at-requires t)
+    (child.sub-node-check t)
+    (child.node-check-requires t)
+    (child.sub-node-check-2 t)
+    (child.node-check-requires-2 t)
+    (child.returns-5 t)
+    (child.returns-6 t)
+    (child.returns-7 t))
+    (λ t. node-check-lts.spec (node-told t) (node-check-at t) node-check.Post node.Inv-loop node.μ-loop
+    (node.stamp-node-requires t)
+    (node.returns t)
+    (node.pointer-of-requires t)
+    (node.enum-known-number t)
+    (node.sub-run t)
+    (node.returns-2 t)
+    (node.mul-word-at t)
+    (node.add-word-at t)
+    (node.word-at-requires t)
+    (node.child-check-requires t)
+    (node.enum-known-number-2 t)
+    (node.cell-requires t)
+    (node.sparse-count-requires t)
+    (node.loop-holds t)
+    (node.sparse-position-requires t)
+    (node.mul-word-at-2 t)
+    (node.word-at-requires-2 t)
+    (node.child-check-requires-2 t)
+    (node.returns-3 t)
+    (node.add-i t)
+    (node.loop-less t)
+    (node.loop-again t)
+    (node.enum-known-number-3 t)
+    (node.mul-split-check t)
+    (node.add-split-check t)
+    (node.split-check-requires t)
+    (node.returns-4 t)
+    (node.returns-5 t)
+    (node.returns-6 t)
+    (node.returns-7 t))
+    λ t. split-check-lts.spec (split-told t) (split-check-at t) split-check.Post split.Inv-loop split.μ-loop
+    (split.loop-holds t)
+    (split.mul-word-at t)
+    (split.add-word-at t)
+    (split.word-at-requires t)
+    (split.add-i t)
+    (split.loop-less t)
+    (split.loop-again t)
+    (split.child-check-requires t)
+    (split.returns t)
+    (split.add-i-2 t)
+    (split.loop-less-2 t)
+    (split.loop-again-2 t)
+    (split.pointer-of-requires t)
+    (split.enum-known-number t)
+    (split.returns-2 t)
+    (split.mul-start t)
+    (split.sub-split-check t)
+    (split.split-check-requires t)
+    (split.returns-3 t)
+    (split.add-i-3 t)
+    (split.loop-less-3 t)
+    (split.loop-again-3 t)
+    (split.returns-4 t)

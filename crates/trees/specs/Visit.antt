@@ -1,0 +1,25 @@
+-- Cells visited one after the other over an array of stamps: a cell that is visited gets the stamp.
+use mathlib.Core.Path.{_≡_}
+use mathlib.Core.Bool.{Bool, true, false}
+use mathlib.Core.List.{List, [], _∷_}
+use mathlib.Core.Option.{Option, none, some}
+use Prim.Native.Nat.{ℕ}
+use lib.Dec.{eqb}
+use lib.ListN.{getD, set}
+use Rattle.cells.specs.Choice.{pick, bind}
+
+-- 01: "In the tree of one root no cell is entered twice": each cell in turn gets the stamp, and nothing where one has it already
+unfoldable pub admit : ℕ → List ℕ → List ℕ → Option (List ℕ)
+admit stamp [] stamps = some stamps
+admit stamp (c ∷ cs) stamps =
+    let later = admit stamp cs (set stamps c stamp) in
+    pick (eqb (getD stamps c 0) stamp) none later
+
+-- the stamps after a visit of the cells found; nothing where nothing is found
+abbrev pub visit : ℕ → Option (List ℕ) → List ℕ → Option (List ℕ)
+visit stamp cells stamps = bind cells (λ cs. admit stamp cs stamps)
+
+-- what a judgement says: it passed, and these are the stamps after the visit, or there is no such visit
+pub record Judged (cells : Option (List ℕ)) (stamp : ℕ) (before after : List ℕ) (passed : Bool) : Type 0 where
+  pub accepted : passed ≡ true → visit stamp cells before ≡ some after
+  pub refused : passed ≡ false → visit stamp cells before ≡ none

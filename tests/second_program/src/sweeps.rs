@@ -1,0 +1,114 @@
+//! Calls that are tried out whole: the specification's samples, every order word, the calendar, whole Fahrenheit readings.
+
+use crate::calls::Call;
+use crate::compare::Comparison;
+use crate::desk::{Question, CELSIUS, FAHRENHEIT, GATE_ANY, GATE_BETWEEN};
+use crate::foreign::{junk, order_word_block, write_trailer};
+use crate::generate::{Scene, FOREIGN};
+use crate::ledger::Ledger;
+use crate::model::{pointer, put_word, CELL};
+use crate::random::Random;
+use crate::schedule::{calls, remember_shown};
+
+/// All sweeps, one after the other.
+pub fn run(comparison: &mut Comparison) {
+    for (cells, calls) in samples() {
+        let mut block = vec![0xAA; cells * CELL];
+        let mut ledger = Ledger::default();
+        comparison.step_with_ledger(&mut block, &Call::Format, &mut ledger);
+        for call in calls {
+            comparison.step_with_ledger(&mut block, &call, &mut ledger);
+        }
+    }
+    for cells in [3, 2049] {
+        let mut block = vec![0xAA; cells * CELL];
+        comparison.step(&mut block, &Call::Format);
+    }
+    for order in 0..=u16::MAX {
+        try_order_word(comparison, order);
+    }
+    calendar(comparison);
+    fahrenheit(comparison);
+}
+
+/// An insertion of a value under a key.
+fn insert(key: &[u8], value: u32) -> Call {
+    Call::Insert { key: key.to_vec(), value }
+}
+
+/// The histories of samples A to H, the long labels, the seven children, and a split of all characters.
+fn samples() -> Vec<(usize, Vec<Call>)> {
+    let (one, two, three) = (insert(b"A", 0), insert(b"A", 1), insert(b"A", 2));
+    let (mark, back) = (Call::Snapshot { slot: 1 }, Call::Restore { slot: 1 });
+    let long = insert(b"CHA", 0);
+    let mut histories = vec![
+        (4, vec![one, mark, two, three.clone(), back, three]),
+        (8, vec![long.clone(), insert(b"A", 1), insert(b"5", 2)]),
+        (8, vec![long, insert(b"C", 5)]),
+        (32, b"35ABCPQ".iter().map(|character| insert(&[*character], 7)).collect()),
+        (2048, (0..=255).map(|character| insert(&[character], 7)).collect()),
+        (2048, (0..=255).rev().map(|character| insert(&[0, character, character], 7)).collect()),
+    ];
+    for length in [28, 29, 48, 49] {
+        histories.push((4, vec![insert(&vec![0x41; length], 1)]));
+    }
+    histories
+}
+
+/// Judges the sparse node of one order word, and uses it where it is sound.
+fn try_order_word(comparison: &mut Comparison, order: u16) {
+    comparison.seed = u64::from(order);
+    let mut random = Random::seeded(u64::from(order) + 0x1_0000);
+    let mut block = order_word_block(order, &mut random);
+    let answer = comparison.step(&mut block, &Call::Validate).answer;
+    if answer == 0 {
+        let mut scene = Scene::drawn(&mut random);
+        remember_shown(&mut scene, &block);
+        calls(comparison, &mut block, &mut scene, &FOREIGN, 4, &mut random);
+    }
+}
+
+/// A block that shows label 41 with a value.
+fn block_of_value(value: u32) -> Vec<u8> {
+    let mut block = junk(4, &mut Random::seeded(u64::from(value)));
+    block[CELL + 0x1B] = 0x41;
+    put_word(&mut block, CELL + 0x1C, !value);
+    write_trailer(&mut block, pointer(1, 0x1B), &[None; 3]);
+    block
+}
+
+/// A question about label 41 on a day; reading, gate, section and length are those of samples J and K.
+fn question(year: u32, month: u32, day: u32) -> Question {
+    let (low, high, section, length) = (f32::NAN, f32::NAN, 60.0, 4000.0);
+    let label = vec![0x41];
+    Question { label, year, month, day, unit: CELSIUS, degrees: 20.0, kind: GATE_ANY, low, high, section, length }
+}
+
+/// The ends of every month there is and is not, as today and as the held date; then the days about sample J's.
+fn calendar(comparison: &mut Comparison) {
+    let last_day = 2199 * 512 + 12 * 32 + 31;
+    for (year, month) in (1999..=2200).flat_map(|year| (0..=13).map(move |month| (year, month))) {
+        for day in [0, 1, 28, 29, 30, 31, 32] {
+            comparison.step(&mut block_of_value(last_day), &Call::Verdict(question(year, month, day)));
+            let held = year * 512 + month * 32 + day;
+            comparison.step(&mut block_of_value(held), &Call::Verdict(question(2000, 1, 1)));
+        }
+    }
+    for (month, day) in [(3, 6), (3, 7), (3, 8), (7, 3), (2, 28), (4, 1)] {
+        comparison.step(&mut block_of_value(1_036_903), &Call::Verdict(question(2025, month, day)));
+    }
+}
+
+/// Whole readings that become exact: a gate of that one number lets each through.
+fn fahrenheit(comparison: &mut Comparison) {
+    let mut block = block_of_value(1_036_903);
+    for whole in -14..=40 {
+        let exact = (5 * whole) as f32;
+        let (unit, degrees) = (FAHRENHEIT, (32 + 9 * whole) as f32);
+        let gate = Question { unit, degrees, kind: GATE_BETWEEN, low: exact, high: exact, ..question(2025, 3, 7) };
+        let call = Call::Verdict(gate);
+        if comparison.step(&mut block, &call).answer != 0 {
+            comparison.note(&call, &block, "a whole reading does not become exact");
+        }
+    }
+}
