@@ -1,14 +1,14 @@
 -- The ways through the code of a fresh block.
-use mathlib.Core.Path.{_≡_, refl, sym, ap, _∙_}
+use mathlib.Core.Path.{_≡_, ap, _∙_}
 use mathlib.Core.Bool.{true, false}
-use mathlib.Core.List.{List, [], _++_, append-nil}
+use mathlib.Core.List.{List, _++_, append-nil}
 use Prim.Native.Nat.{ℕ, _+_, _/_, _≤_}
 use native.Mathlib.Omega.{arith}
 use lib.ListN.{length, drop, replicate, drop-of-length-le}
 use Rattle.cells.specs.Bytes.{zeros}
 use Rattle.cells.specs.Word.{withWord}
 use Rattle.store.specs.Trailer.{badSize, trailerOf}
-use Rattle.store.specs.Refusal.{firstRefusal, Changed}
+use Rattle.store.specs.Refusal.{firstRefusal}
 use Rattle.store.specs.Format.{formatted, format}
 
 module _ (block : List ℕ) where

@@ -11,3 +11,5 @@ pub mod Committed
 pub mod InsertCall
 pub mod TrailerSteps
 pub mod FormatSteps
+pub mod RootWalk
+pub mod ValidateSteps

@@ -39,7 +39,7 @@ module _ (layout : Layout) (m : Memory) (word : ℕ) where
   unfolding rootTree
   root-tree root = rw root
 
-  not-root : isRoot (pointer layout word) ≡ false → rootTree layout m word ≡ none
+  pub not-root : isRoot (pointer layout word) ≡ false → rootTree layout m word ≡ none
   unfolding rootTree
   not-root e = rw e
 

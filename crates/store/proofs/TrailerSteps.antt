@@ -1,9 +1,9 @@
 -- The ways through the code of the trailer.
 use mathlib.Core.Path.{_≡_, refl, sym, ap, _∙_, subst}
 use mathlib.Core.Logic.{_≢_}
-use mathlib.Core.Bool.{Bool, true, false, _&&_, _||_, not}
+use mathlib.Core.Bool.{Bool, true, false}
 use mathlib.Core.List.{List}
-use Prim.Native.Nat.{ℕ, suc, _+_, _-_, _*_, _/_, _%_, _^_, _≤_, _<_}
+use Prim.Native.Nat.{ℕ, _+_, _*_, _/_, _%_, _^_, _≤_, _<_}
 use native.Mathlib.Nat.{one-mul, div-lt-iff-lt-mul}
 use native.Mathlib.Numerals.{add-one}
 use native.Mathlib.Omega.{arith}
@@ -12,9 +12,9 @@ use lib.ListN.{length, getD}
 use lib.Pow.{pow-pos}
 use borrow.Author.Tests.{eq-eqb, ne-eqb, lt-ltb, le-ltb, lt-leb, le-leb}
 use Rattle.cells.specs.Word.{wordAt}
-use Rattle.cells.proofs.Choice.{absurd-bool, absurd-false, both}
+use Rattle.cells.proofs.Choice.{both}
 use Rattle.nodes.specs.Layout.{Layout}
-use Rattle.store.specs.Trailer.{badSize, layoutOf, rootWord, slots, validSlot, slotWord, bitsAt, trailerOf, trailerAt, inUse, everySlot, idleIsZero, validTrailer}
+use Rattle.store.specs.Trailer.{badSize, layoutOf, slots, validSlot, slotWord, trailerOf, trailerAt, inUse, everySlot, idleIsZero, validTrailer}
 use Rattle.store.specs.Fits.{Fits}
 use Rattle.store.proofs.Trailer.{sized, layout-cells, slot-low, slot-high, slots-three, every-slot, TrailerParts, trailer-parts}
 

@@ -1,5 +1,5 @@
 -- What the code's answers mean, by cases: the answer numbers and values of 01.
-use mathlib.Core.List.{List}
+use mathlib.Core.List.{List, []}
 use Prim.Native.Nat.{ℕ}
 use Rattle.store.specs.declared.answer.Refusal.{Refusal}
 use Rattle.store.specs.declared.answer.Refusal.the-variants.{BadSize, Unsound, BadKey, BadValue, BadSlot, SlotNotInUse, NoRoom, BadSheet, BadReading, BadToday, Missing, HeldNoDate, Expired, OutsideGate}
@@ -9,7 +9,7 @@ use Rattle.store.specs.declared.answer.GetAnswer.{GetAnswer}
 use Rattle.store.specs.declared.answer.NextAnswer.{NextAnswer}
 use Rattle.store.specs.Refusal.{Changed}
 use Rattle.store.specs.Insert.{Inserted}
-use Rattle.store.specs.Read.{Found, Next}
+use Rattle.store.specs.Read.{Found, Next, padded}
 
 -- 01's table, "When the answer is no"
 abbrev pub refusalNumber : Refusal → ℕ
@@ -48,3 +48,7 @@ foundOutcome (GetAnswer.Refused refusal) = record { answer = refusalNumber refus
 
 abbrev pub nextOutcome : NextAnswer → Next
 nextOutcome next = record { answer = changeNumber (next .answer); size = next .size; key = next .key }
+
+-- 01: "A no returns zeros beside its number"
+abbrev pub refusedNext : ℕ → Next
+refusedNext number = record { answer = number; size = 0; key = padded [] }

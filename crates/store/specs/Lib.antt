@@ -9,3 +9,4 @@ pub mod Snapshots
 pub mod Examples
 pub mod Fits
 pub mod Answers
+pub mod Stamps

@@ -2,3 +2,4 @@
 pub mod answer;
 pub mod formatting;
 pub mod trailer_fields;
+pub mod validate;

@@ -1,4 +1,4 @@
--- What a judgement of a root says over stamps that are new: whether the root is valid, and which cells it visits.
+-- What a judgement of a root says over an array that has the stamp nowhere: whether the root is valid, and which cells it visits.
 use mathlib.Core.Path.{_≡_, refl, sym, ap, _∙_}
 use mathlib.Core.Logic.{_≢_}
 use mathlib.Core.Bool.{Bool, true, false}
@@ -29,7 +29,7 @@ pub root-usable : (layout : Layout) (m : Memory) (word : ℕ) (cs : List ℕ) �
 unfolding rootTree
 root-usable layout m word cs e = tree-usable layout m keyLimit word cs (kept (isRoot (pointer layout word)) e .1)
 
--- a verdict on cells that are found, over stamps of which none is new
+-- a verdict on the cells found, over an array that has the stamp nowhere
 module _ (cells : Option (List ℕ)) (stamp : ℕ) (before after : List ℕ) (passed : Bool) (judged : Judged cells stamp before after passed)
     (inside : (cs : List ℕ) → cells ≡ some cs → Inside cs before) (fresh : (c : ℕ) → c < length before → getD before c 0 ≢ stamp) where
   pub judged-once : passed ≡ onceVisited cells

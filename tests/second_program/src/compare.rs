@@ -37,7 +37,8 @@ impl Comparison {
             let mut their_block = before.clone();
             let their = other(&mut their_block, call);
             if own != their || *block != their_block {
-                self.note(call, &before, &format!("the model answers {own:?}\nthe library answers {their:?}"));
+                let (own, their) = (describe(&own), describe(&their));
+                self.note(call, &before, &format!("the model answers   {own}\nthe library answers {their}"));
                 self.print_cells(block, &their_block);
             }
         }
@@ -87,6 +88,12 @@ impl Comparison {
             println!("cell {cell} of the library: {}", hexadecimal(their));
         }
     }
+}
+
+/// An outcome in words.
+fn describe(outcome: &Outcome) -> String {
+    let key = hexadecimal(&outcome.key);
+    format!("{}, number {}, key {key}, dose {:08X}", outcome.answer, outcome.number, outcome.dose)
 }
 
 /// Bytes as hexadecimal digits.

@@ -44,7 +44,8 @@ counted! {
 counted! {
     /// What sound blocks are made of.
     Shape: EmptyRoot, Leaf, Chain, SparseOfTwo, SparseOfThree, SparseOfFour, SparseOfFive, SparseOfSix, SplitOfFew,
-    SplitOfMany, Prefix, DepthLimit, SharedCell, SharedAtAnotherKind,
+    SplitOfMany, Prefix, DepthLimit, SharedCell, SharedAtAnotherKind, JunkBeforeRun, JunkPastChildren, JunkInHead,
+    JunkInPrefix,
 }
 
 counted! {
@@ -142,9 +143,9 @@ impl Coverage {
         self.rooms[Room::OneShort as usize] += u64::from(count == free + 1);
     }
 
-    /// The least count that is asked for: 1,000 in a million calls, fewer in a shorter run.
+    /// The least count that is asked for: 1,000 in a million calls, a single one in a shorter run.
     fn demanded(&self) -> u64 {
-        (self.calls / 1000).min(1000)
+        if self.calls < 1_000_000 { 1 } else { 1000 }
     }
 
     /// Prints every count and gives the number of those that fall short.

@@ -19,8 +19,11 @@ pub struct Question {
     pub length: f32,
 }
 
+/// The numbers of the units.
 pub const CELSIUS: u32 = 1;
 pub const FAHRENHEIT: u32 = 2;
+
+/// The numbers of the gate kinds; "at least" uses the low limit.
 pub const GATE_ANY: u32 = 1;
 pub const GATE_AT_LEAST: u32 = 2;
 pub const GATE_BETWEEN: u32 = 3;

@@ -171,6 +171,12 @@ impl Reader<'_> {
         word_at(self.block, cell * CELL + offset)
     }
 
+    /// Notes whether bytes of a cell that have no meaning are not zero.
+    fn meet_junk(&mut self, shape: Shape, cell: usize, bytes: std::ops::Range<usize>) {
+        let junk = self.block[cell * CELL..][bytes].iter().any(|byte| *byte != 0);
+        self.met.add(shape, u64::from(junk));
+    }
+
     /// Follows a pointer into its cell, which must be usable and new to this tree.
     fn enter(&mut self, word: u32) -> Result<usize, Flaw> {
         let cell = word as usize / CELL;
@@ -217,6 +223,7 @@ impl Reader<'_> {
             return Err(Flaw::DeepChain);
         }
         self.met.add(Shape::Chain, 1);
+        self.meet_junk(Shape::JunkBeforeRun, cell, 0..kind);
         let child = self.node(self.word(cell, 0x1C), left - run.len())?.ok_or(Flaw::ChainWithoutChild)?;
         Ok(Node::Chain { place: Place::Held(cell), run, child: Box::new(child) })
     }
@@ -240,6 +247,7 @@ impl Reader<'_> {
             return Err(Flaw::OrderWord);
         }
         self.met.sparse(count, order);
+        self.meet_junk(Shape::JunkPastChildren, cell, 0x18 + count..0x1E);
         let mut children = Vec::new();
         for (character, word) in characters.iter().zip(&words) {
             let child = self.node(*word, left - 1)?.expect("the word is not NONE");
@@ -253,6 +261,7 @@ impl Reader<'_> {
         if left == 0 {
             return Err(Flaw::DeepSplit);
         }
+        self.meet_junk(Shape::JunkInHead, cell, 0..0x10);
         let mut mids = BTreeMap::new();
         for leading in 0..4 {
             let word = self.word(cell, 0x10 + 4 * leading);
@@ -318,6 +327,7 @@ impl Reader<'_> {
             return Err(Flaw::PrefixFlag);
         }
         self.met.add(Shape::Prefix, 1);
+        self.meet_junk(Shape::JunkInPrefix, cell, 5..0x1C);
         match self.node(self.word(cell, 0x1C), left)? {
             None => Err(Flaw::PrefixOverNone),
             Some(Node::Leaf(_)) => Err(Flaw::PrefixOverLeaf),

@@ -29,12 +29,12 @@ pub fn run(comparison: &mut Comparison, target: u64) {
 fn draw_cells(comparison: &Comparison, random: &mut Random) -> usize {
     let calls = comparison.coverage.calls;
     let large = (calls - comparison.coverage.small_calls) * 100 < calls * 9;
-    match (large, random.below(10)) {
-        (false, 0 | 1) => random.between(4, 8),
-        (false, 2..=4) => random.between(9, 20),
+    match (large, random.below(30)) {
+        (false, 0..=5) => random.between(4, 8),
+        (false, 6..=14) => random.between(9, 20),
         (false, _) => random.between(21, 63),
-        (true, 0..=5) => random.between(64, 128),
-        (true, 6..=8) => random.between(129, 512),
+        (true, 0..=20) => random.between(64, 128),
+        (true, 21..=28) => random.between(129, 512),
         (true, _) => random.pick(&[513, 1024, 2047, 2048]),
     }
 }

@@ -1,4 +1,4 @@
-//! Calls that are tried out whole: the specification's samples, every order word, the calendar, whole Fahrenheit readings.
+//! What is tried out whole: the specification's samples, every order word, the calendar, whole Fahrenheit readings.
 
 use crate::calls::Call;
 use crate::compare::Comparison;

@@ -1,5 +1,4 @@
 use mathlib.Core.Path.{sym}
-use native.Mathlib.Omega.{arith}
 use Rattle.store.proofs.TrailerSteps.{size-broken, size-small, size-other}
 use Rattle.store.proofs.trailer_fields.is_bad_size.Statement.{statement}
 use Rattle.store.proofs.trailer_fields.is_bad_size.Tie as tie

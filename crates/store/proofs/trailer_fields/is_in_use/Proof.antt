@@ -1,4 +1,3 @@
-use mathlib.Core.Path.{ap}
 use native.Mathlib.Omega.{arith}
 use Rattle.store.specs.Trailer.{inUse}
 use Rattle.store.proofs.TrailerSteps.{slot-range}
