@@ -3,3 +3,4 @@ mod Chains
 pub mod Examples
 pub mod Laws
 pub mod WholeReadings
+pub mod VerdictLaws

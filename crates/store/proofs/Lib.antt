@@ -13,3 +13,9 @@ pub mod TrailerSteps
 pub mod FormatSteps
 pub mod RootWalk
 pub mod ValidateSteps
+pub mod ReadCalls
+pub mod ReadSteps
+pub mod GetSteps
+pub mod NextSteps
+pub mod RefusalSteps
+pub mod SnapshotSteps

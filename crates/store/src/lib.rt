@@ -3,3 +3,7 @@ pub mod answer;
 pub mod formatting;
 pub mod trailer_fields;
 pub mod validate;
+pub mod get;
+pub mod key;
+pub mod next;
+pub mod snapshots;

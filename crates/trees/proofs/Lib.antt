@@ -23,3 +23,8 @@ pub mod PlainTrees
 pub mod Tags
 pub mod Reading
 pub mod RootCheck
+pub mod LookSteps
+pub mod NextSteps
+pub mod NextTold
+pub mod NextAnswers
+pub mod Found

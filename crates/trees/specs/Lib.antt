@@ -6,3 +6,4 @@ pub mod EntryAt
 pub mod NextWalk
 pub mod Visit
 pub mod Parts
+pub mod Coded

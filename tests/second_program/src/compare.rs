@@ -30,7 +30,7 @@ impl Comparison {
     pub fn step(&mut self, block: &mut Vec<u8>, call: &Call) -> Outcome {
         let before = block.clone();
         if self.traced {
-            eprintln!("{call:?} on {}", hexadecimal(&before));
+            eprintln!("{call:02X?} on {}", hexadecimal(&before));
         }
         let own = perform(block, call, &mut self.coverage);
         if let Some(other) = self.other {
@@ -71,7 +71,7 @@ impl Comparison {
         self.differences += 1;
         if self.differences <= PRINTED {
             println!("DIFFERENCE in the scene of seed {}", self.seed);
-            println!("call: {call:?}");
+            println!("call: {call:02X?}");
             println!("block of {} bytes before it: {}", before.len(), hexadecimal(before));
             println!("{what}");
         }

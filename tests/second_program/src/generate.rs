@@ -134,10 +134,9 @@ impl Scene {
     fn date(&self, random: &mut Random) -> [u32; 3] {
         let [year, month, day] = self.day;
         for _ in 0..8 {
-            let mut near = |number: u32| number + random.pick(&[0, 0, 0, 1, 2]) - random.pick(&[0, 0, 0, 1]);
-            let date = match near(1) {
-                3 => [year, day, month],
-                _ => [near(year), near(month), near(day)],
+            let date = match random.chance(15) {
+                true => [year, day, month],
+                false => [near(year, random), near(month, random), near(day, random)],
             };
             if (2000..=2199).contains(&date[0]) && date[2] >= 1 && date[2] <= days_in_month(date[0], date[1]) {
                 return date;
@@ -180,14 +179,14 @@ impl Scene {
         let unit = random.pick(&[CELSIUS, FAHRENHEIT]);
         let degrees = lawful_number(-100.0, 400.0, random);
         let reading = celsius(unit, degrees).expect("a lawful reading");
-        let near = |random: &mut Random| match random.below(4) {
+        let limit = |random: &mut Random| match random.below(4) {
             0 => lawful_number(-100.0, 400.0, random),
             1 => reading,
             2 => reading.next_up().min(400.0),
             _ => reading.next_down().max(-100.0),
         };
         let kind = random.pick(&[GATE_ANY, GATE_AT_LEAST, GATE_BETWEEN]);
-        let (first, second) = (near(random), near(random));
+        let (first, second) = (limit(random), limit(random));
         let (mut low, mut high) = (first.min(second), first.max(second));
         if kind == GATE_ANY {
             low = strange_number(-100.0, 400.0, random);
@@ -200,6 +199,11 @@ impl Scene {
         let label = self.asked_key(random);
         Question { label, year, month, day, unit, degrees, kind, low, high, section, length }
     }
+}
+
+/// A number that is the given one or close to it.
+fn near(number: u32, random: &mut Random) -> u32 {
+    number + random.pick(&[0, 0, 0, 1, 2]) - random.pick(&[0, 0, 0, 1])
 }
 
 /// A slot number, lawful nine times in ten.

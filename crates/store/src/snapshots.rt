@@ -1,0 +1,165 @@
+// Snapshots of a block: keeping the root in a slot, returning to it and giving it up.
+ghost use mathlib.Core.Bool.{true};
+ghost use mathlib.Core.Path.{_≡_};
+ghost use lib.ListN.{length, set};
+ghost use Rattle.cells.specs.Word.{withWord};
+ghost use Rattle.store.specs.Answers.{changeNumber, changedOutcome};
+ghost use Rattle.store.specs.Fits.{Fits};
+ghost use Rattle.store.specs.Refusal.{firstRefusal};
+ghost use Rattle.store.specs.Snapshots.{withBit, withoutBit, slotRefusals, usedSlotRefusals, snapshotBlock, restoreBlock, releaseBlock, snapshot, restore, release};
+ghost use Rattle.store.specs.Trailer.{validSlot, slotBit, slotAt, bitsAt};
+use crate::answer::ChangeAnswer;
+use crate::answer::Refusal;
+use crate::trailer_fields::is_in_use;
+use crate::trailer_fields::is_valid_slot;
+use crate::trailer_fields::layout_of;
+use crate::trailer_fields::root_word;
+use crate::trailer_fields::slot_at;
+use crate::trailer_fields::slot_word;
+use crate::trailer_fields::trailer_at;
+use crate::validate::validate;
+use cells::put_word;
+use nodes::layout::Layout;
+
+// The value of a slot's bit.
+fn slot_bit(layout: Layout, slot: usize) -> u8
+    requires { ⌜ validSlot layout slot ≡ true ⌝ }
+    ensures { λ r. ⌜ r ≡ slotBit slot ⌝ }
+{
+    if slot == 1 {
+        return 1;
+    }
+    if slot == 2 {
+        return 2;
+    }
+    4
+}
+
+// The bits of the slots in use with that of a slot set.
+fn with_bit(layout: Layout, block: &[u8], slot: usize) -> u8
+    requires { ⌜ Fits layout (length (now block)) × (validSlot layout slot ≡ true) ⌝ }
+    ensures { λ r. ⌜ r ≡ withBit layout (now (block .entry)) slot ⌝ }
+{
+    let bits = block[trailer_at(layout) + 16];
+    if is_in_use(layout, block, slot) {
+        return bits;
+    }
+    bits + slot_bit(layout, slot)
+}
+
+// The bits of the slots in use with that of a slot cleared.
+fn without_bit(layout: Layout, block: &[u8], slot: usize) -> u8
+    requires { ⌜ Fits layout (length (now block)) × (validSlot layout slot ≡ true) ⌝ }
+    ensures { λ r. ⌜ r ≡ withoutBit layout (now (block .entry)) slot ⌝ }
+{
+    let bits = block[trailer_at(layout) + 16];
+    if !is_in_use(layout, block, slot) {
+        return bits;
+    }
+    bits - slot_bit(layout, slot)
+}
+
+// Writes the bits of the slots in use and the word of a slot.
+fn put_slot(layout: Layout, block: &mut [u8], slot: usize, bits: u8, word: u32)
+    requires { ⌜ Fits layout (length (now block)) × (validSlot layout slot ≡ true) ⌝ }
+    ensures { λ _. ⌜ now (block .exit) ≡ withWord (set (now (block .entry)) (bitsAt layout) bits) (slotAt layout slot) word ⌝ }
+{
+    let at = trailer_at(layout) + 16;
+    block[at] = bits;
+    put_word(block, slot_at(layout, slot), word);
+}
+
+// Keeps the root in a slot.
+fn put_snapshot(layout: Layout, block: &mut [u8], slot: usize)
+    requires { ⌜ Fits layout (length (now block)) × (validSlot layout slot ≡ true) ⌝ }
+    ensures { λ _. ⌜ now (block .exit) ≡ snapshotBlock layout (now (block .entry)) slot ⌝ }
+{
+    let root = root_word(layout, block);
+    let bits = with_bit(layout, block, slot);
+    put_slot(layout, block, slot, bits, root);
+}
+
+// Makes the word of a slot the root.
+fn put_restore(layout: Layout, block: &mut [u8], slot: usize)
+    requires { ⌜ Fits layout (length (now block)) × (validSlot layout slot ≡ true) ⌝ }
+    ensures { λ _. ⌜ now (block .exit) ≡ restoreBlock layout (now (block .entry)) slot ⌝ }
+{
+    let word = slot_word(layout, block, slot);
+    put_word(block, trailer_at(layout), word);
+}
+
+// Empties a slot.
+fn put_release(layout: Layout, block: &mut [u8], slot: usize)
+    requires { ⌜ Fits layout (length (now block)) × (validSlot layout slot ≡ true) ⌝ }
+    ensures { λ _. ⌜ now (block .exit) ≡ releaseBlock layout (now (block .entry)) slot ⌝ }
+{
+    let bits = without_bit(layout, block, slot);
+    put_slot(layout, block, slot, bits, 0);
+}
+
+// Why a call on a slot is refused, if it is.
+fn slot_refusal(block: &[u8], slot: u32) -> ChangeAnswer
+    ensures { λ r. ⌜ firstRefusal (slotRefusals (now (block .entry)) slot) ≡ changeNumber r ⌝ }
+{
+    let answer = validate(block);
+    let ChangeAnswer::Done = answer else {
+        return answer;
+    };
+    if !is_valid_slot(layout_of(block), slot as usize) {
+        return ChangeAnswer::Refused(Refusal::BadSlot);
+    }
+    ChangeAnswer::Done
+}
+
+// Why a call on a slot that must be in use is refused, if it is.
+fn used_slot_refusal(block: &[u8], slot: u32) -> ChangeAnswer
+    ensures { λ r. ⌜ firstRefusal (usedSlotRefusals (now (block .entry)) slot) ≡ changeNumber r ⌝ }
+{
+    let answer = slot_refusal(block, slot);
+    let ChangeAnswer::Done = answer else {
+        return answer;
+    };
+    if !is_in_use(layout_of(block), block, slot as usize) {
+        return ChangeAnswer::Refused(Refusal::SlotNotInUse);
+    }
+    ChangeAnswer::Done
+}
+
+// Keeps the present root in a slot; a slot in use is overwritten.
+pub fn snapshot(block: &mut [u8], slot: u32) -> ChangeAnswer
+    ensures { λ r. ⌜ snapshot (now (block .entry)) slot ≡ changedOutcome r (now (block .exit)) ⌝ }
+{
+    let answer = slot_refusal(block, slot);
+    let ChangeAnswer::Done = answer else {
+        return answer;
+    };
+    let layout = layout_of(block);
+    put_snapshot(layout, block, slot as usize);
+    ChangeAnswer::Done
+}
+
+// Makes the root that a slot holds the present one; the slot keeps it.
+pub fn restore(block: &mut [u8], slot: u32) -> ChangeAnswer
+    ensures { λ r. ⌜ restore (now (block .entry)) slot ≡ changedOutcome r (now (block .exit)) ⌝ }
+{
+    let answer = used_slot_refusal(block, slot);
+    let ChangeAnswer::Done = answer else {
+        return answer;
+    };
+    let layout = layout_of(block);
+    put_restore(layout, block, slot as usize);
+    ChangeAnswer::Done
+}
+
+// Gives up what a slot holds.
+pub fn release(block: &mut [u8], slot: u32) -> ChangeAnswer
+    ensures { λ r. ⌜ release (now (block .entry)) slot ≡ changedOutcome r (now (block .exit)) ⌝ }
+{
+    let answer = used_slot_refusal(block, slot);
+    let ChangeAnswer::Done = answer else {
+        return answer;
+    };
+    let layout = layout_of(block);
+    put_release(layout, block, slot as usize);
+    ChangeAnswer::Done
+}
