@@ -29,3 +29,11 @@ pub mod StageWrites
 pub mod CellPuts
 pub mod OrderInsert
 pub mod SparsePuts
+pub mod StagedBuild
+pub mod StagedChains
+pub mod StagedDescent
+pub mod StagedEnds
+pub mod StagedRows
+pub mod StagedSparse
+pub mod StagedSplitOf
+pub mod StagedSplits

@@ -1,9 +1,8 @@
 -- What the writes into one cell of the stage make of a sparse cell that is copied.
 use mathlib.Core.Path.{_≡_, refl, sym, ap, _∙_}
-use mathlib.Core.Logic.{_≢_}
 use mathlib.Core.List.{List}
 use native.Mathlib.Omega.{arith}
-use Prim.Native.Nat.{ℕ, zero, suc, _+_, _-_, _*_, _/_, _%_, _≤_, _<_}
+use Prim.Native.Nat.{ℕ, zero, suc, _+_, _-_, _*_, _/_, _%_}
 use lib.ListN.{set}
 use Rattle.cells.specs.Word.{withWord}
 use Rattle.cells.specs.Memory.{memoryOf}

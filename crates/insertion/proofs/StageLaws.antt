@@ -19,7 +19,7 @@ use Rattle.cells.proofs.Memory.{memory-length, memory-byte, memory-is, memory-a
 use Rattle.cells.proofs.CellWrites.{cell-written-same, cell-written-other}
 use Rattle.nodes.specs.Layout.{Layout}
 use Rattle.nodes.specs.Pointer.{wordTo}
-use Rattle.insertion.specs.Built.{Built, allocate}
+use Rattle.insertion.specs.Built.{allocate}
 use Rattle.insertion.specs.Commit.{numberFrom}
 use Rattle.insertion.specs.Staged.{staged, Put, builtOf, allocated}
 use Rattle.insertion.specs.declared.stage.Made.{Made}

@@ -2,12 +2,17 @@
 -- i of it being the i-th allocated.
 use mathlib.Core.Path.{_≡_}
 use mathlib.Core.Logic.{_≢_}
-use mathlib.Core.Bool.{true}
+use mathlib.Core.Bool.{true, false}
 use mathlib.Core.List.{List, [], _∷_}
-use Prim.Native.Nat.{ℕ, zero, suc, _+_}
-use Rattle.cells.specs.Memory.{memoryOf}
-use Rattle.nodes.specs.Pointer.{wordTo}
+use mathlib.Core.Option.{some}
+use Prim.Native.Nat.{ℕ, zero, suc, _+_, _≤_, _<_}
+use lib.ListN.{length, getD}
+use Rattle.cells.specs.Memory.{Memory, memoryOf}
+use Rattle.nodes.specs.Layout.{Layout}
+use Rattle.nodes.specs.Pointer.{wordTo, leafWord}
+use Rattle.trees.specs.Tree.{tree}
 use Rattle.insertion.specs.Built.{Built}
+use Rattle.insertion.specs.SplitBuild.{Row}
 use Rattle.insertion.specs.declared.stage.Made.{Made}
 
 -- the first so many cells of a stage, newest first
@@ -20,6 +25,12 @@ pub record Put (before after : List ℕ) (cell : ℕ) (bytes : List ℕ) : Type 
   pub here : memoryOf after cell ≡ bytes
   pub others : (d : ℕ) → d ≢ cell → memoryOf after d ≡ memoryOf before d
 
+-- what the numbering of cells asks for: a trailer at least, 2048 cells at most, and a free list that its array holds
+pub record Numbered (layout : Layout) (free : ℕ) : Type 0 where
+  pub some : 1 ≤ layout .cells
+  pub most : layout .cells ≤ 2048
+  pub listed : free ≤ 2048
+
 -- the build that a small struct and a stage stand for
 abbrev pub builtOf : Made → List ℕ → Built
 builtOf made stage = record { word = made .word; own = made .own; cells = staged stage (made .count) }
@@ -27,3 +38,31 @@ builtOf made stage = record { word = made .word; own = made .own; cells = staged
 -- one more cell allocated: its word and the count
 abbrev pub allocated : (ℕ → ℕ) → ℕ → ℕ → Made
 allocated number kind count = record { word = wordTo (number count) kind; own = true; count = count + 1 }
+
+-- a leaf, with no cell allocated
+abbrev pub leafMade : ℕ → Made
+leafMade value = record { word = leafWord value; own = false; count = 0 }
+
+-- the cells of a build find room in a stage of 202 cells
+abbrev pub Fitting : Built → Type 0
+Fitting built = length (built .cells) ≤ 202
+
+-- a row's word and its cells, as code and stage have them
+pub record Rowed (row : Row) (word : ℕ) (cells : List (List ℕ)) : Type 0 where
+  pub first : word ≡ row .words 0
+  pub stands : cells ≡ row .cells
+
+-- the cells of a row find room
+abbrev pub RowFitting : Row → Type 0
+RowFitting row = length (row .cells) ≤ 202
+
+-- an array that holds the child word of each character
+pub record Children (array : List ℕ) (child : ℕ → ℕ) : Type 0 where
+  pub each : (y : ℕ) → y < 256 → getD array y 0 ≡ child y
+
+-- a word has a tree, as deep as so many characters at least
+pub record HasTree (layout : Layout) (m : Memory) (word left : ℕ) : Type 0 where
+  pub depth : ℕ
+  pub deep : left ≤ depth
+  pub cells : List ℕ
+  pub valid : tree layout m depth word ≡ some cells

@@ -8,7 +8,7 @@ ghost use Rattle.cells.specs.Writes.{written, cellWrites};
 ghost use Rattle.nodes.specs.Pointer.{wordTo};
 ghost use Rattle.insertion.specs.NewCells.{blank};
 ghost use Rattle.insertion.specs.Commit.{numberFrom};
-ghost use Rattle.insertion.specs.Staged.{Put, allocated};
+ghost use Rattle.insertion.specs.Staged.{Put, Numbered, allocated};
 use cells::put_word;
 use cells::word_at;
 use nodes::layout::Layout;
@@ -95,7 +95,7 @@ fn listed(numbers: &[u16], place: usize) -> u16
 
 // The number of the cell that is allocated at a place: that of the free list, past its end the trailer's.
 pub fn number_at(layout: Layout, numbers: &[u16; 2048], free: usize, place: usize) -> u16
-    requires { ⌜ (1 ≤ layout .cells) × (layout .cells ≤ 2048) × (free ≤ 2048) ⌝ }
+    requires { ⌜ Numbered layout free ⌝ }
     ensures { λ r. ⌜ r ≡ numberFrom layout (take free (now (numbers .entry))) place ⌝ }
 {
     let cells = layout.cells;
@@ -106,7 +106,7 @@ pub fn number_at(layout: Layout, numbers: &[u16; 2048], free: usize, place: usiz
 }
 
 // The word of a kind in a cell.
-fn word_to(number: u16, kind: usize) -> u32
+pub fn word_to(number: u16, kind: usize) -> u32
     requires { ⌜ kind < 32 ⌝ }
     ensures { λ r. ⌜ r ≡ wordTo number kind ⌝ }
 {
@@ -121,7 +121,7 @@ pub fn allocated_as(
     kind: usize,
     count: usize,
 ) -> Made
-    requires { ⌜ (1 ≤ layout .cells) × (layout .cells ≤ 2048) × (free ≤ 2048) × (kind < 32) × (count < 202) ⌝ }
+    requires { ⌜ Numbered layout free × (kind < 32) × (count < 202) ⌝ }
     ensures { λ r. ⌜ r ≡ allocated (numberFrom layout (take free (now (numbers .entry)))) kind count ⌝ }
 {
     let number = number_at(layout, numbers, free, count);

@@ -1,8 +1,8 @@
 -- The ways through the code of the calls that only read.
 use mathlib.Core.Path.{_≡_, refl, sym, ap, _∙_}
 use mathlib.Core.Logic.{_≢_}
-use mathlib.Core.Bool.{Bool, true, false}
-use mathlib.Core.List.{List, [], _∷_, _++_}
+use mathlib.Core.Bool.{true, false}
+use mathlib.Core.List.{List, _++_}
 use Prim.Native.Nat.{ℕ, _*_, _≤_}
 use native.Mathlib.Omega.{arith}
 use lib.ListN.{length}
@@ -18,30 +18,16 @@ use Rattle.store.specs.Trailer.{badSize, layoutOf, rootWord}
 use Rattle.store.specs.Sound.{soundWith, sound}
 use Rattle.store.specs.Refusal.{Refusal, firstRefusal}
 use Rattle.store.specs.Read.{validate, blockRefusals, shown}
-use Rattle.store.specs.Answers.{refusalNumber}
-use Rattle.store.specs.declared.answer.Refusal as Declared
-use Rattle.store.specs.declared.answer.Refusal.the-variants.{BadSize, Unsound, BadKey, BadValue, BadSlot, SlotNotInUse, NoRoom, BadSheet, BadReading, BadToday, Missing, HeldNoDate, Expired, OutsideGate}
-use Rattle.store.proofs.Refusals.{first-holds, first-fails, passed, zero-exactly}
+use Rattle.store.proofs.Refusals.{passed, zero-exactly}
+use Rattle.store.proofs.RefusalSteps.{refused-earlier}
 use Rattle.store.proofs.Roots.{root-parts, sound-parts}
 use Rattle.store.proofs.ValidateSteps.{layout-fits}
-
--- a number that is given, and none
-given-first : (before rest : List Refusal) → firstRefusal before ≢ 0 → firstRefusal (before ++ rest) ≡ firstRefusal before
-unfolding firstRefusal
-given-first [] rest given = absurd (given refl)
-given-first (r ∷ before) rest given = go (r .applies) refl (given-first before rest)
-  where
-    go : (t : Bool) → r .applies ≡ t → (firstRefusal before ≢ 0 → firstRefusal (before ++ rest) ≡ firstRefusal before)
-        → firstRefusal (r ∷ (before ++ rest)) ≡ firstRefusal (r ∷ before)
-    go true holds later = first-holds r (before ++ rest) holds ∙ sym (first-holds r before holds)
-    go false fails later =
-        first-fails r (before ++ rest) fails ∙ later (λ z. given (first-fails r before fails ∙ z)) ∙ sym (first-fails r before fails)
 
 -- a validation that refuses is the call's answer, whatever else the call asks
 module _ (b : List ℕ) (rest : List Refusal) where
   pub block-refused : (k : ℕ) → validate b ≡ k → k ≢ 0 → firstRefusal (blockRefusals b ++ rest) ≡ k
   unfolding validate
-  block-refused k given other = given-first (blockRefusals b) rest (λ z. other (sym given ∙ z)) ∙ given
+  block-refused k given other = refused-earlier (blockRefusals b) rest (λ z. other (sym given ∙ z)) ∙ given
 
   pub block-passed : validate b ≡ 0 → firstRefusal (blockRefusals b ++ rest) ≡ firstRefusal rest
   unfolding validate occurrences
@@ -73,20 +59,3 @@ module _ (b : List ℕ) (done : validate b ≡ 0) where
 
       pub shown-is : (key : List ℕ) → lookup layout (memoryOf b) word key ≡ shown b key
       shown-is key = rw (is, e)
-
--- no refusal has the number 0
-pub refusal-some : (r : Declared.Refusal) → refusalNumber r ≢ 0
-refusal-some BadSize e = omega arith
-refusal-some Unsound e = omega arith
-refusal-some BadKey e = omega arith
-refusal-some BadValue e = omega arith
-refusal-some BadSlot e = omega arith
-refusal-some SlotNotInUse e = omega arith
-refusal-some NoRoom e = omega arith
-refusal-some BadSheet e = omega arith
-refusal-some BadReading e = omega arith
-refusal-some BadToday e = omega arith
-refusal-some Missing e = omega arith
-refusal-some HeldNoDate e = omega arith
-refusal-some Expired e = omega arith
-refusal-some OutsideGate e = omega arith

@@ -15,7 +15,7 @@ use Rattle.store.specs.Refusal.{Refusal, refusal, firstRefusal, changedB
 use Rattle.store.proofs.Refusals.{NoneApplies, first-holds, first-fails, passed}
 
 -- no refusal has the number 0
-refusal-number : (why : declared.Refusal) → refusalNumber why ≢ 0
+pub refusal-number : (why : declared.Refusal) → refusalNumber why ≢ 0
 refusal-number BadSize e = omega (arith, e)
 refusal-number Unsound e = omega (arith, e)
 refusal-number BadKey e = omega (arith, e)

@@ -6,7 +6,6 @@ use lib.ListN.{length}
 use borrow.Author.Needs.{needs}
 use Rattle.cells.specs.Memory.{memoryOf}
 use Rattle.cells.specs.Writes.{written, wordWrites, cellWrites}
-use Rattle.cells.proofs.Words.{length-withWord}
 use Rattle.insertion.proofs.StageWrites.{writes-more, writes-end, copied-word}
 use Rattle.insertion.proofs.stage.copy_cell.Statement.{statement}
 use Rattle.insertion.proofs.stage.copy_cell.Tie as tie

@@ -1,7 +1,8 @@
 use mathlib.Core.Path.{sym, ap, _∙_}
 use Rattle.trees.specs.Coded.{lookupOf}
 use Rattle.store.specs.Answers.{changeNumber}
-use Rattle.store.proofs.ReadSteps.{block-size, block-fits, block-room, root-grown, shown-is, refusal-some}
+use Rattle.store.proofs.ReadSteps.{block-size, block-fits, block-room, root-grown, shown-is}
+use Rattle.store.proofs.RefusalSteps.{refusal-number}
 use Rattle.store.proofs.GetSteps.{get-refused, get-bad-key, get-missing, get-value}
 use borrow.Author.Needs.{needs}
 use Rattle.store.proofs.get.get.Statement.{statement}
@@ -24,7 +25,7 @@ enum-known-refusal c = search needs
 
 -- src/get.rt:37:9
 returns : tie.Need-returns
-returns c = get-refused _ _ _ (c .before .before .before .validate .ensures ∙ ap changeNumber (c .before .refusal .given .1)) (refusal-some (c .before .refusal .given .0 .0))
+returns c = get-refused _ _ _ (c .before .before .before .validate .ensures ∙ ap changeNumber (c .before .refusal .given .1)) (refusal-number (c .before .refusal .given .0 .0))
 
 enum-told : tie.Need-enum-told
 enum-told c = search needs

@@ -1,7 +1,8 @@
 use mathlib.Core.Path.{refl, sym, ap, _∙_}
 use borrow.Author.Tests.{not-true, not-false}
 use Rattle.store.specs.Answers.{changeNumber}
-use Rattle.store.proofs.ReadSteps.{block-size, block-fits, block-room, root-grown, refusal-some}
+use Rattle.store.proofs.ReadSteps.{block-size, block-fits, block-room, root-grown}
+use Rattle.store.proofs.RefusalSteps.{refusal-number}
 use Rattle.store.proofs.NextSteps.{next-refused, next-over-long, next-missing, next-found}
 use borrow.Author.Needs.{needs}
 use Rattle.store.proofs.next.next_key.Statement.{statement}
@@ -30,7 +31,7 @@ refused-next-requires c κs = search needs
 
 -- src/next.rt:46:9
 returns : tie.Need-returns
-returns c = next-refused _ _ _ (c .before .before .before .before .validate .ensures ∙ ap changeNumber (c .before .before .refusal .given .1)) (refusal-some (c .before .before .refusal .given .0 .0)) ∙ c .refused-next .ensures
+returns c = next-refused _ _ _ (c .before .before .before .before .validate .ensures ∙ ap changeNumber (c .before .before .refusal .given .1)) (refusal-number (c .before .before .refusal .given .0 .0)) ∙ c .refused-next .ensures
 
 enum-told : tie.Need-enum-told
 enum-told c = search needs

@@ -1,0 +1,148 @@
+-- One character of the build: the child of a node, its word without its value, and its child set.
+use mathlib.Core.Path.{_≡_, refl, sym, ap, _∙_, subst}
+use mathlib.Core.List.{List, [], _∷_}
+use mathlib.Core.Option.{Option, some}
+use native.Mathlib.Decide.{ℕ-discrete}
+use native.Mathlib.Omega.{arith}
+use Prim.Native.Nat.{ℕ, _<_}
+use types.Run.{miss}
+use borrow.Author.Tests.{eq-eqb, ne-eqb}
+use Rattle.cells.specs.Word.{wordAt}
+use Rattle.cells.specs.Memory.{Memory}
+use Rattle.nodes.specs.Layout.{Layout}
+use Rattle.nodes.specs.Pointer.{Pointer, pointer}
+use Rattle.nodes.specs.Prefix.{prefixLink}
+use Rattle.nodes.specs.Step.{found, missing, broken, wordStep, childStep}
+use Rattle.nodes.specs.Node.{Node, read}
+use Rattle.nodes.specs.Coded.{pointerOf, stepOf}
+use Rattle.nodes.specs.declared.pointer.Pointer.{Pointer as CodedPointer}
+use Rattle.nodes.specs.declared.pointer.Pointer.the-variants.{Nothing, Leaf, Chain, Split, Sparse, Prefix, Invalid}
+use Rattle.nodes.specs.declared.step.ChildStep.{ChildStep}
+use Rattle.nodes.specs.declared.step.ChildStep.the-variants.{Found, Missing, Broken}
+use Rattle.nodes.proofs.Rest.{Among}
+use Rattle.nodes.proofs.StepRead.{step-read}
+use Rattle.insertion.specs.Built.{Built, chainOver}
+use Rattle.insertion.specs.SplitBuild.{splitCopied}
+use Rattle.insertion.specs.SetChild.{chainSet, sparseSet, setChild}
+use Rattle.insertion.specs.Build.{wordAside, childOf}
+use Rattle.insertion.specs.Staged.{Fitting}
+
+-- what a step says of the child word
+step-some : (w v : ℕ) → found v ≡ wordStep w → v ≡ w
+unfolding wordStep
+step-some w v e = elim (ℕ-discrete w 0) [
+  | yes none-there ↦
+      let is : found v ≡ missing = rw (eq-eqb w 0 none-there) at e in
+      let clash : _≡_ {A = ℕ} 0 1 = cc in
+      absurd (omega arith)
+  | no other ↦ let is : found v ≡ found w = rw (ne-eqb w 0 other) at e in cc
+]
+
+step-none : (w : ℕ) → missing ≡ wordStep w → 0 ≡ w
+unfolding wordStep
+step-none w e = elim (ℕ-discrete w 0) [
+  | yes none-there ↦ sym none-there
+  | no other ↦
+      let is : missing ≡ found w = rw (ne-eqb w 0 other) at e in
+      let clash : _≡_ {A = ℕ} 0 1 = cc in
+      absurd (omega arith)
+]
+
+step-whole : (w : ℕ) → broken ≡ wordStep w → 0 ≡ w
+unfolding wordStep
+step-whole w e = elim (ℕ-discrete w 0) [
+  | yes none-there ↦ sym none-there
+  | no other ↦
+      let is : broken ≡ found w = rw (ne-eqb w 0 other) at e in
+      let clash : _≡_ {A = ℕ} 0 1 = cc in
+      absurd (omega arith)
+]
+
+-- the child of a node that is read
+pub child-is : (o : Option Node) (X : Node) (x : ℕ) → o ≡ some X → X .child x ≡ childOf o x
+unfolding childOf
+child-is o X x e = rw e
+
+module _ (layout : Layout) (m : Memory) (word x : ℕ) (X : Node) (node : read layout m word ≡ some X) (step : ChildStep)
+    (told : stepOf step ≡ childStep layout m word x) (near : x < 256) where
+  told-step : stepOf step ≡ wordStep (X .child x)
+  told-step = told ∙ step-read layout m word X x node near
+
+  pub child-found : (child : ℕ) → step ≡ Found child → child ≡ childOf (read layout m word) x
+  child-found child case = step-some (X .child x) child (ap stepOf (sym case) ∙ told-step) ∙ child-is (read layout m word) X x node
+
+  pub child-missing : step ≡ Missing → 0 ≡ childOf (read layout m word) x
+  child-missing case = step-none (X .child x) (ap stepOf (sym case) ∙ told-step) ∙ child-is (read layout m word) X x node
+
+  pub child-broken : step ≡ Broken → 0 ≡ childOf (read layout m word) x
+  child-broken case = step-whole (X .child x) (ap stepOf (sym case) ∙ told-step) ∙ child-is (read layout m word) X x node
+
+-- the word without the value
+module _ (layout : Layout) (m : Memory) (word : ℕ) (p : CodedPointer) (coded : pointerOf p ≡ pointer layout word) where
+  aside-at : wordAside layout m (pointerOf p) word ≡ wordAside layout m (pointer layout word) word
+  aside-at = ap (λ (q : Pointer). wordAside layout m q word) coded
+
+  pub aside-leaf : (v : ℕ) → p ≡ Leaf v → 0 ≡ wordAside layout m (pointer layout word) word
+  unfolding wordAside
+  aside-leaf v case = ap (λ (q : CodedPointer). wordAside layout m (pointerOf q) word) (sym case) ∙ aside-at
+
+  pub aside-prefix : (c : ℕ) (bytes : List ℕ) (link : ℕ) → p ≡ Prefix c → bytes ≡ m c → link ≡ wordAt bytes 28
+      → link ≡ wordAside layout m (pointer layout word) word
+  unfolding wordAside
+  aside-prefix c bytes link case read-as is =
+      is ∙ ap prefixLink read-as ∙ ap (λ (q : CodedPointer). wordAside layout m (pointerOf q) word) (sym case) ∙ aside-at
+
+  aside-rest : (q : CodedPointer) → Among (0 ∷ 2 ∷ 3 ∷ 4 ∷ 6 ∷ []) q → word ≡ wordAside layout m (pointerOf q) word
+  unfolding wordAside
+  aside-rest Nothing h = refl
+  aside-rest (Leaf v) h = absurd (miss (0 ∷ 2 ∷ 3 ∷ 4 ∷ 6 ∷ []) 1 tt h)
+  aside-rest (Chain c k) h = refl
+  aside-rest (Split c) h = refl
+  aside-rest (Sparse c) h = refl
+  aside-rest (Prefix c) h = absurd (miss (0 ∷ 2 ∷ 3 ∷ 4 ∷ 6 ∷ []) 5 tt h)
+  aside-rest Invalid h = refl
+
+  pub aside-same : Among (0 ∷ 2 ∷ 3 ∷ 4 ∷ 6 ∷ []) p → word ≡ wordAside layout m (pointer layout word) word
+  aside-same rest = aside-rest p rest ∙ aside-at
+
+-- a child set, by the case of the pointer
+module _ (layout : Layout) (number : ℕ → ℕ) (m : Memory) (word x : ℕ) (b : Built) (p : CodedPointer) (coded : pointerOf p ≡ pointer layout word) where
+  set-at : (q : CodedPointer) → p ≡ q → setChild layout number m (pointer layout word) x b ≡ setChild layout number m (pointerOf q) x b
+  set-at q case = ap (λ (r : Pointer). setChild layout number m r x b) (sym coded ∙ ap pointerOf case)
+
+  pub set-nothing : p ≡ Nothing → setChild layout number m (pointer layout word) x b ≡ chainOver number x b
+  unfolding setChild
+  set-nothing case = set-at Nothing case
+
+  pub set-leaf : (v : ℕ) → p ≡ Leaf v → setChild layout number m (pointer layout word) x b ≡ chainOver number x b
+  unfolding setChild
+  set-leaf v case = set-at (Leaf v) case
+
+  pub set-chain : (c k : ℕ) → p ≡ Chain c k → setChild layout number m (pointer layout word) x b ≡ chainSet number (m c) c k x b
+  unfolding setChild
+  set-chain c k case = set-at (Chain c k) case
+
+  pub set-split : (c : ℕ) → p ≡ Split c → setChild layout number m (pointer layout word) x b ≡ splitCopied number m c x b
+  unfolding setChild
+  set-split c case = set-at (Split c) case
+
+  pub set-sparse : (c : ℕ) → p ≡ Sparse c → setChild layout number m (pointer layout word) x b ≡ sparseSet number (m c) x b
+  unfolding setChild
+  set-sparse c case = set-at (Sparse c) case
+
+  set-rest : (q : CodedPointer) → Among (5 ∷ 6 ∷ []) q → b ≡ setChild layout number m (pointerOf q) x b
+  unfolding setChild
+  set-rest Nothing h = absurd (miss (5 ∷ 6 ∷ []) 0 tt h)
+  set-rest (Leaf v) h = absurd (miss (5 ∷ 6 ∷ []) 1 tt h)
+  set-rest (Chain c k) h = absurd (miss (5 ∷ 6 ∷ []) 2 tt h)
+  set-rest (Split c) h = absurd (miss (5 ∷ 6 ∷ []) 3 tt h)
+  set-rest (Sparse c) h = absurd (miss (5 ∷ 6 ∷ []) 4 tt h)
+  set-rest (Prefix c) h = refl
+  set-rest Invalid h = refl
+
+  pub set-none : Among (5 ∷ 6 ∷ []) p → b ≡ setChild layout number m (pointer layout word) x b
+  set-none rest = set-rest p rest ∙ ap (λ (r : Pointer). setChild layout number m r x b) coded
+
+-- a build fits where the one that it is does
+pub fits-as : {b b′ : Built} → b ≡ b′ → Fitting b → Fitting b′
+fits-as same fits = subst Fitting same fits

@@ -1,0 +1,115 @@
+// The build of one insertion: down by the key, and up again with each node's child set.
+ghost use mathlib.Core.Path.{_≡_};
+ghost use mathlib.Core.Option.{some};
+ghost use Prim.Native.Nat.{_-_, _*_, _≤_, _<_};
+ghost use lib.ListN.{length, take, drop};
+ghost use Rattle.cells.specs.Memory.{memoryOf};
+ghost use Rattle.nodes.specs.Pointer.{pointer};
+ghost use Rattle.nodes.specs.Node.{Node, read};
+ghost use Rattle.insertion.specs.SetChild.{setChild};
+ghost use Rattle.insertion.specs.Build.{wordAside, childOf, build};
+ghost use Rattle.insertion.specs.Commit.{numberFrom};
+ghost use Rattle.insertion.specs.Staged.{Numbered, builtOf, Fitting, HasTree};
+use crate::chain::chain_over;
+use crate::chain::chain_set;
+use crate::prefix::at_end;
+use crate::prefix::put_back;
+use crate::sparse_set::sparse_set;
+use crate::split::split_set;
+use crate::stage::Made;
+use cells::cell;
+use cells::word_at;
+use nodes::layout::Layout;
+use nodes::pointer::Pointer;
+use nodes::pointer::pointer_of;
+use nodes::step::ChildStep;
+use nodes::step::child_step;
+use nodes::value::value_at;
+
+// The child word of a character of a node that is valid.
+fn child_word(layout: Layout, block: &[u8], word: u32, x: u8) -> u32
+    requires { ⌜ (layout .cells * 32 ≤ length (now block)) × (layout .cells ≤ 2048) × ((node : Node) × (read layout (memoryOf (now block)) word ≡ some node)) ⌝ }
+    ensures { λ r. ⌜ r ≡ childOf (read layout (memoryOf (now (block .entry))) word) x ⌝ }
+{
+    let step = child_step(layout, block, word, x);
+    match step {
+        ChildStep::Found(child) => child,
+        ChildStep::Missing => 0,
+        ChildStep::Broken => 0,
+    }
+}
+
+// A node's word without its value: NONE for a leaf, the node linked for a prefix.
+fn word_aside(layout: Layout, block: &[u8], word: u32) -> u32
+    requires { ⌜ layout .cells * 32 ≤ length (now block) ⌝ }
+    ensures { λ r. ⌜ r ≡ wordAside layout (memoryOf (now (block .entry))) (pointer layout word) word ⌝ }
+{
+    let named = pointer_of(layout, word);
+    match named {
+        Pointer::Leaf(_) => 0,
+        Pointer::Prefix(number) => word_at(cell(block, number), 28),
+        _ => word,
+    }
+}
+
+// A child of a node with no value set, by the node's kind.
+pub fn set_child(
+    layout: Layout,
+    block: &[u8],
+    numbers: &[u16; 2048],
+    free: usize,
+    stage: &mut [u8; 6464],
+    word: u32,
+    x: u8,
+    below: Made,
+) -> Made
+    requires { ⌜ Numbered layout free × (layout .cells * 32 ≤ length (now block)) × ((node : Node) × (read layout (memoryOf (now block)) word ≡ some node)) × Fitting (setChild layout (numberFrom layout (take free (now numbers))) (memoryOf (now block)) (pointer layout word) x (builtOf below (now stage))) ⌝ }
+    ensures { λ r. ⌜ builtOf r (now (stage .exit)) ≡ setChild layout (numberFrom layout (take free (now (numbers .entry)))) (memoryOf (now (block .entry))) (pointer layout word) x (builtOf below (now (stage .entry))) ⌝ }
+{
+    let named = pointer_of(layout, word);
+    match named {
+        Pointer::Nothing => chain_over(layout, numbers, free, stage, x, below),
+        Pointer::Leaf(_) => chain_over(layout, numbers, free, stage, x, below),
+        Pointer::Chain(c, k) => chain_set(layout, block, numbers, free, stage, c, k, x, below),
+        Pointer::Split(c) => split_set(layout, block, numbers, free, stage, c, x, below),
+        Pointer::Sparse(c) => sparse_set(layout, block, numbers, free, stage, c, x, below),
+        _ => below,
+    }
+}
+
+// The path of a key from a character on copied into the stage, with the value at its end.
+pub fn build_from(
+    layout: Layout,
+    block: &[u8],
+    numbers: &[u16; 2048],
+    free: usize,
+    stage: &mut [u8; 6464],
+    key: &[u8],
+    i: usize,
+    word: u32,
+    value: u32,
+) -> Made
+    requires { ⌜ Numbered layout free × (layout .cells * 32 ≤ length (now block)) × (i ≤ length (now key)) × (length (now key) ≤ 48) × HasTree layout (memoryOf (now block)) word (length (now key) - i) ⌝ }
+    ensures { λ r. ⌜ builtOf r (now (stage .exit)) ≡ build layout (numberFrom layout (take free (now (numbers .entry)))) (memoryOf (now (block .entry))) word (drop i (now (key .entry))) value ⌝ }
+{
+    if key.len() <= i {
+        return at_end(layout, block, numbers, free, stage, word, value);
+    }
+    let x = key[i];
+    let child = child_word(layout, block, word, x);
+    let below = build_from(
+        layout,
+        block,
+        numbers,
+        free,
+        stage,
+        key,
+        i + 1,
+        child,
+        value,
+    );
+    let bare = word_aside(layout, block, word);
+    let placed = set_child(layout, block, numbers, free, stage, bare, x, below);
+    let held = value_at(layout, block, word);
+    put_back(layout, numbers, free, stage, held, placed)
+}
