@@ -4,3 +4,4 @@ pub mod Examples
 pub mod Laws
 pub mod WholeReadings
 pub mod VerdictLaws
+mod VerdictSteps

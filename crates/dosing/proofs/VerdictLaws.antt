@@ -7,7 +7,6 @@ use mathlib.Core.Option.{Option, none, some}
 use Prim.Native.Nat.{ℕ}
 use lib.Dec.{eqb}
 use lib.IntN.{pos}
-use lib.Ieee.{Float}
 use borrow.Author.Tests.{not-true, not-false}
 use Rattle.cells.specs.Choice.{pick}
 use Rattle.cells.specs.Occurrences.{occurrences, all, distinct}
@@ -23,7 +22,7 @@ use Rattle.dosing.specs.declared.temperature.Reading.{Reading}
 use Rattle.dosing.specs.declared.sheet.ProductSheet.{ProductSheet}
 use Rattle.dosing.specs.Temperature.{whole, celsius, validReading, inGate}
 use Rattle.dosing.specs.Sheet.{validSheet, doseOf}
-use Rattle.dosing.specs.Verdict.{Verdict, expiry, verdictRefusals, verdictOf, verdict}
+use Rattle.dosing.specs.Verdict.{Verdict, verdictRefusals, verdictOf, verdict}
 
 -- every number of the verdict's refusals, whatever is said of the sheet, the reading and the gate
 pub verdict-answers : (block label : List ℕ) (today : Date) (badSheet badReading outside : Bool)

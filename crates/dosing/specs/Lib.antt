@@ -2,3 +2,4 @@
 pub mod Temperature
 pub mod Sheet
 pub mod Verdict
+pub mod VerdictAnswers

@@ -21,11 +21,11 @@ use Rattle.store.proofs.Roots.{root-reachable, slot-reachable}
 
 -- a number passes a test as often as it stands there, or never
 module _ (test : ℕ → Bool) where
-  select-kept : (x : ℕ) (xs : List ℕ) → test x ≡ true → select test (x ∷ xs) ≡ x ∷ select test xs
+  pub select-kept : (x : ℕ) (xs : List ℕ) → test x ≡ true → select test (x ∷ xs) ≡ x ∷ select test xs
   unfolding select
   select-kept x xs e = rw e
 
-  select-dropped : (x : ℕ) (xs : List ℕ) → test x ≡ false → select test (x ∷ xs) ≡ select test xs
+  pub select-dropped : (x : ℕ) (xs : List ℕ) → test x ≡ false → select test (x ∷ xs) ≡ select test xs
   unfolding select
   select-dropped x xs e = rw e
 

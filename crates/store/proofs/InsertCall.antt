@@ -174,7 +174,7 @@ module _ (b key : List ℕ) (value : ℕ) (bytes : IsBytes b) (is-bytes : IsByte
 
 module _ (b key : List ℕ) (value : ℕ) where
   -- the answer is the first refusal's number; the block and the count are told by it
-  insert-done : firstRefusal (insertRefusals b key value) ≡ 0
+  pub insert-done : firstRefusal (insertRefusals b key value) ≡ 0
       → insert b key value ≡ record { answer = 0; count = length (blockBuild b key value .cells); block = leftBlock b key value }
   unfolding insert
   insert-done e = rw (eq-eqb (firstRefusal (insertRefusals b key value)) 0 e)

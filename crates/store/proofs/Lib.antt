@@ -19,3 +19,7 @@ pub mod GetSteps
 pub mod NextSteps
 pub mod RefusalSteps
 pub mod SnapshotSteps
+pub mod FreeSteps
+pub mod CommitSteps
+pub mod InsertRefused
+pub mod InsertCode

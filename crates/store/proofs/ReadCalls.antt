@@ -1,6 +1,6 @@
 -- The laws of the calls that only read: of a look-up and of the next key each answer is given exactly under its condition.
 use mathlib.Core.Path.{_≡_, refl, sym, ap, _∙_, subst}
-use mathlib.Core.Logic.{_≢_, _⊎_, inl, inr, ⊎-elim, _↔_}
+use mathlib.Core.Logic.{_≢_, _⊎_, ⊎-elim, _↔_}
 use mathlib.Core.Bool.{Bool, true, false, not}
 use mathlib.Core.List.{List, [], _++_}
 use mathlib.Core.Option.{Option, none, some}
@@ -89,7 +89,7 @@ pub record GetTable (b key : List ℕ) (r : Found) : Type 0 where
   pub zero : r .answer ≢ 0 → r .value ≡ 0
 
 module _ (b key : List ℕ) where
-  get-number : get b key .answer ≡ firstRefusal (getRefusals b key)
+  pub get-number : get b key .answer ≡ firstRefusal (getRefusals b key)
   unfolding get
   get-number = refl
 

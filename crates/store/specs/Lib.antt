@@ -10,3 +10,6 @@ pub mod Examples
 pub mod Fits
 pub mod Answers
 pub mod Stamps
+pub mod Unstamped
+pub mod Committed
+pub mod Lawful

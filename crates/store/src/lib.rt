@@ -7,3 +7,5 @@ pub mod get;
 pub mod key;
 pub mod next;
 pub mod snapshots;
+pub mod free_cells;
+pub mod inserting;

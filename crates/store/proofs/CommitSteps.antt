@@ -1,0 +1,56 @@
+-- A build written into a block cell by cell, and then its root word.
+use mathlib.Core.Path.{_≡_, refl, sym, ap, _∙_}
+use mathlib.Core.List.{List, [], _∷_, _++_}
+use Prim.Native.Nat.{ℕ, _+_, _<_}
+use native.Mathlib.Numerals.{add-one}
+use native.Mathlib.Omega.{arith}
+use lib.ListN.{length}
+use Rattle.cells.specs.Word.{withWord}
+use Rattle.cells.specs.Memory.{memoryOf}
+use Rattle.cells.specs.Writes.{written, cellWrites}
+use Rattle.cells.proofs.CellWrites.{written-append}
+use Rattle.nodes.specs.Layout.{Layout}
+use Rattle.insertion.specs.Built.{Built}
+use Rattle.insertion.specs.Commit.{buildWrites}
+use Rattle.insertion.specs.Staged.{staged}
+use Rattle.insertion.proofs.StageLaws.{staged-length}
+use Rattle.store.specs.Trailer.{trailerAt}
+use Rattle.store.specs.Committed.{commitWrites}
+
+module _ (number : ℕ → ℕ) (stage block : List ℕ) where
+  -- no cell written yet
+  pub commit-none : block ≡ written block (buildWrites number (staged stage 0))
+  unfolding staged buildWrites written
+  commit-none = refl
+
+  -- one cell more
+  pub commit-more : (before after : List ℕ) (i : ℕ) → before ≡ written block (buildWrites number (staged stage i))
+      → after ≡ written before (cellWrites (number i) (memoryOf stage i)) → after ≡ written block (buildWrites number (staged stage (i + 1)))
+  unfolding staged buildWrites
+  commit-more before after i so-far last =
+      last ∙ ap (λ (b : List ℕ). written b (cellWrites (number i) (memoryOf stage i))) so-far
+      ∙ sym (written-append block (buildWrites number (staged stage i)) (cellWrites (number i) (memoryOf stage i)))
+      ∙ ap (λ (n : ℕ). written block (buildWrites number (staged stage i) ++ cellWrites (number n) (memoryOf stage i))) (sym (staged-length stage i))
+      ∙ ap (λ (n : ℕ). written block (buildWrites number (staged stage n))) (sym (add-one i))
+
+  -- all written
+  pub commit-all : (after : List ℕ) (i count : ℕ) → after ≡ written block (buildWrites number (staged stage i)) → i ≡ count
+      → after ≡ written block (buildWrites number (staged stage count))
+  commit-all after i count so-far all = so-far ∙ ap (λ (n : ℕ). written block (buildWrites number (staged stage n))) all
+
+-- the root word after the cells
+pub commit-root : (layout : Layout) (number : ℕ → ℕ) (x : Built) (block celled after : List ℕ) (at : ℕ)
+    → celled ≡ written block (buildWrites number (x .cells)) → at ≡ trailerAt layout → after ≡ withWord celled at (x .word)
+    → after ≡ written block (commitWrites layout number x)
+unfolding commitWrites written
+commit-root layout number x block celled after at cells where-is last =
+    last ∙ ap (λ (n : ℕ). withWord celled n (x .word)) where-is ∙ ap (λ (b : List ℕ). withWord b (trailerAt layout) (x .word)) cells
+    ∙ sym (written-append block (buildWrites number (x .cells)) (record { at = trailerAt layout; word = x .word } ∷ []))
+
+-- numberings that agree on the places of the cells write the same
+pub writes-same : (number number′ : ℕ → ℕ) (cells : List (List ℕ)) → ((i : ℕ) → i < length cells → number i ≡ number′ i)
+    → buildWrites number cells ≡ buildWrites number′ cells
+unfolding buildWrites
+writes-same number number′ [] same = refl
+writes-same number number′ (newest ∷ rest) same =
+    rw (writes-same number number′ rest (λ i below. same i (omega arith)), same (length rest) (omega arith))

@@ -1,0 +1,100 @@
+-- The answers 1 to 4 in their order, and else the insertion of a lawful pair.
+use mathlib.Core.Path.{refl, sym, _∙_}
+use borrow.Author.Tests.{not-true, not-false}
+use Rattle.cells.specs.Bytes.{zeros}
+use Rattle.store.proofs.ValidateSteps.{layout-fits}
+use Rattle.store.proofs.InsertRefused.{insert-size, insert-unsound, insert-key, insert-value, insert-lawful}
+use borrow.Author.Needs.{needs}
+use Rattle.store.proofs.inserting.insert.Statement.{statement}
+use Rattle.store.proofs.inserting.insert.Tie as tie
+use Rattle.store.proofs.inserting.insert.Reads as reads
+use Rattle.store.proofs.inserting.insert.Lts as lts
+use Rattle.store.proofs.inserting.insert_lawful.Reads as insert-lawful-reads
+use Rattle.store.proofs.key.is_bad_key.Reads as is-bad-key-reads
+use Rattle.store.proofs.trailer_fields.is_bad_size.Reads as is-bad-size-reads
+use Rattle.store.proofs.trailer_fields.layout_of.Reads as layout-of-reads
+use Rattle.store.proofs.validate.is_sound.Reads as is-sound-reads
+
+is-bad-size-requires : tie.Need-is-bad-size-requires
+is-bad-size-requires c κs = search needs
+
+same-length : tie.Need-same-length
+same-length c = search needs
+
+returns : tie.Need-returns
+returns c = insert-size _ _ _ (sym (c .before .is-bad-size .ensures) ∙ c .if1 .taken)
+
+layout-of-requires : tie.Need-layout-of-requires
+layout-of-requires c κs = sym (c .before .before .is-bad-size .ensures) ∙ c .before .if1 .left
+
+is-sound-requires : tie.Need-is-sound-requires
+unfolding zeros
+is-sound-requires c κs =
+    let sized = c .before .before .before .before in
+    (layout-fits _ _ (sym (sized .before .is-bad-size .ensures) ∙ sized .if1 .left) (c .before .before .layout-of .ensures), refl)
+
+same-length-2 : tie.Need-same-length-2
+same-length-2 c = search needs
+
+returns-2 : tie.Need-returns-2
+returns-2 c =
+    let judged = c .before in
+    let sized = judged .before .before .before .before .before in
+    insert-unsound _ _ _ (sym (sized .before .is-bad-size .ensures) ∙ sized .if1 .left) _ _ _ (judged .before .before .before .layout-of .ensures) (judged .is-sound .ensures)
+    (not-true _ (c .if2 .taken))
+
+is-bad-key-requires : tie.Need-is-bad-key-requires
+is-bad-key-requires c κs = search needs
+
+same-length-3 : tie.Need-same-length-3
+same-length-3 c = search needs
+
+returns-3 : tie.Need-returns-3
+returns-3 c =
+    let judged = c .before .before .before in
+    let sized = judged .before .before .before .before .before in
+    insert-key _ _ _ (sym (sized .before .is-bad-size .ensures) ∙ sized .if1 .left) _ _ _ (judged .before .before .before .layout-of .ensures) (judged .is-sound .ensures)
+    (not-false _ (c .before .before .if2 .left)) (sym (c .before .is-bad-key .ensures) ∙ c .if3 .taken)
+
+same-length-4 : tie.Need-same-length-4
+same-length-4 c = search needs
+
+returns-4 : tie.Need-returns-4
+returns-4 c =
+    let judged = c .before .before .before .before in
+    let sized = judged .before .before .before .before .before in
+    insert-value _ _ _ (sym (sized .before .is-bad-size .ensures) ∙ sized .if1 .left) _ _ _ (judged .before .before .before .layout-of .ensures) (judged .is-sound .ensures)
+    (not-false _ (c .before .before .before .if2 .left)) (sym (c .before .before .is-bad-key .ensures) ∙ c .before .if3 .left) (c .if4 .taken)
+
+insert-lawful-requires : tie.Need-insert-lawful-requires
+insert-lawful-requires c κs =
+    let judged = c .before .before .before .before .before .before in
+    let sized = judged .before .before .before .before .before in
+    insert-lawful _ _ _ (sym (sized .before .is-bad-size .ensures) ∙ sized .if1 .left) _ _ _ (judged .before .before .before .layout-of .ensures) (judged .is-sound .ensures)
+    (not-false _ (c .before .before .before .before .before .if2 .left)) (sym (c .before .before .before .before .is-bad-key .ensures) ∙ c .before .before .before .if3 .left) (c .before .before .if4 .left)
+
+same-length-5 : tie.Need-same-length-5
+same-length-5 c = search needs
+
+returns-5 : tie.Need-returns-5
+returns-5 c = search needs
+
+pub insert-spec : {M : Type 1} → statement M
+insert-spec =
+    tie.close
+    (tie.spec
+    is-bad-size-requires
+    same-length
+    returns
+    layout-of-requires
+    is-sound-requires
+    same-length-2
+    returns-2
+    is-bad-key-requires
+    same-length-3
+    returns-3
+    same-length-4
+    returns-4
+    insert-lawful-requires
+    same-length-5
+    returns-5)

@@ -1,0 +1,17 @@
+-- A build written into a block, its cells at given numbers.
+use mathlib.Core.List.{List, [], _∷_, _++_}
+use Prim.Native.Nat.{ℕ, _+_, _*_, _≤_, _<_}
+use lib.ListN.{getD}
+use Rattle.cells.specs.Writes.{Write}
+use Rattle.nodes.specs.Layout.{Layout}
+use Rattle.insertion.specs.Built.{Built}
+use Rattle.insertion.specs.Commit.{buildWrites}
+use Rattle.store.specs.Trailer.{trailerAt}
+
+-- the cells of the first so many numbers lie inside so many bytes
+abbrev pub Inside : List ℕ → ℕ → ℕ → Type 0
+Inside numbers count size = (i : ℕ) → i < count → getD numbers i 0 * 32 + 32 ≤ size
+
+-- the cells in the order allocated, and then the root word
+unfoldable pub commitWrites : Layout → (ℕ → ℕ) → Built → List Write
+commitWrites layout number b = buildWrites number (b .cells) ++ (record { at = trailerAt layout; word = b .word } ∷ [])

@@ -1,0 +1,106 @@
+// Insertion of a pair into a block.
+ghost use mathlib.Core.Path.{_≡_};
+ghost use Prim.Native.Nat.{_≤_};
+ghost use lib.ListN.{length, getD};
+ghost use Rattle.cells.specs.Writes.{written};
+ghost use Rattle.insertion.specs.Commit.{buildWrites};
+ghost use Rattle.insertion.specs.Staged.{staged, builtOf};
+ghost use Rattle.store.specs.Answers.{insertedOutcome};
+ghost use Rattle.store.specs.Committed.{Inside, commitWrites};
+ghost use Rattle.store.specs.Fits.{Fits};
+ghost use Rattle.store.specs.Insert.{insert};
+ghost use Rattle.store.specs.Lawful.{Lawful};
+use crate::answer::InsertAnswer;
+use crate::answer::Refusal;
+use crate::free_cells::free_cells;
+use crate::key::is_bad_key;
+use crate::trailer_fields::is_bad_size;
+use crate::trailer_fields::layout_of;
+use crate::trailer_fields::root_word;
+use crate::trailer_fields::trailer_at;
+use crate::validate::is_sound;
+use cells::put_word;
+use insertion::build::build_from;
+use insertion::stage::Made;
+use insertion::stage::copy_cell;
+use nodes::layout::Layout;
+
+// Writes the staged cells, in the order allocated, into the block at their numbers.
+fn commit_cells(block: &mut [u8], stage: &[u8; 6464], numbers: &[u16; 2048], count: usize)
+    requires { ⌜ (count ≤ 202) × Inside (now numbers) count (length (now block)) ⌝ }
+    ensures { λ _. ⌜ now (block .exit) ≡ written (now (block .entry)) (buildWrites (λ i. getD (now (numbers .entry)) i 0) (staged (now (stage .entry)) count)) ⌝ }
+{
+    let mut i: usize = 0;
+    while i < count {
+        let number = numbers[i] as usize;
+        copy_cell(block, number, stage, i);
+        i += 1;
+    }
+}
+
+// Writes a build into the block: its cells, and then the root word.
+fn commit(layout: Layout, block: &mut [u8], stage: &[u8; 6464], numbers: &[u16; 2048], made: Made)
+    requires { ⌜ Fits layout (length (now block)) × (made .count ≤ 202) × Inside (now numbers) (made .count) (length (now block)) ⌝ }
+    ensures { λ _. ⌜ now (block .exit) ≡ written (now (block .entry)) (commitWrites layout (λ i. getD (now (numbers .entry)) i 0) (builtOf made (now (stage .entry)))) ⌝ }
+{
+    let count = made.count;
+    let word = made.word;
+    let at = trailer_at(layout);
+    commit_cells(block, stage, numbers, count);
+    put_word(block, at, word);
+}
+
+// Inserts a lawful pair into a sound block, if enough cells are free.
+fn insert_lawful(
+    layout: Layout,
+    block: &mut [u8],
+    stamps: &[u8; 2048],
+    key: &[u8],
+    value: u32,
+) -> InsertAnswer
+    requires { ⌜ Lawful layout (now block) (now stamps) (now key) value ⌝ }
+    ensures { λ r. ⌜ insert (now (block .entry)) (now (key .entry)) value ≡ insertedOutcome r (now (block .exit)) ⌝ }
+{
+    let root = root_word(layout, block);
+    let mut numbers = [0u16; 2048];
+    let free = free_cells(layout, root, stamps, &mut numbers);
+    let mut stage = [0u8; 6464];
+    let made = build_from(
+        layout,
+        block,
+        &numbers,
+        free,
+        &mut stage,
+        key,
+        0,
+        root,
+        value,
+    );
+    let count = made.count;
+    if free < count {
+        return InsertAnswer::Refused(Refusal::NoRoom);
+    }
+    commit(layout, block, &stage, &numbers, made);
+    InsertAnswer::Done(count as u32)
+}
+
+// Inserts a pair into a block and tells how many cells it allocated.
+pub fn insert(block: &mut [u8], key: &[u8], value: u32) -> InsertAnswer
+    ensures { λ r. ⌜ insert (now (block .entry)) (now (key .entry)) value ≡ insertedOutcome r (now (block .exit)) ⌝ }
+{
+    if is_bad_size(block) {
+        return InsertAnswer::Refused(Refusal::BadSize);
+    }
+    let layout = layout_of(block);
+    let mut stamps = [0u8; 2048];
+    if !is_sound(layout, block, &mut stamps) {
+        return InsertAnswer::Refused(Refusal::Unsound);
+    }
+    if is_bad_key(key) {
+        return InsertAnswer::Refused(Refusal::BadKey);
+    }
+    if 2147483647 < value {
+        return InsertAnswer::Refused(Refusal::BadValue);
+    }
+    insert_lawful(layout, block, &stamps, key, value)
+}
