@@ -1,0 +1,3 @@
+-- What follows from the definitions, and the ways through the code.
+pub mod NamedKinds
+pub mod NumberSteps

@@ -3,3 +3,8 @@ pub mod OneCall
 pub mod Lists
 pub mod Proved
 pub mod Dummies
+pub mod Decoding
+pub mod StepSteps
+pub mod RunSteps
+pub mod Upheld
+pub mod LoopSteps

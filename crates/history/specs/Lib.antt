@@ -3,3 +3,5 @@ pub mod Ledger
 pub mod Demand3
 pub mod Dummies
 pub mod Worked
+pub mod Encoded
+pub mod Running

@@ -1,1 +1,2 @@
-// Lists of calls beside the ledger.
+// Lists of calls beside the ledger, and a function that runs such a list.
+pub mod runner;

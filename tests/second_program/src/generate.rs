@@ -134,7 +134,8 @@ impl Scene {
     fn date(&self, random: &mut Random) -> [u32; 3] {
         let [year, month, day] = self.day;
         for _ in 0..8 {
-            let date = match random.chance(15) {
+            let exchanged = near(1, random) == 3;
+            let date = match exchanged {
                 true => [year, day, month],
                 false => [near(year, random), near(month, random), near(day, random)],
             };

@@ -1,0 +1,66 @@
+// The cases that the specification lists under "Also run".
+use crate::change_number;
+use crate::insert_count;
+use crate::insert_number;
+use crate::print;
+use cells::word_at;
+use store::formatting::format;
+use store::inserting::insert;
+use store::validate::validate;
+
+// Labels of 28, 29, 48 and 49 bytes in a fresh block of four cells.
+pub fn labels() {
+    let label = [0x41u8; 49];
+    let mut block = [0u8; 128];
+    format(&mut block);
+    insert(&mut block, &label[..28], 0);
+    print::word(b"28 bytes root ", word_at(&block, 96));
+    format(&mut block);
+    insert(&mut block, &label[..29], 0);
+    print::word(b"29 bytes root ", word_at(&block, 96));
+    format(&mut block);
+    insert(&mut block, &label[..48], 0);
+    print::word(b"48 bytes root ", word_at(&block, 96));
+    format(&mut block);
+    print::number(
+        b"49 bytes answer ",
+        insert_number(insert(&mut block, &label, 0)),
+    );
+}
+
+// Enters one child and writes how many cells it took.
+fn child(block: &mut [u8], key: &[u8], value: u32) {
+    print::number(b"child count ", insert_count(insert(block, key, value)));
+}
+
+// The seven children that make a split.
+pub fn seven_children() {
+    let mut block = [0u8; 512];
+    format(&mut block);
+    child(&mut block, b"3", 0);
+    child(&mut block, b"5", 1);
+    child(&mut block, b"A", 2);
+    child(&mut block, b"B", 3);
+    child(&mut block, b"C", 4);
+    child(&mut block, b"P", 5);
+    child(&mut block, b"Q", 6);
+    print::word(b"split root ", word_at(&block, 480));
+}
+
+// Blocks of 3 and of 2,049 cells.
+pub fn sizes() {
+    let mut small = [0u8; 96];
+    print::number(b"3 cells answer ", change_number(format(&mut small)));
+    let mut large = [0u8; 65568];
+    print::number(b"2049 cells answer ", change_number(format(&mut large)));
+}
+
+// A cell visited twice: a chain whose end leads into its own cell.
+pub fn visited_twice() {
+    let mut block = [0u8; 128];
+    format(&mut block);
+    insert(&mut block, b"A", 0);
+    print::number(b"visited once answer ", change_number(validate(&block)));
+    cells::put_word(&mut block, 60, 0x3B);
+    print::number(b"visited twice answer ", change_number(validate(&block)));
+}

@@ -1,0 +1,124 @@
+// Samples I to L, and limits met exactly.
+use crate::print;
+use calendar::Date;
+use calendar::Day;
+use calendar::Month;
+use calendar::Year;
+use calendar::date_of;
+use calendar::is_date;
+use calendar::packed;
+use dosing::sheet::ProductSheet;
+use dosing::temperature::Reading;
+use dosing::temperature::TemperatureGate;
+use dosing::temperature::to_celsius;
+use dosing::verdict::VerdictAnswer;
+use dosing::verdict::verdict;
+use order_words::is_valid_order;
+use store::formatting::format;
+use store::inserting::insert;
+
+// One or zero.
+fn flag(holds: bool) -> u32 {
+    if holds { 1 } else { 0 }
+}
+
+// Sample I.
+pub fn order_words() {
+    print::number(b"I 0006 ", flag(is_valid_order(0x0006)));
+    print::number(b"I 0026 ", flag(is_valid_order(0x0026)));
+    print::number(b"I 8129 ", flag(is_valid_order(0x8129)));
+    print::number(b"I 0001 ", flag(is_valid_order(0x0001)));
+    print::number(b"I 0007 ", flag(is_valid_order(0x0007)));
+}
+
+// The answer number of a verdict.
+fn verdict_number(answer: VerdictAnswer) -> u32 {
+    match answer {
+        VerdictAnswer::Dose(_) => 0,
+        VerdictAnswer::Refused(refusal) => store::answer::number(refusal) as u32,
+    }
+}
+
+// Whether a verdict gives this dose.
+fn gives(answer: VerdictAnswer, dose: f32) -> bool {
+    match answer {
+        VerdictAnswer::Dose(millilitres) => millilitres == dose,
+        VerdictAnswer::Refused(_) => false,
+    }
+}
+
+// The number of 7 March 2025.
+const EXPIRY: u32 = 1036903;
+
+// A cartridge that expires on 7 March 2025, judged on a day with a gate and a reading, for K's bead.
+fn judged(today: Date, gate: TemperatureGate, reading: Reading) -> VerdictAnswer {
+    let mut block = [0u8; 128];
+    format(&mut block);
+    insert(&mut block, b"A", EXPIRY);
+    let sheet = ProductSheet {
+        gate,
+        section: 60.0,
+        length: 4000.0,
+    };
+    verdict(&block, b"A", today, reading, sheet)
+}
+
+// A date as the number that a block holds, 0 where it is none.
+fn packed_number(date: Date) -> u32 {
+    if is_date(date) {
+        return packed(date);
+    }
+    0
+}
+
+// Samples J, K and L.
+pub fn dates() {
+    let expiry = date_of(Year(2025), Month(3), Day(7));
+    print::number(b"J packed ", packed_number(expiry));
+    let room = Reading::Celsius(20.0);
+    print::number(
+        b"J that day ",
+        verdict_number(judged(expiry, TemperatureGate::Any, room)),
+    );
+    let next = date_of(Year(2025), Month(3), Day(8));
+    print::number(
+        b"J next day ",
+        verdict_number(judged(next, TemperatureGate::Any, room)),
+    );
+    let july = date_of(Year(2025), Month(7), Day(3));
+    print::number(
+        b"J 3 July 2025 ",
+        verdict_number(judged(july, TemperatureGate::Any, room)),
+    );
+    print::number(
+        b"K 240 ml ",
+        flag(gives(judged(expiry, TemperatureGate::Any, room), 240.0)),
+    );
+    print::number(b"L 200 degrees ", flag(to_celsius(392.0) == 200.0));
+}
+
+// Limits met exactly, and just missed.
+pub fn limits() {
+    let day = date_of(Year(2025), Month(3), Day(7));
+    let gate = TemperatureGate::Between(5.0, 200.0);
+    print::number(
+        b"low limit met ",
+        verdict_number(judged(day, gate, Reading::Celsius(5.0))),
+    );
+    print::number(
+        b"high limit met ",
+        verdict_number(judged(day, gate, Reading::Fahrenheit(392.0))),
+    );
+    print::number(
+        b"low limit missed ",
+        verdict_number(judged(day, gate, Reading::Celsius(4.5))),
+    );
+    print::number(
+        b"reading limit met ",
+        verdict_number(judged(day, TemperatureGate::Any, Reading::Celsius(400.0))),
+    );
+    print::number(
+        b"reading limit missed ",
+        verdict_number(judged(day, TemperatureGate::Any, Reading::Celsius(400.5))),
+    );
+}

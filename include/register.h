@@ -1,0 +1,76 @@
+/* The cartridge register for controller firmware.
+ *
+ * A register is one block of cells of 32 bytes, 4 to 2,048 of them, that the caller owns and lends to each call. A fresh block
+ * is all zero but for the last cell: its bytes 14 to 17 (hex) hold the number of cells and its byte 1F holds 1, highest byte
+ * first. Each key is 1 to 48 bytes of any value, each value a number up to 2,147,483,647. A cartridge is entered under its
+ * label, with its expiry day as value: year x 512 + month x 32 + day.
+ *
+ * Every call judges the whole block and all that it is told, whatever comes in, and answers with the lowest number below that
+ * applies. On every answer but REGISTER_DONE the block stays byte for byte and the number beside the answer is zero.
+ *
+ * A pointer to bytes stands before the number of bytes; it may be NULL where that is 0. The last pointer of a call leads to one
+ * number, is never NULL and is written on every answer. The block, the bytes and that number do not overlap.
+ */
+#ifndef REGISTER_H
+#define REGISTER_H
+
+#include <stddef.h>
+#include <stdint.h>
+
+#ifdef __cplusplus
+extern "C" {
+#endif
+
+/* What a call answers. 5 and 6 are answers of calls that firmware does not have. */
+enum {
+    REGISTER_DONE = 0,
+    REGISTER_BAD_SIZE = 1,     /* the size is no multiple of 32, or not 4 to 2,048 cells */
+    REGISTER_UNSOUND = 2,      /* the bytes are no register */
+    REGISTER_BAD_KEY = 3,      /* the key or label is empty or over 48 bytes */
+    REGISTER_BAD_VALUE = 4,    /* the value is over 2,147,483,647 */
+    REGISTER_NO_ROOM = 7,      /* the insertion takes more cells than are free */
+    REGISTER_BAD_SHEET = 8,    /* no gate kind, a limit that the kind uses outside -100 to 400, low above high, section outside
+                                  0.5 to 100, length outside 1 to 10,000, or any of these not a number */
+    REGISTER_BAD_READING = 9,  /* no unit, or degrees outside -100 to 400 in their own unit or not a number */
+    REGISTER_BAD_TODAY = 10,   /* today is no date of the years 2000 to 2199 */
+    REGISTER_MISSING = 11,     /* the register does not hold the key or label */
+    REGISTER_HELD_NO_DATE = 12, /* the value held for the label is no date */
+    REGISTER_EXPIRED = 13,     /* today is after the expiry day */
+    REGISTER_OUTSIDE_GATE = 14 /* the temperature is outside the gate */
+};
+
+/* The kinds of a temperature gate; its limits are in Celsius and count as inside. */
+enum {
+    REGISTER_GATE_ANY = 1,      /* uses neither limit */
+    REGISTER_GATE_AT_LEAST = 2, /* uses the low limit */
+    REGISTER_GATE_BETWEEN = 3   /* uses both limits */
+};
+
+/* The units of a temperature reading. */
+enum {
+    REGISTER_CELSIUS = 1,
+    REGISTER_FAHRENHEIT = 2
+};
+
+/* Enters a key with its value, in place of an older one, and tells in *count how many cells that took.
+ * Answers: done, bad size, unsound, bad key, bad value, no room. */
+uint8_t register_insert(uint8_t *block, size_t block_size, const uint8_t *key, size_t key_size, uint32_t value,
+                        uint32_t *count);
+
+/* Looks a key up and tells its value in *value.
+ * Answers: done, bad size, unsound, bad key, missing. */
+uint8_t register_get(const uint8_t *block, size_t block_size, const uint8_t *key, size_t key_size, uint32_t *value);
+
+/* Judges whether a bead may be laid today from the cartridge of a label: the reading of the thermometer (unit and degrees) is
+ * held against the gate of the product sheet (kind, low and high), and *dose tells the millilitres of a bead of this section in
+ * square millimetres and this length in millimetres. A limit that the gate kind does not use is not judged.
+ * Answers: done, bad size, unsound, bad key, and all from bad sheet on. */
+uint8_t register_verdict(const uint8_t *block, size_t block_size, const uint8_t *label, size_t label_size, uint32_t year,
+                         uint32_t month, uint32_t day, uint32_t unit, float degrees, uint32_t kind, float low, float high,
+                         float section, float length, float *dose);
+
+#ifdef __cplusplus
+}
+#endif
+
+#endif
