@@ -23,3 +23,4 @@ pub mod FreeSteps
 pub mod CommitSteps
 pub mod InsertRefused
 pub mod InsertCode
+pub mod FreeWrites

@@ -1,0 +1,130 @@
+//! The plain program: the same answers over the same block bytes, in ordinary Rust without a proof.
+
+use crate::insertion;
+use crate::validation;
+use crate::walk;
+
+/// Bytes in one cell.
+pub const CELL: usize = 32;
+
+/// The longest key, and so the deepest path, in characters.
+pub const LONGEST_KEY: usize = 48;
+
+/// The kinds of a pointer that are not a chain's; every lower one is a chain's.
+pub const SPLIT: usize = 0x1C;
+/// The kind that no pointer has.
+pub const NO_KIND: usize = 0x1D;
+/// The kind of a sparse cell.
+pub const SPARSE: usize = 0x1E;
+/// The kind of a prefix cell.
+pub const PREFIX: usize = 0x1F;
+
+/// The answer to the question for the next key: its size and its bytes, zero past the size.
+#[derive(Clone, Copy, Debug, PartialEq, Eq)]
+pub struct Next {
+    pub answer: u8,
+    pub size: u32,
+    pub key: [u8; LONGEST_KEY],
+}
+
+/// The four bytes at an offset as a number, highest byte first.
+pub fn word_at(block: &[u8], offset: usize) -> u32 {
+    u32::from_be_bytes([block[offset], block[offset + 1], block[offset + 2], block[offset + 3]])
+}
+
+/// Writes a number at an offset, highest byte first.
+pub fn put_word(block: &mut [u8], offset: usize, word: u32) {
+    block[offset..offset + 4].copy_from_slice(&word.to_be_bytes());
+}
+
+/// Whether a pointer is a leaf's.
+pub fn is_leaf(word: u32) -> bool {
+    word >> 31 == 1
+}
+
+/// The cell that a pointer names.
+pub fn cell_of(word: u32) -> usize {
+    word as usize / CELL
+}
+
+/// The kind that a pointer names.
+pub fn kind_of(word: u32) -> usize {
+    word as usize % CELL
+}
+
+/// The root pointer of a block.
+pub fn root_of(block: &[u8]) -> u32 {
+    word_at(block, block.len() - CELL)
+}
+
+/// Whether a block of this length holds from 4 to 2,048 whole cells.
+fn lawful_length(length: usize) -> bool {
+    length % CELL == 0 && (4..=2048).contains(&(length / CELL))
+}
+
+/// Whether the block is sound, as an answer number.
+#[inline(never)]
+pub fn validate(block: &[u8]) -> u8 {
+    if !lawful_length(block.len()) {
+        return 1;
+    }
+    match validation::reached(block) {
+        Some(_) => 0,
+        None => 2,
+    }
+}
+
+/// Looks a key up after validation: the answer number and the value.
+#[inline(never)]
+pub fn get(block: &[u8], key: &[u8]) -> (u8, u32) {
+    let answer = validate(block);
+    if answer != 0 {
+        return (answer, 0);
+    }
+    if key.is_empty() || key.len() > LONGEST_KEY {
+        return (3, 0);
+    }
+    match walk::value_of(block, root_of(block), key) {
+        Some(value) => (0, value),
+        None => (11, 0),
+    }
+}
+
+/// The least key that is greater than the given one, after validation.
+#[inline(never)]
+pub fn next_key(block: &[u8], key: &[u8]) -> Next {
+    let mut next = Next { answer: validate(block), size: 0, key: [0; LONGEST_KEY] };
+    if next.answer != 0 {
+        return next;
+    }
+    if key.len() > LONGEST_KEY {
+        next.answer = 3;
+        return next;
+    }
+    match walk::least_above(block, root_of(block), Some(key), 0, &mut next.key) {
+        Some(size) => next.size = size as u32,
+        None => next = Next { answer: 11, size: 0, key: [0; LONGEST_KEY] },
+    }
+    next
+}
+
+/// Enters a key with its value after validation: the answer number and the count of cells taken.
+#[inline(never)]
+pub fn insert(block: &mut [u8], key: &[u8], value: u32) -> (u8, u32) {
+    if !lawful_length(block.len()) {
+        return (1, 0);
+    }
+    let Some(reached) = validation::reached(block) else {
+        return (2, 0);
+    };
+    if key.is_empty() || key.len() > LONGEST_KEY {
+        return (3, 0);
+    }
+    if is_leaf(value) {
+        return (4, 0);
+    }
+    match insertion::insert(block, &reached, key, value) {
+        Some(count) => (0, count),
+        None => (7, 0),
+    }
+}

@@ -1,0 +1,57 @@
+//! The proved library behind its C functions; all use of them stands in this file.
+
+use crate::plain::Next;
+
+extern "C" {
+    fn exports_validate(block: *const u8, block_len: usize) -> u8;
+    fn exports_insert(
+        block: *mut u8,
+        block_len: usize,
+        key: *const u8,
+        key_len: usize,
+        value: u32,
+        count: *mut u32,
+    ) -> u8;
+    fn exports_get(block: *const u8, block_len: usize, key: *const u8, key_len: usize, value: *mut u32) -> u8;
+    fn exports_next_key(
+        block: *const u8,
+        block_len: usize,
+        key: *const u8,
+        key_len: usize,
+        size: *mut u32,
+        key_out: *mut u8,
+    ) -> u8;
+}
+
+/// Whether the block is sound, as an answer number.
+pub fn validate(block: &[u8]) -> u8 {
+    // The pointer comes with the length of its own slice.
+    unsafe { exports_validate(block.as_ptr(), block.len()) }
+}
+
+/// Looks a key up: the answer number and the value.
+pub fn get(block: &[u8], key: &[u8]) -> (u8, u32) {
+    let mut value = 0;
+    // Each pointer comes with the length of its own slice, and no slice overlaps another.
+    let answer = unsafe { exports_get(block.as_ptr(), block.len(), key.as_ptr(), key.len(), &mut value) };
+    (answer, value)
+}
+
+/// The least key that is greater than the given one.
+pub fn next_key(block: &[u8], key: &[u8]) -> Next {
+    let mut next = Next { answer: 0, size: 0, key: [0; 48] };
+    let out = next.key.as_mut_ptr();
+    // Each pointer comes with the length of its own slice, and no slice overlaps another.
+    next.answer =
+        unsafe { exports_next_key(block.as_ptr(), block.len(), key.as_ptr(), key.len(), &mut next.size, out) };
+    next
+}
+
+/// Enters a key with its value: the answer number and the count of cells taken.
+pub fn insert(block: &mut [u8], key: &[u8], value: u32) -> (u8, u32) {
+    let mut count = 0;
+    // Each pointer comes with the length of its own slice, and no slice overlaps another.
+    let answer =
+        unsafe { exports_insert(block.as_mut_ptr(), block.len(), key.as_ptr(), key.len(), value, &mut count) };
+    (answer, count)
+}

@@ -1,0 +1,134 @@
+//! Validation in the plain program: every rule of a sound block, with an array of the cells visited.
+
+use crate::plain::{cell_of, is_leaf, kind_of, word_at, CELL, LONGEST_KEY, NO_KIND, PREFIX, SPARSE, SPLIT};
+
+/// For each cell one bit for each root (the root's own, then the marks') whose tree has entered it.
+pub type Reached = [u8; 2048];
+
+/// The cells that each root reaches, or nothing where the block is not sound.
+pub fn reached(block: &[u8]) -> Option<Reached> {
+    let trailer = &block[block.len() - CELL..];
+    if !lawful_trailer(trailer, block.len() / CELL) {
+        return None;
+    }
+    let mut visit = Visit { block, reached: [0; 2048], bit: 1 };
+    let mut sound = visit.root(word_at(trailer, 0));
+    for slot in 0..3 {
+        visit.bit = 2 << slot;
+        let held = trailer[0x10] >> slot & 1 == 1;
+        sound = sound && (!held || visit.root(word_at(trailer, 4 + 4 * slot)));
+    }
+    sound.then_some(visit.reached)
+}
+
+/// Whether all of the trailer is lawful but for the trees of its roots.
+fn lawful_trailer(trailer: &[u8], cells: usize) -> bool {
+    let idle_zero = |slot: usize| trailer[0x10] >> slot & 1 == 1 || word_at(trailer, 4 + 4 * slot) == 0;
+    trailer[0x10] <= 7
+        && trailer[0x11..0x14] == [0; 3]
+        && word_at(trailer, 0x14) as usize == cells
+        && word_at(trailer, 0x18) == 0
+        && word_at(trailer, 0x1C) == 1
+        && (0..3).all(idle_zero)
+}
+
+/// The visit of one root's tree.
+struct Visit<'a> {
+    block: &'a [u8],
+    reached: Reached,
+    bit: u8,
+}
+
+impl Visit<'_> {
+    /// Whether a root is nothing, a chain, a sparse or a split with a sound tree.
+    fn root(&mut self, word: u32) -> bool {
+        word == 0 || (!is_leaf(word) && kind_of(word) != PREFIX && self.node(word, LONGEST_KEY))
+    }
+
+    /// Enters the cell of a pointer, which must be usable and new to this tree.
+    fn enter(&mut self, word: u32) -> bool {
+        let cell = cell_of(word);
+        if cell == 0 || cell + 1 >= self.block.len() / CELL || self.reached[cell] & self.bit != 0 {
+            return false;
+        }
+        self.reached[cell] |= self.bit;
+        true
+    }
+
+    /// Whether a pointer that is not NONE leads to a sound tree, with so many characters left.
+    fn node(&mut self, word: u32, left: usize) -> bool {
+        if is_leaf(word) {
+            return true;
+        }
+        if word == 0 || kind_of(word) == NO_KIND || !self.enter(word) {
+            return false;
+        }
+        let offset = cell_of(word) * CELL;
+        match kind_of(word) {
+            SPLIT => left > 0 && self.part(offset + 0x10, 4, 2, left - 1),
+            SPARSE => left > 0 && self.sparse(offset, left - 1),
+            PREFIX => self.prefix(offset, left),
+            kind => 0x1C - kind <= left && self.node(word_at(self.block, offset + 0x1C), left - (0x1C - kind)),
+        }
+    }
+
+    /// Whether a prefix holds a value over a sound chain, sparse or split.
+    fn prefix(&mut self, offset: usize, left: usize) -> bool {
+        let link = word_at(self.block, offset + 0x1C);
+        self.block[offset] < 0x80
+            && self.block[offset + 4] == 0xFF
+            && !is_leaf(link)
+            && kind_of(link) != PREFIX
+            && self.node(link, left)
+    }
+
+    /// Whether a sparse cell has a lawful order word and two to six sound children.
+    fn sparse(&mut self, offset: usize, left: usize) -> bool {
+        let block = self.block;
+        let child = |position: usize| word_at(block, offset + 4 * position);
+        let count = (0..6).take_while(|position| child(*position) != 0).count();
+        count >= 2
+            && (count..6).all(|position| child(position) == 0)
+            && lawful_order(&block[offset + 0x18..offset + 0x20], count)
+            && (0..count).all(|position| self.node(child(position), left))
+    }
+
+    /// Whether a head, mid or end holds a pointer at least, each of them sound; levels says how many parts lie below.
+    fn part(&mut self, offset: usize, words: usize, levels: usize, left: usize) -> bool {
+        let mut any = false;
+        for place in 0..words {
+            let word = word_at(self.block, offset + 4 * place);
+            if word == 0 {
+                continue;
+            }
+            any = true;
+            let sound = if levels == 0 {
+                self.node(word, left)
+            } else {
+                !is_leaf(word)
+                    && kind_of(word) == SPLIT
+                    && self.enter(word)
+                    && self.part(cell_of(word) * CELL, 8, levels - 1, left)
+            };
+            if !sound {
+                return false;
+            }
+        }
+        any
+    }
+}
+
+/// Whether the order word after six characters lists so many of them strictly rising, position 1 after position 0.
+fn lawful_order(bytes: &[u8], count: usize) -> bool {
+    let mut rest = u16::from_be_bytes([bytes[6], bytes[7]]);
+    let mut last = None;
+    for _ in 0..count {
+        let position = (rest % 6) as usize;
+        rest /= 6;
+        if position >= count || last.is_some_and(|character| character >= bytes[position]) {
+            return false;
+        }
+        last = Some(bytes[position]);
+    }
+    rest == 0 && bytes[0] < bytes[1]
+}

@@ -1,0 +1,50 @@
+-- The writes of an insertion before its last, the root word, touch only cells that were free.
+use mathlib.Core.Path.{_≡_, refl}
+use mathlib.Core.Bool.{true, false}
+use mathlib.Core.List.{List, [], _∷_, _++_}
+use Prim.Native.Nat.{ℕ, zero, suc, _+_, _*_, _/_, _≤_, _<_}
+use native.Mathlib.Omega.{arith}
+use lib.ListN.{length}
+use Rattle.cells.specs.Memory.{memoryOf}
+use Rattle.cells.specs.Occurrences.{occurrences}
+use Rattle.cells.specs.Writes.{Write, wordWrites}
+use Rattle.cells.proofs.Occurrences.{occurrences-here, occurrences-later}
+use Rattle.cells.proofs.Pointers.{cell-of-made}
+use Rattle.insertion.specs.Commit.{buildWrites}
+use Rattle.insertion.proofs.Claims.{numbers}
+use Rattle.insertion.proofs.Commit.{numbers-free}
+use Rattle.store.specs.Trailer.{layoutOf}
+use Rattle.store.specs.Free.{free}
+use Rattle.store.specs.Insert.{numbering, blockBuild}
+
+-- every write is into a cell of a list
+abbrev pub WritesInto : List ℕ → List Write → Type 0
+WritesInto cells [] = Unit {0}
+WritesInto cells (w ∷ ws) = (1 ≤ occurrences (w .at / 32) cells) × WritesInto cells ws
+
+into-append : (cells : List ℕ) (xs ys : List Write) → WritesInto cells xs → WritesInto cells ys → WritesInto cells (xs ++ ys)
+into-append cells [] ys x y = y
+into-append cells (w ∷ ws) ys x y = (x .0, into-append cells ws ys (x .1) y)
+
+into-words : (cells : List ℕ) (c : ℕ) (bytes : List ℕ) (left i : ℕ) → i + left ≤ 8 → 1 ≤ occurrences c cells → WritesInto cells (wordWrites c bytes left i)
+unfolding wordWrites
+into-words cells c bytes zero i fits here = tt
+into-words cells c bytes (suc left) i fits here =
+    (rw (cell-of-made c (4 * i) (omega arith)) here, into-words cells c bytes left (i + 1) (omega arith) here)
+
+-- the cells of a build, where each of its numbers is in the list
+pub into-build : (cells : List ℕ) (number : ℕ → ℕ) (built : List (List ℕ))
+    → ((c : ℕ) → 1 ≤ occurrences c (numbers number built) → 1 ≤ occurrences c cells) → WritesInto cells (buildWrites number built)
+unfolding buildWrites numbers
+into-build cells number [] within = tt
+into-build cells number (newest ∷ rest) within =
+    into-append cells (buildWrites number rest) _
+    (into-build cells number rest (λ c h. within c (omega (arith, h, occurrences-later c (number (length rest)) (numbers number rest)))))
+    (into-words cells (number (length rest)) newest 8 0 (omega arith) (within (number (length rest)) (occurrences-here (number (length rest)) (numbers number rest))))
+
+-- an insertion that fits writes its cells into free ones
+pub writes-free : (b key : List ℕ) (value : ℕ) → length (blockBuild b key value .cells) ≤ length (free (layoutOf b) b)
+    → WritesInto (free (layoutOf b) b) (buildWrites (numbering b) (blockBuild b key value .cells))
+writes-free b key value enough =
+    into-build (free (layoutOf b) b) (numbering b) (blockBuild b key value .cells)
+    (λ c h. omega (arith, h, numbers-free (layoutOf b) (free (layoutOf b) b) (blockBuild b key value .cells) enough c))
