@@ -1,3 +1,4 @@
 -- What follows from the definitions, and the ways through the code.
 pub mod NamedKinds
 pub mod NumberSteps
+pub mod EveryChoice

@@ -37,3 +37,4 @@ pub mod StagedRows
 pub mod StagedSparse
 pub mod StagedSplitOf
 pub mod StagedSplits
+pub mod Needed

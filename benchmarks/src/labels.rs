@@ -1,0 +1,32 @@
+//! Seeded labels, so that every run measures the same work.
+
+/// A xorshift generator; its state is never zero.
+pub struct Random(pub u64);
+
+impl Random {
+    /// A number from 0 to one under the bound.
+    pub fn below(&mut self, bound: usize) -> usize {
+        self.0 ^= self.0 << 13;
+        self.0 ^= self.0 >> 7;
+        self.0 ^= self.0 << 17;
+        (((self.0 >> 32) * bound as u64) >> 32) as usize
+    }
+
+    /// A label as on a cartridge: a product, then four to ten digits and letters; one in eight is cut short.
+    fn label(&mut self) -> Vec<u8> {
+        let products = ["BETA-", "BETA-K", "PU1K-", "PU1K-HV-", "WS", "LOT ", "7", "MK"];
+        let mut label = products[self.below(products.len())].as_bytes().to_vec();
+        for _ in 0..4 + self.below(7) {
+            label.push(b"0123456789ABCDEFHKLMNPRSTX"[self.below(26)]);
+        }
+        if self.below(8) == 0 {
+            label.truncate(1 + self.below(label.len()));
+        }
+        label
+    }
+
+    /// So many labels, some of them the same or the beginning of another.
+    pub fn labels(&mut self, count: usize) -> Vec<Vec<u8>> {
+        (0..count).map(|_| self.label()).collect()
+    }
+}

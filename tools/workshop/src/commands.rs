@@ -1,0 +1,173 @@
+//! The commands: each reads the block of a file, makes its calls on the library and gives the lines to print.
+
+use crate::block_file;
+use crate::dates;
+use crate::proved::{self, Sheet, CELL_SIZE, MOST_CELLS_LENT};
+use crate::trouble::{No, Trouble};
+use crate::words;
+use std::ffi::{OsStr, OsString};
+use std::path::Path;
+
+/// How the commands are given.
+pub const USAGE: &str = "\
+workshop new FILE CELLS          make a fresh block in a new file
+workshop enter FILE LABEL DATE   enter a cartridge with its expiry day
+workshop list FILE               list all labels in order
+workshop find FILE LABEL         show the expiry day of a label
+workshop next FILE LABEL         show the next label in order
+workshop mark FILE SLOT          mark the present state in slot 1, 2 or 3
+workshop back FILE SLOT          go back to a marked state
+workshop drop FILE SLOT          drop a mark
+workshop check FILE              check that the block is sound
+workshop verdict FILE LABEL --today DATE --reading 20C|68F --gate any|5..|5..40 --section 60 --length 4000
+                                 judge whether a cartridge may be laid, and give the dose
+                                 (gate in degrees Celsius, section in square millimetres, length in millimetres)
+A DATE is written 2025-03-07. A LABEL is text, or hex:43484131.
+Exit status: 0 done, 1 to 14 the number of the no, 64 the command was not understood, 74 trouble with a file.
+";
+
+/// What the commands that alter a slot have in common.
+type SlotCall = fn(&mut [u8], u32) -> Result<(), No>;
+
+/// The five options of a verdict, in the order in which they are asked for.
+const VERDICT_OPTIONS: [&str; 5] = ["--today", "--reading", "--gate", "--section", "--length"];
+
+/// Carries out a command and gives what it prints.
+pub fn perform(arguments: &[OsString]) -> Result<String, Trouble> {
+    let Some((command, rest)) = arguments.split_first() else {
+        return Err(Trouble::Usage(format!("no command was given\n{}", USAGE.trim_end())));
+    };
+    match (words::text(command)?, rest) {
+        ("help" | "--help" | "-h", []) => Ok(USAGE.to_string()),
+        ("new", [file, cells]) => new(Path::new(file), cells),
+        ("enter", [file, label, date]) => enter(Path::new(file), label, date),
+        ("list", [file]) => list(Path::new(file)),
+        ("find", [file, label]) => find(Path::new(file), label),
+        ("next", [file, label]) => next(Path::new(file), label),
+        ("mark", [file, slot]) => slot_change(Path::new(file), slot, proved::snapshot, "marked slot"),
+        ("back", [file, slot]) => slot_change(Path::new(file), slot, proved::restore, "back to slot"),
+        ("drop", [file, slot]) => slot_change(Path::new(file), slot, proved::release, "dropped slot"),
+        ("check", [file]) => check(Path::new(file)),
+        ("verdict", [file, label, options @ ..]) => verdict(Path::new(file), label, options),
+        (name, _) => Err(misused(name)),
+    }
+}
+
+/// Says how a command is given, or that there is no such command.
+fn misused(name: &str) -> Trouble {
+    let start = format!("workshop {name} ");
+    match USAGE.lines().find(|line| line.starts_with(&start)) {
+        Some(line) => Trouble::Usage(format!("'{name}' is given so: {}", line.split("   ").next().unwrap_or(line))),
+        None => Trouble::Usage(format!("there is no command '{name}'; see: workshop help")),
+    }
+}
+
+/// Makes a fresh block in a new file; a count that is too large is lent as one that is just too large.
+fn new(file: &Path, cells: &OsStr) -> Result<String, Trouble> {
+    let cells = words::whole_number(cells, "count of cells")?;
+    let lent = usize::try_from(cells).unwrap_or(MOST_CELLS_LENT).min(MOST_CELLS_LENT);
+    let mut block = vec![0; lent * CELL_SIZE];
+    proved::format(&mut block)?;
+    block_file::create(file, &block)?;
+    Ok(format!("fresh block of {cells} cells\n"))
+}
+
+/// Enters a cartridge with its expiry day.
+fn enter(file: &Path, label: &OsStr, date: &OsStr) -> Result<String, Trouble> {
+    let label = words::label(label)?;
+    let date = dates::read_date(words::text(date)?)?;
+    let mut block = block_file::read(file)?;
+    let count = proved::insert(&mut block, &label, dates::pack(date))?;
+    block_file::replace(file, &block)?;
+    let cells = if count == 1 { "cell" } else { "cells" };
+    Ok(format!("entered {} {date}, {count} {cells} taken\n", words::show_label(&label)))
+}
+
+/// Lists all labels in order with their values, from the empty label on.
+fn list(file: &Path) -> Result<String, Trouble> {
+    let block = block_file::read(file)?;
+    let mut rows = vec![("label".to_string(), "expires".to_string())];
+    let mut label = Vec::new();
+    loop {
+        label = match proved::next_key(&block, &label) {
+            Ok(next) => next,
+            Err(No::MISSING) => return Ok(table(&rows)),
+            Err(no) => return Err(no.into()),
+        };
+        let value = proved::get(&block, &label)?;
+        rows.push((words::show_label(&label), dates::show_value(value)));
+    }
+}
+
+/// Sets rows of two columns under each other.
+fn table(rows: &[(String, String)]) -> String {
+    let width = rows.iter().map(|(left, _)| left.len()).max().unwrap_or(0);
+    rows.iter().map(|(left, right)| format!("{left:width$}  {right}\n")).collect()
+}
+
+/// Shows the value of a label.
+fn find(file: &Path, label: &OsStr) -> Result<String, Trouble> {
+    let label = words::label(label)?;
+    let block = block_file::read(file)?;
+    let value = proved::get(&block, &label)?;
+    Ok(format!("{}  {}\n", words::show_label(&label), dates::show_value(value)))
+}
+
+/// Shows the next label in order, with its value.
+fn next(file: &Path, label: &OsStr) -> Result<String, Trouble> {
+    let label = words::label(label)?;
+    let block = block_file::read(file)?;
+    let next = proved::next_key(&block, &label)?;
+    let value = proved::get(&block, &next)?;
+    Ok(format!("{}  {}\n", words::show_label(&next), dates::show_value(value)))
+}
+
+/// Marks, goes back or drops: one call on a slot, and the file is written only when it is done.
+fn slot_change(file: &Path, slot: &OsStr, call: SlotCall, done: &str) -> Result<String, Trouble> {
+    let slot = words::whole_number(slot, "slot")?;
+    let mut block = block_file::read(file)?;
+    call(&mut block, slot)?;
+    block_file::replace(file, &block)?;
+    Ok(format!("{done} {slot}\n"))
+}
+
+/// Checks that the block is sound.
+fn check(file: &Path) -> Result<String, Trouble> {
+    let block = block_file::read(file)?;
+    proved::validate(&block)?;
+    Ok(format!("sound, {} cells\n", block.len() / CELL_SIZE))
+}
+
+/// Judges whether a cartridge may be laid; whether today is a date is left to the library, which has a no for it.
+fn verdict(file: &Path, label: &OsStr, options: &[OsString]) -> Result<String, Trouble> {
+    let label = words::label(label)?;
+    let [today, reading, gate, section, length] = verdict_options(options)?;
+    let today = dates::read_form(today)?;
+    let reading = words::reading(reading)?;
+    let gate = words::gate(gate)?;
+    let section = words::measure(section, "section")?;
+    let length = words::measure(length, "length")?;
+    let block = block_file::read(file)?;
+    let dose = proved::verdict(&block, &label, today, reading, Sheet { gate, section, length })?;
+    Ok(format!("good: {} may be laid, dose {dose} ml\n", words::show_label(&label)))
+}
+
+/// The words behind the options of a verdict; each is given once, in any order.
+fn verdict_options(options: &[OsString]) -> Result<[&str; 5], Trouble> {
+    let mut found = [None; 5];
+    for pair in options.chunks(2) {
+        let name = words::text(&pair[0])?;
+        let place = VERDICT_OPTIONS.iter().position(|option| *option == name);
+        let (Some(place), [_, word]) = (place, pair) else {
+            return Err(misused("verdict"));
+        };
+        if found[place].replace(words::text(word)?).is_some() {
+            return Err(words::usage(format!("{name} was given twice")));
+        }
+    }
+    let mut given = [""; 5];
+    for (place, word) in found.into_iter().enumerate() {
+        given[place] = word.ok_or_else(|| words::usage(format!("{} is missing", VERDICT_OPTIONS[place])))?;
+    }
+    Ok(given)
+}

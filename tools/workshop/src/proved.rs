@@ -1,0 +1,193 @@
+//! The proved library behind its C functions; all use of them stands in this file.
+
+use crate::dates::{Date, Day, Month, Year};
+use crate::trouble::No;
+
+extern "C" {
+    fn exports_format(block: *mut u8, block_size: usize) -> u8;
+    fn exports_validate(block: *const u8, block_size: usize) -> u8;
+    fn exports_insert(
+        block: *mut u8,
+        block_size: usize,
+        key: *const u8,
+        key_size: usize,
+        value: u32,
+        count: *mut u32,
+    ) -> u8;
+    fn exports_get(block: *const u8, block_size: usize, key: *const u8, key_size: usize, value: *mut u32) -> u8;
+    fn exports_next_key(
+        block: *const u8,
+        block_size: usize,
+        key: *const u8,
+        key_size: usize,
+        next_size: *mut u32,
+        next_key: *mut u8,
+    ) -> u8;
+    fn exports_snapshot(block: *mut u8, block_size: usize, slot: u32) -> u8;
+    fn exports_restore(block: *mut u8, block_size: usize, slot: u32) -> u8;
+    fn exports_release(block: *mut u8, block_size: usize, slot: u32) -> u8;
+    fn exports_verdict(
+        block: *const u8,
+        block_size: usize,
+        label: *const u8,
+        label_size: usize,
+        year: u32,
+        month: u32,
+        day: u32,
+        unit: u32,
+        degrees: f32,
+        kind: u32,
+        low: f32,
+        high: f32,
+        section: f32,
+        length: f32,
+        dose: *mut f32,
+    ) -> u8;
+}
+
+/// The size of a cell in bytes.
+pub const CELL_SIZE: usize = 32;
+
+/// One cell more than the library takes: every larger block gets the same no, so none larger is ever lent.
+pub const MOST_CELLS_LENT: usize = 2_049;
+
+/// The bytes that the next label is written into.
+const LABEL_ROOM: usize = 48;
+
+/// What the thermometer shows.
+#[derive(Clone, Copy)]
+pub enum Reading {
+    Celsius(f32),
+    Fahrenheit(f32),
+}
+
+/// The temperatures that a product may be laid at, in Celsius.
+#[derive(Clone, Copy)]
+pub enum Gate {
+    Any,
+    AtLeast(f32),
+    Between(f32, f32),
+}
+
+/// A product's gate and the bead to be laid of it.
+#[derive(Clone, Copy)]
+pub struct Sheet {
+    pub gate: Gate,
+    pub section: f32,
+    pub length: f32,
+}
+
+/// Turns the number that a call answers into a result, so that no caller can pass over a no.
+fn result<T>(answer: u8, given: T) -> Result<T, No> {
+    if answer == 0 {
+        Ok(given)
+    } else {
+        Err(No(answer))
+    }
+}
+
+// In every call below each pointer comes with the size of its own slice, and no slice overlaps another.
+
+/// Makes the block a fresh one.
+pub fn format(block: &mut [u8]) -> Result<(), No> {
+    result(unsafe { exports_format(block.as_mut_ptr(), block.len()) }, ())
+}
+
+/// Judges whether the block is sound.
+pub fn validate(block: &[u8]) -> Result<(), No> {
+    result(unsafe { exports_validate(block.as_ptr(), block.len()) }, ())
+}
+
+/// Enters a label with its value and tells how many cells that took.
+pub fn insert(block: &mut [u8], label: &[u8], value: u32) -> Result<u32, No> {
+    let mut count = 0;
+    let answer =
+        unsafe { exports_insert(block.as_mut_ptr(), block.len(), label.as_ptr(), label.len(), value, &mut count) };
+    result(answer, count)
+}
+
+/// Looks up the value of a label.
+pub fn get(block: &[u8], label: &[u8]) -> Result<u32, No> {
+    let mut value = 0;
+    let answer = unsafe { exports_get(block.as_ptr(), block.len(), label.as_ptr(), label.len(), &mut value) };
+    result(answer, value)
+}
+
+/// Gives the least label greater than this one; the empty label leads to the first.
+pub fn next_key(block: &[u8], label: &[u8]) -> Result<Vec<u8>, No> {
+    let mut size = 0;
+    let mut next = [0; LABEL_ROOM];
+    let answer = unsafe {
+        exports_next_key(block.as_ptr(), block.len(), label.as_ptr(), label.len(), &mut size, next.as_mut_ptr())
+    };
+    result(answer, next[..size as usize].to_vec())
+}
+
+/// Marks the present state in a slot.
+pub fn snapshot(block: &mut [u8], slot: u32) -> Result<(), No> {
+    result(unsafe { exports_snapshot(block.as_mut_ptr(), block.len(), slot) }, ())
+}
+
+/// Goes back to the state marked in a slot.
+pub fn restore(block: &mut [u8], slot: u32) -> Result<(), No> {
+    result(unsafe { exports_restore(block.as_mut_ptr(), block.len(), slot) }, ())
+}
+
+/// Drops the mark in a slot, so that its cells can be used again.
+pub fn release(block: &mut [u8], slot: u32) -> Result<(), No> {
+    result(unsafe { exports_release(block.as_mut_ptr(), block.len(), slot) }, ())
+}
+
+/// Judges whether the cartridge of a label may be laid today, and gives the dose in millilitres.
+pub fn verdict(block: &[u8], label: &[u8], today: Date, reading: Reading, sheet: Sheet) -> Result<f32, No> {
+    let Date(Year(year), Month(month), Day(day)) = today;
+    let (unit, degrees) = reading_numbers(reading);
+    let (kind, low, high) = gate_numbers(sheet.gate);
+    let mut dose = 0.0;
+    let answer = unsafe {
+        exports_verdict(
+            block.as_ptr(),
+            block.len(),
+            label.as_ptr(),
+            label.len(),
+            year,
+            month,
+            day,
+            unit,
+            degrees,
+            kind,
+            low,
+            high,
+            sheet.section,
+            sheet.length,
+            &mut dose,
+        )
+    };
+    result(answer, dose)
+}
+
+/// The numbers that stand for a reading in the C call: unit and degrees.
+fn reading_numbers(reading: Reading) -> (u32, f32) {
+    match reading {
+        Reading::Celsius(degrees) => (1, degrees),
+        Reading::Fahrenheit(degrees) => (2, degrees),
+    }
+}
+
+/// The numbers that stand for a gate in the C call: kind, low and high, 0 for a limit that is not used.
+fn gate_numbers(gate: Gate) -> (u32, f32, f32) {
+    match gate {
+        Gate::Any => (1, 0.0, 0.0),
+        Gate::AtLeast(low) => (2, low, 0.0),
+        Gate::Between(low, high) => (3, low, high),
+    }
+}
+
+/// Asks the library whether this is a date of 2000 to 2199, so that the calendar's rule stands only in proved code:
+/// on a fresh block the verdict is 11 (no such label) for a date, and the lower 10 for anything else.
+pub fn is_date(date: Date) -> bool {
+    let mut block = [0; 4 * CELL_SIZE];
+    let sheet = Sheet { gate: Gate::Any, section: 1.0, length: 1.0 };
+    let answer = format(&mut block).and_then(|()| verdict(&block, b"A", date, Reading::Celsius(0.0), sheet));
+    answer == Err(No::MISSING)
+}

@@ -1,0 +1,68 @@
+//! What can stand in the way of a command, and the words and exit status for it.
+
+/// The exit status when the command was not given as it should be.
+const USAGE_STATUS: u8 = 64;
+
+/// The exit status when a file could not be read or written.
+const FILE_STATUS: u8 = 74;
+
+/// What each no means, in the order of their numbers from 1 on.
+const MEANINGS: [&str; 14] = [
+    "the size is no multiple of 32 bytes, or not 4 to 2,048 cells",
+    "the block is not sound",
+    "the label is empty or has over 48 bytes",
+    "the value is over 2,147,483,647",
+    "the slot is not 1, 2 or 3",
+    "the slot holds no mark",
+    "there are not enough free cells for this entry",
+    "the sheet is wrong: a gate limit is outside -100 to 400, low is above high, the section is outside 0.5 to 100 \
+     or the length outside 1 to 10,000",
+    "the reading is outside -100 to 400 degrees",
+    "today is no date of 2000 to 2199",
+    "there is no such label, or no next one",
+    "the value held for the label is no date",
+    "today is after the expiry day",
+    "the temperature is outside the gate",
+];
+
+/// An answer of the library other than done.
+#[derive(Clone, Copy, Debug, PartialEq, Eq)]
+pub struct No(pub u8);
+
+/// Why a command was not carried out.
+#[derive(Debug, PartialEq)]
+pub enum Trouble {
+    Refused(No),
+    Usage(String),
+    File(String),
+}
+
+impl From<No> for Trouble {
+    /// Lets a no of the library end a command at once.
+    fn from(no: No) -> Trouble {
+        Trouble::Refused(no)
+    }
+}
+
+impl No {
+    /// No such label, or no next one: how a list comes to its end.
+    pub const MISSING: No = No(11);
+
+    /// The number and its meaning on one line.
+    pub fn line(self) -> String {
+        let place = usize::from(self.0).wrapping_sub(1);
+        let meaning = MEANINGS.get(place).unwrap_or(&"the library gave an answer that this tool does not know");
+        format!("no {}: {meaning}\n", self.0)
+    }
+}
+
+impl Trouble {
+    /// The exit status that tells this trouble apart from others.
+    pub fn status(&self) -> u8 {
+        match self {
+            Trouble::Refused(no) => no.0,
+            Trouble::Usage(_) => USAGE_STATUS,
+            Trouble::File(_) => FILE_STATUS,
+        }
+    }
+}
