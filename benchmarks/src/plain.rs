@@ -68,10 +68,10 @@ pub fn validate(block: &[u8]) -> u8 {
     if !lawful_length(block.len()) {
         return 1;
     }
-    match validation::reached(block) {
-        Some(_) => 0,
-        None => 2,
+    if !validation::is_sound(block, &mut [0; 2048]) {
+        return 2;
     }
+    0
 }
 
 /// Looks a key up after validation: the answer number and the value.
@@ -114,9 +114,10 @@ pub fn insert(block: &mut [u8], key: &[u8], value: u32) -> (u8, u32) {
     if !lawful_length(block.len()) {
         return (1, 0);
     }
-    let Some(reached) = validation::reached(block) else {
+    let mut reached = [0; 2048];
+    if !validation::is_sound(block, &mut reached) {
         return (2, 0);
-    };
+    }
     if key.is_empty() || key.len() > LONGEST_KEY {
         return (3, 0);
     }

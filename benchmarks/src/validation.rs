@@ -5,20 +5,24 @@ use crate::plain::{cell_of, is_leaf, kind_of, word_at, CELL, LONGEST_KEY, NO_KIN
 /// For each cell one bit for each root (the root's own, then the marks') whose tree has entered it.
 pub type Reached = [u8; 2048];
 
-/// The cells that each root reaches, or nothing where the block is not sound.
-pub fn reached(block: &[u8]) -> Option<Reached> {
+/// Whether the block is sound; the cells of a sound block that its roots reach are marked, all zero before.
+pub fn is_sound(block: &[u8], reached: &mut Reached) -> bool {
     let trailer = &block[block.len() - CELL..];
     if !lawful_trailer(trailer, block.len() / CELL) {
-        return None;
+        return false;
     }
-    let mut visit = Visit { block, reached: [0; 2048], bit: 1 };
-    let mut sound = visit.root(word_at(trailer, 0));
+    let mut visit = Visit { block, reached, bit: 1 };
+    if !visit.root(word_at(trailer, 0)) {
+        return false;
+    }
     for slot in 0..3 {
         visit.bit = 2 << slot;
         let held = trailer[0x10] >> slot & 1 == 1;
-        sound = sound && (!held || visit.root(word_at(trailer, 4 + 4 * slot)));
+        if held && !visit.root(word_at(trailer, 4 + 4 * slot)) {
+            return false;
+        }
     }
-    sound.then_some(visit.reached)
+    true
 }
 
 /// Whether all of the trailer is lawful but for the trees of its roots.
@@ -35,7 +39,7 @@ fn lawful_trailer(trailer: &[u8], cells: usize) -> bool {
 /// The visit of one root's tree.
 struct Visit<'a> {
     block: &'a [u8],
-    reached: Reached,
+    reached: &'a mut Reached,
     bit: u8,
 }
 
