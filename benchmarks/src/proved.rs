@@ -51,7 +51,6 @@ pub fn next_key(block: &[u8], key: &[u8]) -> Next {
 pub fn insert(block: &mut [u8], key: &[u8], value: u32) -> (u8, u32) {
     let mut count = 0;
     // Each pointer comes with the length of its own slice, and no slice overlaps another.
-    let answer =
-        unsafe { exports_insert(block.as_mut_ptr(), block.len(), key.as_ptr(), key.len(), value, &mut count) };
+    let answer = unsafe { exports_insert(block.as_mut_ptr(), block.len(), key.as_ptr(), key.len(), value, &mut count) };
     (answer, count)
 }
