@@ -13,7 +13,7 @@ impl Random {
     }
 
     /// A label as on a cartridge: a product, then four to ten digits and letters; one in eight is cut short.
-    fn label(&mut self) -> Vec<u8> {
+    pub fn label(&mut self) -> Vec<u8> {
         let products = ["BETA-", "BETA-K", "PU1K-", "PU1K-HV-", "WS", "LOT ", "7", "MK"];
         let mut label = products[self.below(products.len())].as_bytes().to_vec();
         for _ in 0..4 + self.below(7) {
@@ -29,4 +29,17 @@ impl Random {
     pub fn labels(&mut self, count: usize) -> Vec<Vec<u8>> {
         (0..count).map(|_| self.label()).collect()
     }
+
+    /// The same labels in another order.
+    pub fn mixed(&mut self, mut labels: Vec<Vec<u8>>) -> Vec<Vec<u8>> {
+        for last in (1..labels.len()).rev() {
+            labels.swap(last, self.below(last + 1));
+        }
+        labels
+    }
+}
+
+/// The labels of so many serial numbers of one product, from a number on.
+pub fn serials(first: usize, count: usize) -> Vec<Vec<u8>> {
+    (first..first + count).map(|number| format!("PU1K-{number:04}").into_bytes()).collect()
 }

@@ -17,21 +17,23 @@ use timing::{measure, Work};
 /// The labels that one look-up or next-key measurement asks for.
 const QUESTIONS: usize = 2000;
 
-/// A full block, what was entered into it, and the labels that it is asked for.
+/// The serial numbers of the case of 2,000 labels, which leave much of the largest block free.
+const SERIALS: usize = 2000;
+
+/// A block, what was entered into it one after the other, the map of what was not refused, and the labels that it is asked for.
 struct Case {
     fresh: Vec<u8>,
     full: Vec<u8>,
     entered: Vec<(Vec<u8>, u32)>,
-    refused: (Vec<u8>, u32),
+    map: BTreeMap<Vec<u8>, u32>,
     questions: Vec<Vec<u8>>,
 }
 
-/// Checks and measures every size of block, and prints one table.
+/// Checks and measures every case, and prints one table.
 fn main() {
     println!("| cells | labels | call | against | proved, ns a call | the other, ns a call | ratio, median |");
     println!("|---|---|---|---|---|---|---|");
-    for cells in [16, 256, 2048] {
-        let case = Case::filled(cells);
+    for case in [Case::full(16), Case::full(256), Case::full(2048), Case::serial(2048)] {
         case.compare();
         case.against_plain();
         case.against_map();
@@ -39,42 +41,64 @@ fn main() {
 }
 
 impl Case {
-    /// Fills a block of so many cells until answer 7; both programs must agree on every answer and byte.
-    fn filled(cells: usize) -> Case {
+    /// A block of so many cells, filled with labels as they are drawn until answer 7, that one included.
+    fn full(cells: usize) -> Case {
         let mut random = Random(0x9E37_79B9_7F4A_7C15 ^ cells as u64);
+        let mut case = Case::fresh(cells);
+        while case.enter(random.label()) == 0 {}
+        let drawn = random.labels(QUESTIONS / 2);
+        case.ask(&mut random, drawn)
+    }
+
+    /// A block of so many cells with the labels of 2,000 serial numbers, in mixed order; the questions are for other numbers too.
+    fn serial(cells: usize) -> Case {
+        let mut random = Random(0x9E37_79B9_7F4A_7C15 ^ SERIALS as u64);
+        let mut case = Case::fresh(cells);
+        for label in random.mixed(labels::serials(0, SERIALS)) {
+            assert_eq!(case.enter(label), 0, "room for every serial number");
+        }
+        case.ask(&mut random, labels::serials(SERIALS, QUESTIONS / 2))
+    }
+
+    /// A fresh block of so many cells, with nothing entered or asked.
+    fn fresh(cells: usize) -> Case {
         let mut fresh = vec![0; cells * CELL];
         let trailer = fresh.len() - CELL;
         put_word(&mut fresh, trailer + 0x14, cells as u32);
         put_word(&mut fresh, trailer + 0x1C, 1);
-        let (mut full, mut beside) = (fresh.clone(), fresh.clone());
-        let mut entered: Vec<(Vec<u8>, u32)> = Vec::new();
-        let refused = loop {
-            let label = random.labels(1).remove(0);
-            let value = (entered.len() * 7919) as u32;
-            let answer = proved::insert(&mut full, &label, value);
-            assert_eq!(answer, plain::insert(&mut beside, &label, value), "insertion of {label:?}");
-            assert_eq!(full, beside, "the bytes after {label:?}");
-            match answer.0 {
-                0 => entered.push((label, value)),
-                7 => break (label, value),
-                other => panic!("answer {other} to a lawful insertion"),
-            }
-        };
-        let mut questions = random.labels(QUESTIONS / 2);
-        for _ in 0..QUESTIONS / 2 {
-            let present = entered[random.below(entered.len())].0.clone();
-            questions.insert(random.below(questions.len()), present);
+        Case { full: fresh.clone(), fresh, entered: Vec::new(), map: BTreeMap::new(), questions: Vec::new() }
+    }
+
+    /// Enters a label with both programs, which must agree on the answer and every byte.
+    fn enter(&mut self, label: Vec<u8>) -> u8 {
+        let value = (self.entered.len() * 7919) as u32;
+        let mut beside = self.full.clone();
+        let answer = proved::insert(&mut self.full, &label, value);
+        assert_eq!(answer, plain::insert(&mut beside, &label, value), "insertion of {label:?}");
+        assert_eq!(self.full, beside, "the bytes after {label:?}");
+        assert!(matches!(answer.0, 0 | 7), "answer {} to a valid insertion", answer.0);
+        if answer.0 == 0 {
+            self.map.insert(label.clone(), value);
         }
-        Case { fresh, full, entered, refused, questions }
+        self.entered.push((label, value));
+        answer.0
+    }
+
+    /// Asks for the given labels, and for as many that were entered, in mixed order.
+    fn ask(mut self, random: &mut Random, others: Vec<Vec<u8>>) -> Case {
+        let held: Vec<Vec<u8>> = self.map.keys().cloned().collect();
+        let mut questions: Vec<Vec<u8>> = others.iter().map(|_| held[random.below(held.len())].clone()).collect();
+        questions.extend(others);
+        self.questions = random.mixed(questions);
+        self
     }
 
     /// Checks that both programs, and the map where it can, answer every question alike, on damaged blocks too.
     fn compare(&self) {
-        let map = self.map();
         for label in &self.questions {
             let answer = proved::get(&self.full, label);
             assert_eq!(answer, plain::get(&self.full, label), "look-up of {label:?}");
-            assert_eq!(answer, map.get(label).map_or((11, 0), |value| (0, *value)), "map look-up of {label:?}");
+            assert_eq!(answer, self.map.get(label).map_or((11, 0), |value| (0, *value)), "map look-up of {label:?}");
             let next = proved::next_key(&self.full, label);
             assert_eq!(next, plain::next_key(&self.full, label), "next key after {label:?}");
         }
@@ -91,11 +115,6 @@ impl Case {
         assert!(0 < sound && sound < QUESTIONS, "altered blocks of both sorts");
     }
 
-    /// The map of all that was entered.
-    fn map(&self) -> BTreeMap<Vec<u8>, u32> {
-        self.entered.iter().cloned().collect()
-    }
-
     /// Measures every call against the plain program.
     fn against_plain(&self) {
         let (full, fills) = (&self.full, self.fills());
@@ -106,16 +125,16 @@ impl Case {
         let ours = || self.each(|label| proved::next_key(full, label).size);
         self.report("next key", "plain", QUESTIONS, &ours, &|| self.each(|label| plain::next_key(full, label).size));
         let (ours, theirs) = (|| self.fill(fills, proved::insert), || self.fill(fills, plain::insert));
-        self.report("insert", "plain", fills * (self.entered.len() + 1), &ours, &theirs);
+        self.report("insert", "plain", fills * self.entered.len(), &ours, &theirs);
     }
 
     /// Measures look-up and insertion against the standard library's map, which has no block and judges nothing.
     fn against_map(&self) {
-        let (map, fills) = (self.map(), self.fills());
+        let (map, fills) = (&self.map, self.fills());
         let ours = || self.each(|label| proved::get(&self.full, label).1);
         self.report("look-up", "map", QUESTIONS, &ours, &|| self.each(|label| map.get(label).copied().unwrap_or(0)));
         let (ours, theirs) = (|| self.fill(fills, proved::insert), || self.fill_map(fills));
-        self.report("insert", "map", fills * (self.entered.len() + 1), &ours, &theirs);
+        self.report("insert", "map", fills * self.entered.len(), &ours, &theirs);
     }
 
     /// How often a block is filled in one measurement, so that none is too short for the clock.
@@ -127,7 +146,7 @@ impl Case {
     fn report(&self, call: &str, against: &str, calls: usize, ours: &Work, theirs: &Work) {
         let taken = measure(ours, theirs);
         let (ours, theirs) = (taken.ours / calls as f64, taken.theirs / calls as f64);
-        let (cells, labels) = (self.full.len() / CELL, self.map().len());
+        let (cells, labels) = (self.full.len() / CELL, self.map.len());
         println!("| {cells} | {labels} | {call} | {against} | {ours:.0} | {theirs:.0} | {:.2} |", taken.ratio);
     }
 
@@ -136,12 +155,12 @@ impl Case {
         self.questions.iter().map(|label| u64::from(ask(black_box(label)))).sum()
     }
 
-    /// Fills fresh blocks until answer 7, so many times, and adds the counts up.
+    /// Fills fresh blocks with all that was entered, so many times, and adds the counts up.
     fn fill(&self, fills: usize, insert: impl Fn(&mut [u8], &[u8], u32) -> (u8, u32)) -> u64 {
         let mut taken = 0;
         for _ in 0..fills {
             let mut block = self.fresh.clone();
-            for (label, value) in self.entered.iter().chain([&self.refused]) {
+            for (label, value) in &self.entered {
                 taken += u64::from(insert(&mut block, black_box(label), *value).1);
             }
             assert!(black_box(block) == self.full);
@@ -149,12 +168,12 @@ impl Case {
         taken
     }
 
-    /// Fills maps with the same labels, so many times, and adds their sizes up; the label refused is entered here.
+    /// Fills maps with the same labels, so many times, and adds their sizes up; a label refused by the block is entered here.
     fn fill_map(&self, fills: usize) -> u64 {
         let mut sizes = 0;
         for _ in 0..fills {
             let mut map = BTreeMap::new();
-            for (label, value) in self.entered.iter().chain([&self.refused]) {
+            for (label, value) in &self.entered {
                 map.insert(black_box(label).clone(), *value);
             }
             sizes += black_box(map).len() as u64;
