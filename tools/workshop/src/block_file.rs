@@ -19,24 +19,40 @@ pub fn read(path: &Path) -> Result<Vec<u8>, Trouble> {
 
 /// Writes a new file, but never over one that is there, since it may be a register in use.
 pub fn create(path: &Path, block: &[u8]) -> Result<(), Trouble> {
+    let failed = |reason| trouble("cannot write", path, &reason);
+    let folder = lock_folder(path).map_err(failed)?;
     if fs::symlink_metadata(path).is_ok() {
         return Err(Trouble::File(format!("{} is there already and was left as it is", path.display())));
     }
-    write_beside(path, block, None).map_err(|reason| trouble("cannot write", path, &reason))
+    write_beside(path, block, None, &folder).map_err(failed)
 }
 
-/// Replaces the block of a file, which keeps its access rights; a link is followed to the file itself.
-pub fn replace(path: &Path, block: &[u8]) -> Result<(), Trouble> {
-    fs::canonicalize(path)
-        .and_then(|place| {
-            let rights = fs::metadata(&place)?.permissions();
-            write_beside(&place, block, Some(rights))
-        })
-        .map_err(|reason| trouble("cannot write", path, &reason))
+/// Reads, alters and replaces the block of a file, which keeps its access rights; a link is followed to the file itself.
+/// No other run of this tool alters the file in between, so that neither loses what the other did.
+pub fn alter<T, E: Into<Trouble>>(path: &Path, change: impl FnOnce(&mut [u8]) -> Result<T, E>) -> Result<T, Trouble> {
+    let place = fs::canonicalize(path).map_err(|reason| trouble("cannot read", path, &reason))?;
+    let failed = |reason| trouble("cannot write", path, &reason);
+    let folder = lock_folder(&place).map_err(failed)?;
+    let mut block = read(path)?;
+    let done = change(&mut block).map_err(E::into)?;
+    let rights = fs::metadata(&place).map_err(failed)?.permissions();
+    write_beside(&place, &block, Some(rights), &folder).map_err(failed)?;
+    Ok(done)
+}
+
+/// Waits until no other run of this tool holds the folder of a file, and holds it until the folder is closed. The file itself
+/// is no place for the lock: each change puts another file in its place.
+fn lock_folder(path: &Path) -> io::Result<File> {
+    let folder = match path.parent() {
+        Some(folder) if folder != Path::new("") => File::open(folder)?,
+        _ => File::open(".")?,
+    };
+    folder.lock()?;
+    Ok(folder)
 }
 
 /// Writes the block anew beside the file and renames it, so that a power loss leaves either the old or the new one.
-fn write_beside(path: &Path, block: &[u8], rights: Option<fs::Permissions>) -> io::Result<()> {
+fn write_beside(path: &Path, block: &[u8], rights: Option<fs::Permissions>, folder: &File) -> io::Result<()> {
     let beside = name_beside(path)?;
     let mut file = OpenOptions::new().write(true).create_new(true).open(&beside)?;
     let written = rights
@@ -47,8 +63,9 @@ fn write_beside(path: &Path, block: &[u8], rights: Option<fs::Permissions>) -> i
     if written.is_err() {
         // The first failure is the one to report; what is left beside is only swept away.
         let _ = fs::remove_file(&beside);
+        return written;
     }
-    written
+    folder.sync_all()
 }
 
 /// A name in the same folder that no other run of this tool uses at the same time.

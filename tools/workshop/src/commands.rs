@@ -76,9 +76,7 @@ fn new(file: &Path, cells: &OsStr) -> Result<String, Trouble> {
 fn enter(file: &Path, label: &OsStr, date: &OsStr) -> Result<String, Trouble> {
     let label = words::label(label)?;
     let date = dates::read_date(words::text(date)?)?;
-    let mut block = block_file::read(file)?;
-    let count = proved::insert(&mut block, &label, dates::pack(date))?;
-    block_file::replace(file, &block)?;
+    let count = block_file::alter(file, |block| proved::insert(block, &label, dates::pack(date)))?;
     let cells = if count == 1 { "cell" } else { "cells" };
     Ok(format!("entered {} {date}, {count} {cells} taken\n", words::show_label(&label)))
 }
@@ -125,9 +123,7 @@ fn next(file: &Path, label: &OsStr) -> Result<String, Trouble> {
 /// Marks, goes back or drops: one call on a slot, and the file is written only when it is done.
 fn slot_change(file: &Path, slot: &OsStr, call: SlotCall, done: &str) -> Result<String, Trouble> {
     let slot = words::whole_number(slot, "slot")?;
-    let mut block = block_file::read(file)?;
-    call(&mut block, slot)?;
-    block_file::replace(file, &block)?;
+    block_file::alter(file, |block| call(block, slot))?;
     Ok(format!("{done} {slot}\n"))
 }
 
