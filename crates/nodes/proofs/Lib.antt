@@ -8,6 +8,7 @@ pub mod Coded
 pub mod WordRows
 pub mod Neighbours
 pub mod SparseSteps
+pub mod RisingWalk
 pub mod PrefixSteps
 pub mod Rest
 pub mod StepWays

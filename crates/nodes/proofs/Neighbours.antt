@@ -1,17 +1,13 @@
 -- A list rises just where each number is below the next.
-use mathlib.Core.Path.{_≡_, refl, ap, sym, _∙_}
+use mathlib.Core.Path.{_≡_, refl}
 use mathlib.Core.Bool.{Bool, true, false, _&&_}
 use mathlib.Core.List.{List, [], _∷_, map}
-use Prim.Native.Nat.{ℕ, zero, suc, _+_, _≤_, _<_}
-use native.Mathlib.Numerals.{add-one}
-use native.Mathlib.Decide.{ℕ-discrete}
+use Prim.Native.Nat.{ℕ, zero, suc, _≤_, _<_}
 use native.Mathlib.Omega.{arith}
 use lib.Dec.{ltb}
-use lib.ListN.{length, getD, drop, drop-of-length-le}
-use lib.Seq.{drop-cons}
+use lib.ListN.{length, getD}
 use borrow.Author.Tests.{lt-ltb, le-ltb, ltb-true}
 use Rattle.cells.specs.Occurrences.{all}
-use Rattle.cells.proofs.Choice.{both}
 use Rattle.order_words.specs.Order.{rising}
 use Rattle.order_words.proofs.Rising.{all-weaker}
 
@@ -32,21 +28,6 @@ rising-next x y zs less = rw (lt-ltb x y less) (next-decides y zs x less (all (l
 pub rising-falls : (x y : ℕ) (zs : List ℕ) → y ≤ x → rising (x ∷ y ∷ zs) ≡ false
 unfolding rising all
 rising-falls x y zs most = rw (le-ltb x y most)
-
--- from an index on
-part : (l : List ℕ) (i : ℕ) → i < length l → drop i l ≡ getD l i 0 ∷ drop (i + 1) l
-part l i inside = rw (add-one i) (drop-cons l i 0 inside)
-
-module _ (l : List ℕ) (i : ℕ) where
-  pub rising-step : i + 1 < length l → getD l i 0 < getD l (i + 1) 0 → rising (drop i l) ≡ rising (drop (i + 1) l)
-  rising-step inside less =
-      let next = part l (i + 1) inside in
-      ap rising (part l i (omega arith) ∙ ap (λ s. getD l i 0 ∷ s) next) ∙ rising-next _ _ _ less ∙ ap rising (sym next)
-
-  pub rising-stop : i + 1 < length l → getD l (i + 1) 0 ≤ getD l i 0 → rising (drop i l) ≡ false
-  rising-stop inside most =
-      let next = part l (i + 1) inside in
-      ap rising (part l i (omega arith) ∙ ap (λ s. getD l i 0 ∷ s) next) ∙ rising-falls _ _ _ most
 
 pub rising-short : (l : List ℕ) → length l ≤ 1 → rising l ≡ true
 unfolding rising all

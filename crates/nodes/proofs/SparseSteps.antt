@@ -1,14 +1,13 @@
 -- A sparse cell, walked: its digits, its characters in their order, and its positions from the first.
-use mathlib.Core.Path.{_≡_, refl, ap, sym, _∙_}
+use mathlib.Core.Path.{_≡_, ap, sym, _∙_}
 use mathlib.Core.Logic.{_≢_}
-use mathlib.Core.Bool.{Bool, true, false, _&&_, not}
-use mathlib.Core.List.{List, [], _∷_, map}
+use mathlib.Core.Bool.{Bool, true, false}
+use mathlib.Core.List.{List, _∷_, map}
 use Prim.Native.Nat.{ℕ, zero, suc, _+_, _-_, _*_, _/_, _%_, _≤_, _<_}
 use native.Mathlib.Nat.{sub-zero, zero-add}
 use native.Mathlib.Decide.{ℕ-discrete}
 use native.Mathlib.Omega.{arith}
-use lib.Dec.{eqb}
-use lib.ListN.{length, getD, drop, length-map, length-drop}
+use lib.ListN.{length, getD}
 use borrow.Author.Tests.{eq-eqb, ne-eqb}
 use Rattle.cells.specs.Word.{wordAt}
 use Rattle.order_words.specs.Digits.{digits, orderDigits}
@@ -18,7 +17,6 @@ use Rattle.order_words.proofs.Valid.{at-most-six}
 use Rattle.nodes.specs.Words.{wordsFrom}
 use Rattle.nodes.specs.Sparse.{someWord, everyWord, sparseWord, sparseCharacter, sparseOrder, sparseDigits, sparseCount, validSparse, childFrom, sparseChild}
 use Rattle.nodes.proofs.WordRows.{some-same, every-same}
-use Rattle.nodes.proofs.Neighbours.{rising-step, rising-stop, rising-short, map-at}
 
 -- every digit is below 6, and there are at most 7
 digit-small : (most number i : ℕ) → getD (digits most number) i 0 < 6
@@ -69,32 +67,9 @@ module _ (bytes : List ℕ) where
   rest-read count t e f =
       f ∙ some-same (wordsFrom bytes 0) (sparseWord bytes) row (6 - count) count ∙ ap (λ n. someWord (sparseWord bytes) (6 - n) n) e
 
-  -- the characters in their order, from the i-th on
+  -- the characters in their order
   abbrev pub characters : List ℕ
   characters = map (sparseCharacter bytes) (sparseDigits bytes)
-
-  inside : (i : ℕ) → i < sparseCount bytes → getD characters i 0 ≡ sparseCharacter bytes (getD (sparseDigits bytes) i 0)
-  inside i h = map-at (sparseCharacter bytes) (sparseDigits bytes) i h
-
-  module _ (count i x y : ℕ) (whole : count ≡ sparseCount bytes) (more : i + 1 < count)
-      (first : x ≡ sparseCharacter bytes (getD (sparseDigits bytes) i 0))
-      (second : y ≡ sparseCharacter bytes (getD (sparseDigits bytes) (i + 1) 0)) where
-    pub characters-rise : x < y → rising (drop i characters) ≡ rising (drop (i + 1) characters)
-    characters-rise less =
-        let p = inside i (omega arith) in
-        let q = inside (i + 1) (omega arith) in
-        rising-step characters i (omega (arith, length-map (sparseDigits bytes) (sparseCharacter bytes))) (omega arith)
-
-    pub characters-fall : y ≤ x → rising (drop i characters) ≡ false
-    characters-fall most =
-        let p = inside i (omega arith) in
-        let q = inside (i + 1) (omega arith) in
-        rising-stop characters i (omega (arith, length-map (sparseDigits bytes) (sparseCharacter bytes))) (omega arith)
-
-  pub characters-end : (count i : ℕ) → count ≡ sparseCount bytes → count ≤ i + 1 → rising (drop i characters) ≡ true
-  characters-end count i whole end =
-      rising-short (drop i characters)
-      (omega (arith, length-drop i characters, length-map (sparseDigits bytes) (sparseCharacter bytes)))
 
   -- the rules, one after the other
   module _ (order : Bool) (order-is : order ≡ validDigits (sparseDigits bytes)) where

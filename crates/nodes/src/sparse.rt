@@ -35,27 +35,21 @@ pub fn sparse_position(cell: &[u8], i: usize) -> usize
     digit_at(sparse_order(cell), i)
 }
 
-// The character of the i-th child.
-pub fn sparse_character(cell: &[u8], i: usize) -> u8
-    requires { ⌜ length (now cell) ≡ 32 ⌝ }
-    ensures { λ r. ⌜ r ≡ sparseCharacter (now (cell .entry)) (getD (sparseDigits (now (cell .entry))) i 0) ⌝ }
-{
-    let position = sparse_position(cell, i);
-    cell[24 + position]
-}
-
-// Whether the characters rise strictly in the order given: each is below the next.
+// Whether the characters rise strictly in the order given: each is below the next. One pass takes the positions from the order word.
 fn is_rising(cell: &[u8], count: usize) -> bool
     requires { ⌜ (length (now cell) ≡ 32) × (count ≡ sparseCount (now cell)) ⌝ }
     ensures { λ r. ⌜ r ≡ rising (map (sparseCharacter (now (cell .entry))) (sparseDigits (now (cell .entry)))) ⌝ }
 {
-    let mut i: usize = 0;
-    while i + 1 < count {
-        let character = sparse_character(cell, i);
-        let next = sparse_character(cell, i + 1);
-        if next <= character {
+    let mut rest = sparse_order(cell) as usize;
+    let mut last = cell[24 + rest % 6];
+    let mut i: usize = 1;
+    while i < count {
+        rest = rest / 6;
+        let next = cell[24 + rest % 6];
+        if next <= last {
             return false;
         }
+        last = next;
         i += 1;
     }
     true

@@ -86,7 +86,7 @@ NoLeadingZero [] = Unit {0}
 NoLeadingZero (d ∷ ds) = (encode (d ∷ ds) ≢ 0) × NoLeadingZero ds
 
 -- of the digits above the lowest
-below-later : (d : ℕ) (ds : List ℕ) → BelowSix (d ∷ ds) → BelowSix ds
+pub below-later : (d : ℕ) (ds : List ℕ) → BelowSix (d ∷ ds) → BelowSix ds
 below-later d ds h e o = h e (omega (arith, occurrences-cons e d ds))
 
 -- such digits are those of their number, which is below the power of 6

@@ -5,3 +5,5 @@ pub mod Valid
 pub mod Coding
 pub mod Rising
 pub mod Steps
+pub mod Tally
+pub mod Walked

@@ -1,9 +1,9 @@
 // The order word of a sparse cell.
 ghost use mathlib.Core.Path.{_≡_};
+ghost use Prim.Native.Nat.{_^_, _≤_};
 ghost use lib.ListN.{length, getD};
-ghost use Rattle.cells.specs.Occurrences.{occurrences};
 ghost use Rattle.order_words.specs.Digits.{orderDigits};
-ghost use Rattle.order_words.specs.Order.{place, validOrder};
+ghost use Rattle.order_words.specs.Order.{validOrder};
 
 // How many digits an order word has.
 pub fn digit_count(word: u16) -> usize
@@ -37,63 +37,38 @@ pub fn digit_at(word: u16, at: usize) -> usize
     rest % 6
 }
 
-// How often a digit stands in an order word.
-fn digit_times(word: u16, digit: usize) -> usize
-    ensures { λ r. ⌜ r ≡ occurrences digit (orderDigits word) ⌝ }
+// What a digit adds to a tally: each digit has three bits of it, since at most six digits are tallied.
+fn weight(digit: usize) -> usize
+    requires { ⌜ digit ≤ 6 ⌝ }
+    ensures { λ r. ⌜ r ≡ 8 ^ digit ⌝ }
 {
-    let mut rest = word as usize;
-    let mut passed: usize = 0;
-    let mut times: usize = 0;
-    while passed < 7 {
-        if rest == 0 {
-            return times;
-        }
-        let lowest = rest % 6;
-        rest = rest / 6;
-        passed += 1;
-        if digit == lowest {
-            times += 1;
-        }
-    }
-    times
+    1 << (3 * digit)
 }
 
-// The place of a digit, counted from the lowest; the number of digits where it has none.
-fn digit_place(word: u16, digit: usize) -> usize
-    ensures { λ r. ⌜ r ≡ place digit (orderDigits word) ⌝ }
-{
-    let mut rest = word as usize;
-    let mut passed: usize = 0;
-    while passed < 7 {
-        if rest == 0 {
-            return passed;
-        }
-        if digit == rest % 6 {
-            return passed;
-        }
-        rest = rest / 6;
-        passed += 1;
-    }
-    passed
-}
-
-// Whether an order word is valid.
+// Whether an order word is valid: one pass tallies how often each digit stands, and ends at a seventh digit or a 1 with no 0 below it.
 pub fn is_valid_order(word: u16) -> bool
     ensures { λ r. ⌜ r ≡ validOrder word ⌝ }
 {
-    let count = digit_count(word);
+    let mut rest = word as usize;
+    let mut count: usize = 0;
+    let mut tally: usize = 0;
+    while rest != 0 {
+        if count == 6 {
+            return false;
+        }
+        let digit = rest % 6;
+        if digit == 1 {
+            if tally % 8 == 0 {
+                return false;
+            }
+        }
+        tally += weight(digit);
+        rest = rest / 6;
+        count += 1;
+    }
     if count < 2 {
         return false;
     }
-    if 6 < count {
-        return false;
-    }
-    let mut digit = count;
-    while 0 < digit {
-        digit -= 1;
-        if digit_times(word, digit) != 1 {
-            return false;
-        }
-    }
-    digit_place(word, 0) < digit_place(word, 1)
+    // the tally of each digit below the count once is 1 + 8 + 64 + .., a seventh of the next power of 8 less 1
+    7 * tally + 1 == weight(count)
 }

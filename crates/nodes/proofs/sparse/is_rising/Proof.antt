@@ -1,63 +1,69 @@
--- The characters from the i-th on rise just where all do.
-use Rattle.nodes.proofs.SparseSteps.{count-small}
-use Prim.Native.Nat.{_+_, _-_, _≤_}
-use mathlib.Core.Path.{_≡_, refl, sym, _∙_}
+-- The characters from the one read last on rise just where all do.
+use Prim.Native.Nat.{_-_}
+use mathlib.Core.Path.{refl}
 use native.Mathlib.Omega.{arith}
-use lib.ListN.{drop}
-use Rattle.order_words.specs.Order.{rising}
-use Rattle.nodes.proofs.SparseSteps.{characters, characters-rise, characters-fall, characters-end}
 use borrow.Author.Needs.{needs}
+use Rattle.nodes.proofs.SparseSteps.{count-small}
+use Rattle.nodes.proofs.RisingWalk.{RisingFrom, rising-start, rising-on, rising-fails, rising-end}
 use Rattle.nodes.proofs.sparse.is_rising.Statement.{statement}
 use Rattle.nodes.proofs.sparse.is_rising.Tie as tie
 use Rattle.nodes.proofs.sparse.is_rising.Reads as reads
 use Rattle.nodes.proofs.sparse.is_rising.Lts as lts
-use Rattle.nodes.proofs.sparse.sparse_character.Reads as sparse-character-reads
+use Rattle.nodes.proofs.sparse.sparse_order.Reads as sparse-order-reads
 
 abbrev Inv-loop : tie.InvT-loop
-Inv-loop cell count i₀ i = (i ≤ count) × (rising (characters cell) ≡ rising (drop i (characters cell)))
+Inv-loop cell count rest₀ last₀ i₀ rest last i = RisingFrom cell rest last i
 
 abbrev μ-loop : tie.MeasureT-loop
-μ-loop cell count i₀ i = count - i
+μ-loop cell count rest₀ last₀ i₀ rest last i = count - i
 
--- src/sparse.rt:53:5
+-- src/sparse.rt:43:20
+sparse-order-requires : tie.Need-sparse-order-requires Inv-loop μ-loop
+sparse-order-requires c κs = search needs
+
+-- src/sparse.rt:43:20
+cast-rest : tie.Need-cast-rest Inv-loop μ-loop
+cast-rest c = search needs
+
+-- src/sparse.rt:44:25
+add-last : tie.Need-add-last Inv-loop μ-loop
+add-last c = search needs
+
+-- src/sparse.rt:44:20
+shared-slice-read-last : tie.Need-shared-slice-read-last Inv-loop μ-loop
+shared-slice-read-last c = search needs
+
+-- src/sparse.rt:46:5
 loop-holds : tie.Need-loop-holds Inv-loop μ-loop
-loop-holds c = (omega arith, refl)
+loop-holds c = rising-start _ _ _ (c .before .sparse-order .ensures) refl
 
--- src/sparse.rt:53:11
-add-loop : tie.Need-add-loop Inv-loop μ-loop
-add-loop c = omega (arith, count-small (c .before .before .args .cell .now))
+-- src/sparse.rt:48:25
+add-next : tie.Need-add-next Inv-loop μ-loop
+add-next c = search needs
 
--- src/sparse.rt:54:13
-sparse-character-requires : tie.Need-sparse-character-requires Inv-loop μ-loop
-sparse-character-requires c κs = search needs
+-- src/sparse.rt:48:20
+shared-slice-read-next : tie.Need-shared-slice-read-next Inv-loop μ-loop
+shared-slice-read-next c = search needs
 
--- src/sparse.rt:55:43
-add-sparse-character : tie.Need-add-sparse-character Inv-loop μ-loop
-add-sparse-character c = search needs
-
--- src/sparse.rt:55:13
-sparse-character-requires-2 : tie.Need-sparse-character-requires-2 Inv-loop μ-loop
-sparse-character-requires-2 c κs = search needs
-
--- src/sparse.rt:57:13
+-- src/sparse.rt:50:13
 returns : tie.Need-returns Inv-loop μ-loop
-returns c = sym (c .before .before .before .before .loop .inv .1 ∙ characters-fall _ _ _ _ _ (c .before .before .before .before .before .before .pre .1) (c .before .before .before .loop-test .taken) (c .before .before .sparse-character .ensures) (c .before .sparse-character2 .ensures) (c .if1 .taken))
+returns c = rising-fails _ _ _ _ _ (c .before .before .before .loop .inv) (c .before .before .before .before .before .before .before .pre .1) (c .before .before .loop-test .taken) _ refl (c .if1 .taken)
 
--- src/sparse.rt:59:9
+-- src/sparse.rt:53:9
 add-i : tie.Need-add-i Inv-loop μ-loop
-add-i c = search needs
+add-i c = omega (arith, count-small (c .before .before .before .before .before .before .before .args .cell .now))
 
--- src/sparse.rt:53:5
+-- src/sparse.rt:46:5
 loop-less : tie.Need-loop-less Inv-loop μ-loop
 loop-less c = search needs
 
--- src/sparse.rt:53:5
+-- src/sparse.rt:46:5
 loop-again : tie.Need-loop-again Inv-loop μ-loop
-loop-again c = (omega arith, c .before .before .before .before .loop .inv .1 ∙ characters-rise _ _ _ _ _ (c .before .before .before .before .before .before .pre .1) (c .before .before .before .loop-test .taken) (c .before .before .sparse-character .ensures) (c .before .sparse-character2 .ensures) (c .if1 .left))
+loop-again c = rising-on _ _ _ _ _ (c .before .before .before .loop .inv) (c .before .before .before .before .before .before .before .pre .1) (c .before .before .loop-test .taken) _ refl (c .if1 .left)
 
--- src/sparse.rt:48:1
+-- src/sparse.rt:39:1
 returns-2 : tie.Need-returns-2 Inv-loop μ-loop
-returns-2 c = sym (c .before .loop .inv .1 ∙ characters-end _ _ _ (c .before .before .before .pre .1) (c .loop-test .left))
+returns-2 c = rising-end _ _ _ _ _ (c .before .loop .inv) (c .before .before .before .before .before .pre .1) (c .loop-test .left)
 
 pub is-rising-spec : {M : Type 1} → statement M
 is-rising-spec =
@@ -65,11 +71,13 @@ is-rising-spec =
     (tie.spec
     Inv-loop
     μ-loop
+    sparse-order-requires
+    cast-rest
+    add-last
+    shared-slice-read-last
     loop-holds
-    add-loop
-    sparse-character-requires
-    add-sparse-character
-    sparse-character-requires-2
+    add-next
+    shared-slice-read-next
     returns
     add-i
     loop-less
