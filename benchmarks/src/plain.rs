@@ -58,14 +58,14 @@ pub fn root_of(block: &[u8]) -> u32 {
 }
 
 /// Whether a block of this length holds from 4 to 2,048 whole cells.
-fn lawful_length(length: usize) -> bool {
+fn valid_length(length: usize) -> bool {
     length % CELL == 0 && (4..=2048).contains(&(length / CELL))
 }
 
 /// Whether the block is sound, as an answer number.
 #[inline(never)]
 pub fn validate(block: &[u8]) -> u8 {
-    if !lawful_length(block.len()) {
+    if !valid_length(block.len()) {
         return 1;
     }
     if !validation::is_sound(block, &mut [0; 2048]) {
@@ -111,7 +111,7 @@ pub fn next_key(block: &[u8], key: &[u8]) -> Next {
 /// Enters a key with its value after validation: the answer number and the count of cells taken.
 #[inline(never)]
 pub fn insert(block: &mut [u8], key: &[u8], value: u32) -> (u8, u32) {
-    if !lawful_length(block.len()) {
+    if !valid_length(block.len()) {
         return (1, 0);
     }
     let mut reached = [0; 2048];

@@ -8,7 +8,7 @@ pub type Reached = [u8; 2048];
 /// Whether the block is sound; the cells of a sound block that its roots reach are marked, all zero before.
 pub fn is_sound(block: &[u8], reached: &mut Reached) -> bool {
     let trailer = &block[block.len() - CELL..];
-    if !lawful_trailer(trailer, block.len() / CELL) {
+    if !valid_trailer(trailer, block.len() / CELL) {
         return false;
     }
     let mut visit = Visit { block, reached, bit: 1 };
@@ -25,8 +25,8 @@ pub fn is_sound(block: &[u8], reached: &mut Reached) -> bool {
     true
 }
 
-/// Whether all of the trailer is lawful but for the trees of its roots.
-fn lawful_trailer(trailer: &[u8], cells: usize) -> bool {
+/// Whether all of the trailer is valid but for the trees of its roots.
+fn valid_trailer(trailer: &[u8], cells: usize) -> bool {
     let idle_zero = |slot: usize| trailer[0x10] >> slot & 1 == 1 || word_at(trailer, 4 + 4 * slot) == 0;
     trailer[0x10] <= 7
         && trailer[0x11..0x14] == [0; 3]
@@ -86,14 +86,14 @@ impl Visit<'_> {
             && self.node(link, left)
     }
 
-    /// Whether a sparse cell has a lawful order word and two to six sound children.
+    /// Whether a sparse cell has a valid order word and two to six sound children.
     fn sparse(&mut self, offset: usize, left: usize) -> bool {
         let block = self.block;
         let child = |position: usize| word_at(block, offset + 4 * position);
         let count = (0..6).take_while(|position| child(*position) != 0).count();
         count >= 2
             && (count..6).all(|position| child(position) == 0)
-            && lawful_order(&block[offset + 0x18..offset + 0x20], count)
+            && valid_order(&block[offset + 0x18..offset + 0x20], count)
             && (0..count).all(|position| self.node(child(position), left))
     }
 
@@ -123,7 +123,7 @@ impl Visit<'_> {
 }
 
 /// Whether the order word after six characters lists so many of them strictly rising, position 1 after position 0.
-fn lawful_order(bytes: &[u8], count: usize) -> bool {
+fn valid_order(bytes: &[u8], count: usize) -> bool {
     let mut rest = u16::from_be_bytes([bytes[6], bytes[7]]);
     let mut last = None;
     for _ in 0..count {

@@ -86,7 +86,7 @@ static void every_byte(void) {
     }
 }
 
-/* Blocks of random bytes under a lawful trailer; the numbers are the same in every run. */
+/* Blocks of random bytes under a valid trailer; the numbers are the same in every run. */
 static void random_blocks(void) {
     uint32_t state = 2463534242u;
     for (unsigned turn = 0; turn < 20000; turn++) {

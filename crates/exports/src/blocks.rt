@@ -31,7 +31,7 @@ pub extern "C" fn exports_format(block: &mut [u8]) -> u8
     change_number(format(block))
 }
 
-// Whether a block is lawful in size and sound.
+// Whether a block is valid in size and sound.
 #[no_mangle]
 pub extern "C" fn exports_validate(block: &[u8]) -> u8
     ensures { λ r. ⌜ validate (now (block .entry)) ≡ r ⌝ }

@@ -55,11 +55,11 @@ pub holds-dropped : (here : Bool) {old : Bool} {showed : Table} {was : Option Ta
 holds-dropped true kept = holds-none _
 holds-dropped false kept = kept
 
--- every lawful slot of a block beside a ledger
+-- every valid slot of a block beside a ledger
 pub slot-holds : (count : ℕ) (b : List ℕ) (l : Ledger) → Beside count b l → (slot : ℕ) → validSlot (layoutOf b) slot ≡ true
     → SlotHolds (inUse (layoutOf b) b slot) (slotShown b slot) (l .held slot)
-slot-holds count b l beside slot lawful =
-    let a = beside .agrees .held slot lawful in
+slot-holds count b l beside slot is-slot =
+    let a = beside .agrees .held slot is-slot in
     record { when-none = a .unused; when-some = a .used; same = a .shows }
 
 -- the invariant for a block made from another one
@@ -69,16 +69,16 @@ module _ (count : ℕ) (b b′ : List ℕ) (same : slots (layoutOf b) ≡ count)
       → ((slot : ℕ) → validSlot (layoutOf b) slot ≡ true → SlotHolds (used slot) (held slot) (l .held slot)) → Beside count b′ l
   beside-after l shows holds =
       let holds′ : (slot : ℕ) → validSlot (layoutOf b′) slot ≡ true → SlotHolds (used slot) (held slot) (l .held slot) =
-      λ slot lawful. holds slot (subst (λ (layout : Layout). validSlot layout slot ≡ true) (a .layout) lawful) in
+      λ slot is-slot. holds slot (subst (λ (layout : Layout). validSlot layout slot ≡ true) (a .layout) is-slot) in
       record {
         agrees = record {
           size = a .size;
           valid = a .valid;
           present = λ key. a .shows key ∙ shows key;
-          held = λ slot lawful. record {
-            unused = λ e. a .uses slot lawful ∙ holds′ slot lawful .when-none e;
-            used = λ t e. a .uses slot lawful ∙ holds′ slot lawful .when-some t e;
-            shows = λ t e key. a .slot-shows slot lawful (holds′ slot lawful .when-some t e) key ∙ holds′ slot lawful .same t e key;
+          held = λ slot is-slot. record {
+            unused = λ e. a .uses slot is-slot ∙ holds′ slot is-slot .when-none e;
+            used = λ t e. a .uses slot is-slot ∙ holds′ slot is-slot .when-some t e;
+            shows = λ t e key. a .slot-shows slot is-slot (holds′ slot is-slot .when-some t e) key ∙ holds′ slot is-slot .same t e key;
           };
         };
         bytes = a .bytes;
@@ -93,7 +93,7 @@ beside-fresh b fresh f =
         size = f .size;
         valid = f .valid;
         present = f .shows;
-        held = λ slot lawful. record { unused = λ e. f .unused slot; used = λ t e. never e; shows = λ t e. never e };
+        held = λ slot is-slot. record { unused = λ e. f .unused slot; used = λ t e. never e; shows = λ t e. never e };
       };
       bytes = f .bytes;
       counts = refl;

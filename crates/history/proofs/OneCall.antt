@@ -67,7 +67,7 @@ module _ (count : ℕ) (b : List ℕ) (l : Ledger) (beside : Beside count b l) (
   insert-ways false false false l′ e new =
       subst (λ (a : ℕ). Step count b answer b′ (pick (eqb a 7) (unaltered 7 l) (done l′))) (sym e) (new e)
 
-  -- of a snapshot, by whether the slot is lawful
+  -- of a snapshot, by whether the slot is valid
   snapshot-ways : (x : Bool) (l′ : Ledger) → answer ≡ pick x 0 5 → (answer ≡ 0 → Step count b answer b′ (done l′))
       → Step count b answer b′ (pick x (done l′) (unaltered 5 l))
   snapshot-ways true l′ e new = new e
@@ -102,22 +102,22 @@ module _ (count : ℕ) (b : List ℕ) (l : Ledger) (beside : Beside count b l) w
       (slot-holds count b l beside))
 
   module _ (slot : ℕ) where
-    -- the ledger's lawful slots are the block's
-    slot-lawful : ledgerSlot count slot ≡ validSlot (layoutOf b) slot
+    -- the ledger's valid slots are the block's
+    ledger-slot-is : ledgerSlot count slot ≡ validSlot (layoutOf b) slot
     unfolding ledgerSlot validSlot
-    slot-lawful = ap (λ (n : ℕ). ledgerSlot n slot) (sym (beside .counts))
+    ledger-slot-is = ap (λ (n : ℕ). ledgerSlot n slot) (sym (beside .counts))
 
     -- a snapshot
     pub snapshot-step : Step count b (snapshot b slot .answer) (snapshot b slot .block) (noteSnapshot count l slot)
     unfolding noteSnapshot
     snapshot-step =
         let l′ : Ledger = record { present = l .present; held = withHeld (l .held) slot (some (l .present)) } in
-        subst (λ (x : Bool). Step count b (snapshot b slot .answer) (snapshot b slot .block) (pick x (done l′) (unaltered 5 l))) (sym slot-lawful)
+        subst (λ (x : Bool). Step count b (snapshot b slot .answer) (snapshot b slot .block) (pick x (done l′) (unaltered 5 l))) (sym ledger-slot-is)
         (snapshot-ways count b l beside _ _ (snapshot-refused b slot) (validSlot (layoutOf b) slot) l′
         (snapshot-answer b slot (beside .agrees .size) (beside .agrees .valid))
         (λ e. step-done count b l beside _ _ (snapshot-refused b slot) _ _ _ e (snapshot-law b slot (beside .bytes) e) l′
         (beside .agrees .present)
-        (λ s lawful. holds-replaced (eqb s slot) (holds-some (shown b) (l .present) (beside .agrees .present)) (slot-holds count b l beside s lawful))))
+        (λ s is-slot. holds-replaced (eqb s slot) (holds-some (shown b) (l .present) (beside .agrees .present)) (slot-holds count b l beside s is-slot))))
 
     -- a call on a slot in use
     module _ (answer : ℕ) (b′ : List ℕ) (refused : answer ≢ 0 → b′ ≡ b)
@@ -125,7 +125,7 @@ module _ (count : ℕ) (b : List ℕ) (l : Ledger) (beside : Beside count b l) w
         (new : answer ≡ 0 → (t : Table) → ((key : List ℕ) → slotShown b slot key ≡ t key) → Step count b answer b′ (done (next t))) where
       used-step : Step count b answer b′ (pick (ledgerSlot count slot) (noteHeld l (l .held slot) next) (unaltered 5 l))
       used-step =
-          subst (λ (x : Bool). Step count b answer b′ (pick x (noteHeld l (l .held slot) next) (unaltered 5 l))) (sym slot-lawful)
+          subst (λ (x : Bool). Step count b answer b′ (pick x (noteHeld l (l .held slot) next) (unaltered 5 l))) (sym ledger-slot-is)
           (used-ways count b l beside answer b′ refused (validSlot (layoutOf b) slot) (inUse (layoutOf b) b slot) (slotShown b slot) (l .held slot) next is
           (slot-holds count b l beside slot) new)
 
@@ -142,7 +142,7 @@ module _ (count : ℕ) (b : List ℕ) (l : Ledger) (beside : Beside count b l) w
     release-step =
         used-step _ _ (release-refused b slot) (release-answer b slot (beside .agrees .size) (beside .agrees .valid)) _
         (λ e t shows. step-done count b l beside _ _ (release-refused b slot) _ _ _ e (release-law b slot (beside .bytes) e) _ (beside .agrees .present)
-        (λ s lawful. holds-dropped (eqb s slot) (slot-holds count b l beside s lawful)))
+        (λ s is-slot. holds-dropped (eqb s slot) (slot-holds count b l beside s is-slot)))
 
 -- any call
 pub call-step : (count : ℕ) (b : List ℕ) (l : Ledger) → Beside count b l → (call : Call) → KeyIsBytes call

@@ -49,7 +49,7 @@ after-same b b′ present present′ used held held′ same each a =
       valid = a .valid;
       shows = λ key. a .shows key ∙ same key;
       uses = a .uses;
-      slot-shows = λ slot lawful on key. a .slot-shows slot lawful on key ∙ each slot on key;
+      slot-shows = λ slot is-slot on key. a .slot-shows slot is-slot on key ∙ each slot on key;
       kept = a .kept;
     }
 
@@ -77,9 +77,9 @@ module _ (b b′ : List ℕ) (size : badSize b ≡ false) (root : ℕ) (words : 
         valid = subst (λ (l : Layout). soundWith l b′ ≡ true) (sym (says .layout)) (parts-sound (layoutOf b) b′ (record {
           trailer = says .valid;
           root = subst (λ (w : ℕ). validRoot (layoutOf b) (memoryOf b′) w ≡ true) (sym (says .root-is)) root-valid;
-          slot = λ slot lawful on.
-              subst (λ (w : ℕ). validRoot (layoutOf b) (memoryOf b′) w ≡ true) (sym (says .word-is slot lawful))
-              (slot-valid slot lawful (sym (says .use-is slot lawful) ∙ on));
+          slot = λ slot is-slot on.
+              subst (λ (w : ℕ). validRoot (layoutOf b) (memoryOf b′) w ≡ true) (sym (says .word-is slot is-slot))
+              (slot-valid slot is-slot (sym (says .use-is slot is-slot) ∙ on));
         }));
         shows = λ key.
             subst (λ (l : Layout). lookup l (memoryOf b′) (rootWord l b′) key ≡ present key) (sym (says .layout))
@@ -88,7 +88,7 @@ module _ (b b′ : List ℕ) (size : badSize b ≡ false) (root : ℕ) (words : 
         slot-shows =
             subst (λ (l : Layout). (slot : ℕ) → validSlot l slot ≡ true → used slot ≡ true → (key : List ℕ)
             → lookup l (memoryOf b′) (slotWord l b′ slot) key ≡ held slot key) (sym (says .layout))
-            (λ slot lawful on key. ap (λ (w : ℕ). lookup (layoutOf b) (memoryOf b′) w key) (says .word-is slot lawful) ∙ slot-shows slot lawful on key);
+            (λ slot is-slot on key. ap (λ (w : ℕ). lookup (layoutOf b) (memoryOf b′) w key) (says .word-is slot is-slot) ∙ slot-shows slot is-slot on key);
         kept = kept;
       }
 
@@ -102,8 +102,8 @@ module _ (b : List ℕ) (p : SoundParts (layoutOf b) b) where
   present-root = record { valid = p .root; within = λ c h. omega (arith, h, root-reachable (layoutOf b) b c) }
 
   pub slot-root : (slot : ℕ) → validSlot (layoutOf b) slot ≡ true → inUse (layoutOf b) b slot ≡ true → OldRoot b (slotWord (layoutOf b) b slot)
-  slot-root slot lawful on =
-      record { valid = p .slot slot lawful on; within = λ c h. omega (arith, h, slot-reachable (layoutOf b) b slot lawful on c) }
+  slot-root slot is-slot on =
+      record { valid = p .slot slot is-slot on; within = λ c h. omega (arith, h, slot-reachable (layoutOf b) b slot is-slot on c) }
 
   module _ (s : Sized b) (bytes : IsBytes b) (b′ : List ℕ)
       (kept : (c : ℕ) → 1 ≤ occurrences c (reachable (layoutOf b) b) → memoryOf b′ c ≡ memoryOf b c) where
@@ -124,6 +124,6 @@ module _ (b : List ℕ) (p : SoundParts (layoutOf b) b) where
       λ c h. same c (not-trailer (layoutOf b) c (reachable-usable (layoutOf b) b p c h)) in
       let keeps = old-root-kept s bytes b′ kept in
       after b b′ size root words used says bytes′ _ _ (keeps root old .valid) (keeps root old .table)
-      (λ slot lawful on. keeps (words slot) (olds slot lawful on) .valid)
-      (λ slot lawful on. keeps (words slot) (olds slot lawful on) .table)
+      (λ slot is-slot on. keeps (words slot) (olds slot is-slot on) .valid)
+      (λ slot is-slot on. keeps (words slot) (olds slot is-slot on) .table)
       kept

@@ -83,8 +83,8 @@ module _ (layout : Layout) (size : ℕ) (fits : Fits layout size) where
   formatted-root = formatted-word (trailerAt layout) (omega arith)
 
   pub formatted-slot : (slot : ℕ) → validSlot layout slot ≡ true → slotWord layout (formatted layout size) slot ≡ 0
-  formatted-slot slot lawful =
-      formatted-word (slotAt layout slot) (omega (arith, slot-at layout slot, slot-high layout slot lawful, slots-three layout))
+  formatted-slot slot is-slot =
+      formatted-word (slotAt layout slot) (omega (arith, slot-at layout slot, slot-high layout slot is-slot, slots-three layout))
 
   pub formatted-unused : (slot : ℕ) → inUse layout (formatted layout size) slot ≡ false
   unfolding inUse
@@ -103,7 +103,7 @@ module _ (layout : Layout) (size : ℕ) (fits : Fits layout size) where
   formatted-sound edition =
       parts-sound layout (formatted layout size) (record {
         trailer = parts-trailer layout (formatted layout size) (record {
-          idle = λ slot lawful unused. formatted-slot slot lawful;
+          idle = λ slot is-slot unused. formatted-slot slot is-slot;
           bits = subst (λ (v : ℕ). v < 2 ^ slots layout) (sym (formatted-byte (bitsAt layout) (omega arith))) (pow-pos (slots layout));
           gap = λ k low high. formatted-byte (bitsAt layout + k) (omega arith);
           size = formatted-size;
@@ -111,7 +111,7 @@ module _ (layout : Layout) (size : ℕ) (fits : Fits layout size) where
           edition = edition;
         });
         root = subst (λ (w : ℕ). validRoot layout (memoryOf (formatted layout size)) w ≡ true) (sym formatted-root) (zero-valid layout (memoryOf (formatted layout size)));
-        slot = λ slot lawful on. absurd-bool (sym on ∙ formatted-unused slot);
+        slot = λ slot is-slot on. absurd-bool (sym on ∙ formatted-unused slot);
       })
 
   -- it shows nothing, and nothing is reached
@@ -123,7 +123,7 @@ module _ (layout : Layout) (size : ℕ) (fits : Fits layout size) where
   formatted-unreached c =
       let nowhere = ap (λ (w : ℕ). rootCells layout (memoryOf (formatted layout size)) w) formatted-root ∙ zero-cells layout (memoryOf (formatted layout size)) in
       unreachable layout (formatted layout size) c (ap (occurrences c) nowhere ∙ occurrences-none c)
-      (λ slot lawful on. absurd-bool (sym on ∙ formatted-unused slot))
+      (λ slot is-slot on. absurd-bool (sym on ∙ formatted-unused slot))
 
 -- a fresh block made from one of its size
 pub record Fresh (b fresh : List ℕ) : Type 0 where

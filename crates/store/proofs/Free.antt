@@ -131,7 +131,7 @@ module _ (layout : Layout) (b : List ℕ) (c : ℕ) where
 
   pub free-apart-slot : 1 ≤ occurrences c (free layout b) → (slot : ℕ) → validSlot layout slot ≡ true → inUse layout b slot ≡ true
       → occurrences c (rootCells layout (memoryOf b) (slotWord layout b slot)) ≡ 0
-  free-apart-slot h slot lawful on = omega (arith, free-apart h, slot-reachable layout b slot lawful on c)
+  free-apart-slot h slot is-slot on = omega (arith, free-apart h, slot-reachable layout b slot is-slot on c)
 
   -- it is usable, and free once
   pub free-usable : 1 ≤ occurrences c (free layout b) → usable layout c ≡ true

@@ -146,8 +146,8 @@ module _ (b key : List ℕ) (value : ℕ) (bytes : IsBytes b) (is-bytes : IsByte
       after b (leftBlock b key value) (a .size) (blockBuild b key value .word) (slotWord (layoutOf b) b) (inUse (layoutOf b) b) inserted-says
       (committed-bytes b s (blockBuild b key value) build-cells build-enough bytes)
       (update (shown b) key value) (slotShown b) (new-root .valid) (new-root .table)
-      (λ slot lawful on. keeps (slotWord (layoutOf b) b slot) (slot-root b p slot lawful on) .valid)
-      (λ slot lawful on. keeps (slotWord (layoutOf b) b slot) (slot-root b p slot lawful on) .table)
+      (λ slot is-slot on. keeps (slotWord (layoutOf b) b slot) (slot-root b p slot is-slot on) .valid)
+      (λ slot is-slot on. keeps (slotWord (layoutOf b) b slot) (slot-root b p slot is-slot on) .table)
       kept
 
   -- and its cells are those laid down

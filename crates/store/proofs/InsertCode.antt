@@ -1,4 +1,4 @@
--- The ways through the code of a lawful insertion: what is listed as free, built in the stage and committed is what the
+-- The ways through the code of a valid insertion: what is listed as free, built in the stage and committed is what the
 -- definition of an insertion says.
 use mathlib.Core.Path.{_≡_, refl, sym, ap, _∙_, subst}
 use mathlib.Core.List.{List, [], _∷_, _++_}
@@ -29,7 +29,7 @@ use Rattle.store.specs.Free.{free}
 use Rattle.store.specs.Insert.{numbering, blockBuild, insertWrites, insert}
 use Rattle.store.specs.Unstamped.{unstamped, Listed}
 use Rattle.store.specs.Committed.{Inside, commitWrites}
-use Rattle.store.specs.Lawful.{Lawful}
+use Rattle.store.specs.Insertable.{Insertable}
 use Rattle.store.proofs.Trailer.{sized}
 use Rattle.store.proofs.ValidateSteps.{layout-fits}
 use Rattle.store.proofs.Roots.{root-parts, sound-parts}
@@ -50,18 +50,18 @@ limit-48 : keyLimit ≡ 48
 unfolding keyLimit
 limit-48 = refl
 
-module _ (layout : Layout) (b stamps key : List ℕ) (value : ℕ) (p : Lawful layout b stamps key value) where
-  pub lawful-fits : Fits layout (length b)
-  lawful-fits = layout-fits b layout (p .size) (p .stated)
+module _ (layout : Layout) (b stamps key : List ℕ) (value : ℕ) (p : Insertable layout b stamps key value) where
+  pub insertable-fits : Fits layout (length b)
+  insertable-fits = layout-fits b layout (p .size) (p .stated)
 
-  pub lawful-key : length key ≤ 48
-  lawful-key = omega (arith, key-fits key (p .good-key), limit-48)
+  pub insertable-key : length key ≤ 48
+  insertable-key = omega (arith, key-fits key (p .good-key), limit-48)
 
   module _ (root : ℕ) (numbers : List ℕ) (count : ℕ) (root-is : root ≡ rootWord layout b) (listed : Listed numbers count (unstamped layout root stamps)) where
     -- the numbers listed are the free cells
     listed-free : Listed numbers count (free (layoutOf b) b)
     listed-free =
-        let f = lawful-fits in
+        let f = insertable-fits in
         subst (Listed numbers count)
         (ap (λ (r : ℕ). unstamped layout r stamps) root-is ∙ unstamped-free layout b stamps (f .most) (omega (arith, f .least)) (p .stamped)
         ∙ ap (λ (l : Layout). free l b) (p .stated))
@@ -81,13 +81,13 @@ module _ (layout : Layout) (b stamps key : List ℕ) (value : ℕ) (p : Lawful l
         Numbered layout count × (layout .cells * 32 ≤ length b) × (0 ≤ length key) × (length key ≤ 48)
         × HasTree layout (memoryOf b) root (length key - 0)
     build-ready =
-        let f = lawful-fits in
+        let f = insertable-fits in
         let valid : soundWith layout b ≡ true = ap (λ (l : Layout). soundWith l b) (p .stated) ∙ p .valid in
         let parts = root-parts layout (memoryOf b) (rootWord layout b) (sound-parts layout b valid .root) in (
           record { some = omega (arith, f .least); most = f .most; listed = omega (arith, listed .many, unstamped-most layout root stamps, f .most) },
           omega (arith, f .whole),
           omega arith,
-          lawful-key,
+          insertable-key,
           record {
             depth = keyLimit;
             deep = omega (arith, key-fits key (p .good-key));
@@ -122,7 +122,7 @@ module _ (layout : Layout) (b stamps key : List ℕ) (value : ℕ) (p : Lawful l
       pub made-most : made .count ≤ 202
       unfolding blockBuild
       made-most =
-          omega (arith, made-count, build-bound (numbering b) (layoutOf b) (memoryOf b) (rootWord (layoutOf b) b) key value, lawful-key)
+          omega (arith, made-count, build-bound (numbering b) (layoutOf b) (memoryOf b) (rootWord (layoutOf b) b) key value, insertable-key)
 
       -- more cells than are free
       pub insert-lacks : count < made .count → insert b key value ≡ refusedInsert 7 b

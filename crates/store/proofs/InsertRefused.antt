@@ -12,7 +12,7 @@ use Rattle.store.specs.Sound.{soundWith, sound}
 use Rattle.store.specs.Stamps.{Validated}
 use Rattle.store.specs.Refusal.{badKey, badNewKey, badValue}
 use Rattle.store.specs.Insert.{Inserted, insert}
-use Rattle.store.specs.Lawful.{Lawful}
+use Rattle.store.specs.Insertable.{Insertable}
 use Rattle.store.proofs.Refusals.{insert-answers}
 use Rattle.store.proofs.InsertCall.{insert-number, insert-answer, insert-refused, insert-refused-count}
 
@@ -50,9 +50,9 @@ module _ (b key : List ℕ) (value : ℕ) where
           insert-value over = refused-as 4 (insert-answer b key value size (told ∙ t) ∙ rw (good, lt-ltb 2147483647 value over)) (λ e. omega arith)
 
           -- none of these applies
-          pub insert-lawful : value ≤ 2147483647 → Lawful layout b stamps key value
+          pub is-insertable : value ≤ 2147483647 → Insertable layout b stamps key value
           unfolding badNewKey badValue
-          insert-lawful within =
+          is-insertable within =
               record {
                 stated = stated;
                 size = size;

@@ -33,7 +33,7 @@ module _ (b : List ℕ) (rest : List Refusal) where
   unfolding validate occurrences
   block-passed done = passed (blockRefusals b) rest (zero-exactly (blockRefusals b) refl .only done)
 
--- what a block says that passed: its size is lawful, it is sound, and its root has a tree
+-- what a block says that passed: its size is valid, it is sound, and its root has a tree
 module _ (b : List ℕ) (done : validate b ≡ 0) where
   pub block-size : badSize b ≡ false
   unfolding validate occurrences

@@ -182,9 +182,9 @@ module _ (layout : Layout) (b : List ℕ) where
       record {
         trailer = both-left (validTrailer layout b) (all (validRoot layout (memoryOf b)) (roots layout b)) e;
         root = all-head (validRoot layout (memoryOf b)) (rootWord layout b) (slotRoots layout b (slots layout) 1) each;
-        slot = λ slot lawful on. all-slots (validRoot layout (memoryOf b)) (slots layout) 1 slot
+        slot = λ slot is-slot on. all-slots (validRoot layout (memoryOf b)) (slots layout) 1 slot
             (all-tail (validRoot layout (memoryOf b)) (rootWord layout b) (slotRoots layout b (slots layout) 1) each)
-            (slot-low layout slot lawful) (omega (arith, slot-high layout slot lawful)) on;
+            (slot-low layout slot is-slot) (omega (arith, slot-high layout slot is-slot)) on;
       }
 
   pub parts-sound : SoundParts → soundWith layout b ≡ true
@@ -237,7 +237,7 @@ module _ (layout : Layout) (b : List ℕ) where
         | no other ↦ omega (arith, later other, idle-reached c count from idle)
       ]
 
-  -- a cell is reached by a lawful slot in use
+  -- a cell is reached by a valid slot in use
   abbrev pub SlotReaches : ℕ → Type 0
   SlotReaches c = (slot : ℕ) × (validSlot layout slot ≡ true) × (inUse layout b slot ≡ true) × (1 ≤ occurrences c (rootCells layout (memoryOf b) (slotWord layout b slot)))
 
@@ -268,8 +268,8 @@ module _ (layout : Layout) (b : List ℕ) where
 
   pub slot-reachable : (slot : ℕ) → validSlot layout slot ≡ true → inUse layout b slot ≡ true
       → (c : ℕ) → occurrences c (rootCells layout (memoryOf b) (slotWord layout b slot)) ≤ occurrences c (reachable layout b)
-  slot-reachable slot lawful on c =
-      omega (arith, reachable-cut c, slot-reached c (slots layout) 1 slot (slot-low layout slot lawful) (omega (arith, slot-high layout slot lawful)) on)
+  slot-reachable slot is-slot on c =
+      omega (arith, reachable-cut c, slot-reached c (slots layout) 1 slot (slot-low layout slot is-slot) (omega (arith, slot-high layout slot is-slot)) on)
 
   pub reachable-where : (c : ℕ) → 1 ≤ occurrences c (reachable layout b) → (1 ≤ occurrences c (rootCells layout (memoryOf b) (rootWord layout b))) ⊎ SlotReaches c
   reachable-where c h = elim (decLe 1 (occurrences c (rootCells layout (memoryOf b) (rootWord layout b)))) [

@@ -44,7 +44,7 @@ replaced-root : (b : List ℕ) (t used old : Bool) (w v : ℕ) → (used ≡ tru
 replaced-root b true used old w v new kept on = new on
 replaced-root b false used old w v new kept on = kept on
 
-module _ (b : List ℕ) (bytes : IsBytes b) (size : badSize b ≡ false) (valid : sound b ≡ true) (slot : ℕ) (lawful : validSlot (layoutOf b) slot ≡ true) where
+module _ (b : List ℕ) (bytes : IsBytes b) (size : badSize b ≡ false) (valid : sound b ≡ true) (slot : ℕ) (is-slot : validSlot (layoutOf b) slot ≡ true) where
   snapshotted : After b (snapshotBlock (layoutOf b) b slot) (shown b) (replacedAt (inUse (layoutOf b) b) slot true) (replacedAt (slotShown b) slot (shown b))
   unfolding snapshotBlock rootWord
   snapshotted =
@@ -52,16 +52,16 @@ module _ (b : List ℕ) (bytes : IsBytes b) (size : badSize b ≡ false) (valid 
       let s = sized b size in
       let v : ℕ = withBit (layoutOf b) b slot in
       let w : ℕ = rootWord (layoutOf b) b in
-      let fits = with-bit-fits (layoutOf b) b slot lawful (trailer-parts (layoutOf b) b (p .trailer) .bits) in
+      let fits = with-bit-fits (layoutOf b) b slot is-slot (trailer-parts (layoutOf b) b (p .trailer) .bits) in
       after-same b _ _ _ (replacedAt (inUse (layoutOf b) b) slot true) _ _ (λ key. refl)
       (λ other on key. pick-lookup (layoutOf b) (memoryOf b) (eqb other slot) w (slotWord (layoutOf b) b other) key)
-      (after-trailer b p size s bytes _ (slot-block-bytes b s slot v w lawful bytes (bits-byte (layoutOf b) v fits)) w
+      (after-trailer b p size s bytes _ (slot-block-bytes b s slot v w is-slot bytes (bits-byte (layoutOf b) v fits)) w
       (replacedAt (slotWord (layoutOf b) b) slot w) (replacedAt (inUse (layoutOf b) b) slot true)
-      (slot-written b s slot v w lawful true (p .trailer) (word-bound b _ bytes) fits (with-bit-uses (layoutOf b) b slot lawful) (λ e. absurd-bool e))
-      (slot-block-cells b s slot v w lawful)
+      (slot-written b s slot v w is-slot true (p .trailer) (word-bound b _ bytes) fits (with-bit-uses (layoutOf b) b slot is-slot) (λ e. absurd-bool e))
+      (slot-block-cells b s slot v w is-slot)
       (present-root b p)
-      (λ other other-lawful on. replaced-root b (eqb other slot) true (inUse (layoutOf b) b other) w (slotWord (layoutOf b) b other)
-      (λ e. present-root b p) (slot-root b p other other-lawful) on))
+      (λ other other-is-slot on. replaced-root b (eqb other slot) true (inUse (layoutOf b) b other) w (slotWord (layoutOf b) b other)
+      (λ e. present-root b p) (slot-root b p other other-is-slot) on))
 
   module _ (on : inUse (layoutOf b) b slot ≡ true) where
     restored : After b (restoreBlock (layoutOf b) b slot) (slotShown b slot) (inUse (layoutOf b) b) (slotShown b)
@@ -72,7 +72,7 @@ module _ (b : List ℕ) (bytes : IsBytes b) (size : badSize b ≡ false) (valid 
         after-trailer b p size (sized b size) bytes _ (withWord-bytes b (trailerAt (layoutOf b)) w bytes) w (slotWord (layoutOf b) b) (inUse (layoutOf b) b)
         (root-written b (sized b size) w (p .trailer) (word-bound b _ bytes))
         (root-written-cells b (sized b size) w)
-        (slot-root b p slot lawful on)
+        (slot-root b p slot is-slot on)
         (slot-root b p)
 
     released : After b (releaseBlock (layoutOf b) b slot) (shown b) (replacedAt (inUse (layoutOf b) b) slot false) (slotShown b)
@@ -81,39 +81,39 @@ module _ (b : List ℕ) (bytes : IsBytes b) (size : badSize b ≡ false) (valid 
         let p = sound-parts (layoutOf b) b valid in
         let s = sized b size in
         let v : ℕ = withoutBit (layoutOf b) b slot in
-        let fits = without-bit-fits (layoutOf b) b slot lawful on (trailer-parts (layoutOf b) b (p .trailer) .bits) in
+        let fits = without-bit-fits (layoutOf b) b slot is-slot on (trailer-parts (layoutOf b) b (p .trailer) .bits) in
         after-same b _ _ _ (replacedAt (inUse (layoutOf b) b) slot false) _ _ (λ key. refl)
         (λ other other-on key. pick-used (layoutOf b) (memoryOf b) (eqb other slot) (inUse (layoutOf b) b other) 0 (slotWord (layoutOf b) b other) key other-on)
-        (after-trailer b p size s bytes _ (slot-block-bytes b s slot v 0 lawful bytes (bits-byte (layoutOf b) v fits)) (rootWord (layoutOf b) b)
+        (after-trailer b p size s bytes _ (slot-block-bytes b s slot v 0 is-slot bytes (bits-byte (layoutOf b) v fits)) (rootWord (layoutOf b) b)
         (replacedAt (slotWord (layoutOf b) b) slot 0) (replacedAt (inUse (layoutOf b) b) slot false)
-        (slot-written b s slot v 0 lawful false (p .trailer) (omega arith) fits (without-bit-uses (layoutOf b) b slot lawful on) (λ e. refl))
-        (slot-block-cells b s slot v 0 lawful)
+        (slot-written b s slot v 0 is-slot false (p .trailer) (omega arith) fits (without-bit-uses (layoutOf b) b slot is-slot on) (λ e. refl))
+        (slot-block-cells b s slot v 0 is-slot)
         (present-root b p)
-        (λ other other-lawful other-on. replaced-root b (eqb other slot) false (inUse (layoutOf b) b other) 0 (slotWord (layoutOf b) b other)
-        (λ e. absurd-false e) (slot-root b p other other-lawful) other-on))
+        (λ other other-is-slot other-on. replaced-root b (eqb other slot) false (inUse (layoutOf b) b other) 0 (slotWord (layoutOf b) b other)
+        (λ e. absurd-false e) (slot-root b p other other-is-slot) other-on))
 
 -- what holds where a call on a slot is done
 pub record SlotAccepted (b : List ℕ) (slot : ℕ) : Type 0 where
   pub size : badSize b ≡ false
   pub valid : sound b ≡ true
-  pub lawful : validSlot (layoutOf b) slot ≡ true
+  pub is-slot : validSlot (layoutOf b) slot ≡ true
 
 pub record UsedSlotAccepted (b : List ℕ) (slot : ℕ) : Type 0 where
   pub size : badSize b ≡ false
   pub valid : sound b ≡ true
-  pub lawful : validSlot (layoutOf b) slot ≡ true
+  pub is-slot : validSlot (layoutOf b) slot ≡ true
   pub on : inUse (layoutOf b) b slot ≡ true
 
 module _ (b : List ℕ) (slot : ℕ) where
   slot-accepted : firstRefusal (slotRefusals b slot) ≡ 0 → SlotAccepted b slot
   slot-accepted e =
       let c = slot-answers b slot .1 .1 .1 .only e in
-      record { size = c .0; valid = not-false _ (c .1 .0); lawful = not-false _ (c .1 .1 .0) }
+      record { size = c .0; valid = not-false _ (c .1 .0); is-slot = not-false _ (c .1 .1 .0) }
 
   used-slot-accepted : firstRefusal (usedSlotRefusals b slot) ≡ 0 → UsedSlotAccepted b slot
   used-slot-accepted e =
       let c = used-slot-answers b slot .1 .1 .1 .1 .only e in
-      record { size = c .0; valid = not-false _ (c .1 .0); lawful = not-false _ (c .1 .1 .0); on = not-false _ (c .1 .1 .1 .0) }
+      record { size = c .0; valid = not-false _ (c .1 .0); is-slot = not-false _ (c .1 .1 .0); on = not-false _ (c .1 .1 .1 .0) }
 
   -- snapshot
   pub snapshot-accepted : snapshot b slot .answer ≡ 0 → SlotAccepted b slot
@@ -127,7 +127,7 @@ module _ (b : List ℕ) (slot : ℕ) where
       let a = slot-accepted e in
       subst (λ (b′ : List ℕ). After b b′ (shown b) (replacedAt (inUse (layoutOf b) b) slot true) (replacedAt (slotShown b) slot (shown b)))
       (sym (done-block (slotRefusals b slot) b (snapshotBlock (layoutOf b) b slot) e))
-      (snapshotted b bytes (a .size) (a .valid) slot (a .lawful))
+      (snapshotted b bytes (a .size) (a .valid) slot (a .is-slot))
 
   pub snapshot-refused : snapshot b slot .answer ≢ 0 → snapshot b slot .block ≡ b
   unfolding snapshot
@@ -144,7 +144,7 @@ module _ (b : List ℕ) (slot : ℕ) where
       let a = used-slot-accepted e in
       subst (λ (b′ : List ℕ). After b b′ (slotShown b slot) (inUse (layoutOf b) b) (slotShown b))
       (sym (done-block (usedSlotRefusals b slot) b (restoreBlock (layoutOf b) b slot) e))
-      (restored b bytes (a .size) (a .valid) slot (a .lawful) (a .on))
+      (restored b bytes (a .size) (a .valid) slot (a .is-slot) (a .on))
 
   pub restore-refused : restore b slot .answer ≢ 0 → restore b slot .block ≡ b
   unfolding restore
@@ -162,7 +162,7 @@ module _ (b : List ℕ) (slot : ℕ) where
       let a = used-slot-accepted e in
       subst (λ (b′ : List ℕ). After b b′ (shown b) (replacedAt (inUse (layoutOf b) b) slot false) (slotShown b))
       (sym (done-block (usedSlotRefusals b slot) b (releaseBlock (layoutOf b) b slot) e))
-      (released b bytes (a .size) (a .valid) slot (a .lawful) (a .on))
+      (released b bytes (a .size) (a .valid) slot (a .is-slot) (a .on))
 
   pub release-refused : release b slot .answer ≢ 0 → release b slot .block ≡ b
   unfolding release

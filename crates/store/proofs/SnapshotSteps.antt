@@ -29,7 +29,7 @@ module _ (slot : ℕ) where
   bit-two e = rw e
 
   pub bit-three : (layout : Layout) → validSlot layout slot ≡ true → slot ≢ 1 → slot ≢ 2 → 4 ≡ slotBit slot
-  bit-three layout lawful one two = let e : slot ≡ 3 = omega (arith, slot-range layout slot lawful, one, two) in rw e
+  bit-three layout is-slot one two = let e : slot ≡ 3 = omega (arith, slot-range layout slot is-slot, one, two) in rw e
 
 -- the bits of the slots in use with one set and with one cleared, from what the code read
 module _ (layout : Layout) (b : List ℕ) (slot start : ℕ) (at : start ≡ trailerAt layout) where
@@ -53,8 +53,8 @@ module _ (layout : Layout) (b : List ℕ) (slot start : ℕ) (at : start ≡ tra
     -- the sum is a byte, and there is a bit to take away
     pub bit-room : validSlot layout slot ≡ true → inUse layout b slot ≡ false → getD b (start + 16) 0 < 256 → getD b (start + 16) 0 + bit < 256
     unfolding inUse
-    bit-room lawful off byte =
-        let range = slot-range layout slot lawful in
+    bit-room is-slot off byte =
+        let range = slot-range layout slot is-slot in
         let byte : getD b (bitsAt layout) 0 < 256 = rw (← at) byte in
         rw (at, is) (bit-bound (getD b (bitsAt layout) 0) (slot - 1) 8 (omega (arith, range)) byte (eqb-false _ 1 off))
 
@@ -99,15 +99,15 @@ module _ (b : List ℕ) (slot : ℕ) where
   block-refused answer e n =
       refused-earlier (blockRefusals b) (refusal 5 (not (validSlot (layoutOf b) slot)) ∷ []) (λ z. n (sym e ∙ z)) ∙ e
 
-  module _ (e : validate b ≡ 0) (layout : Layout) (lawful : Bool) (at : layout ≡ layoutOf b) (is : lawful ≡ validSlot layout slot) where
-    lawful-is : validSlot (layoutOf b) slot ≡ lawful
-    lawful-is = sym (is ∙ ap (λ (l : Layout). validSlot l slot) at)
+  module _ (e : validate b ≡ 0) (layout : Layout) (valid : Bool) (at : layout ≡ layoutOf b) (is : valid ≡ validSlot layout slot) where
+    valid-is : validSlot (layoutOf b) slot ≡ valid
+    valid-is = sym (is ∙ ap (λ (l : Layout). validSlot l slot) at)
 
-    pub slot-refused : lawful ≡ false → firstRefusal (slotRefusals b slot) ≡ 5
-    slot-refused no-slot = one-more (blockRefusals b) 5 (block-none b e) (validSlot (layoutOf b) slot) (lawful-is ∙ no-slot)
+    pub slot-refused : valid ≡ false → firstRefusal (slotRefusals b slot) ≡ 5
+    slot-refused no-slot = one-more (blockRefusals b) 5 (block-none b e) (validSlot (layoutOf b) slot) (valid-is ∙ no-slot)
 
-    pub slot-accepted : lawful ≡ true → firstRefusal (slotRefusals b slot) ≡ 0
-    slot-accepted a-slot = no-more (blockRefusals b) 5 (block-none b e) (validSlot (layoutOf b) slot) (lawful-is ∙ a-slot)
+    pub slot-accepted : valid ≡ true → firstRefusal (slotRefusals b slot) ≡ 0
+    slot-accepted a-slot = no-more (blockRefusals b) 5 (block-none b e) (validSlot (layoutOf b) slot) (valid-is ∙ a-slot)
 
   pub earlier-refused : (answer : ℕ) → firstRefusal (slotRefusals b slot) ≡ answer → answer ≢ 0 → firstRefusal (usedSlotRefusals b slot) ≡ answer
   earlier-refused answer e n =

@@ -1,4 +1,4 @@
--- Laws of the trailer of a block of lawful size: where it stands, what it says, and what it says after writes.
+-- Laws of the trailer of a block of valid size: where it stands, what it says, and what it says after writes.
 use mathlib.Core.Path.{_≡_, refl, sym, ap, _∙_, subst}
 use mathlib.Core.Logic.{_≢_, _⊎_, inl, inr}
 use mathlib.Core.Bool.{Bool, true, false, _&&_, _||_, not}
@@ -35,7 +35,7 @@ pub either-join : (a b : Bool) → (a ≡ false → b ≡ true) → a || b ≡ t
 either-join true b h = refl
 either-join false b h = h refl
 
--- a block of lawful size
+-- a block of valid size
 pub record Sized (b : List ℕ) : Type 0 where
   pub whole : length b ≡ layoutOf b .cells * 32
   pub least : 4 ≤ layoutOf b .cells
@@ -107,7 +107,7 @@ unfolding layoutOf
 layout-same b b′ size same =
     rw size (ap (λ (e : ℕ). record { edition = e; cells = length b / 32 }) (same-word ((length b / 32 - 1) * 32) 28 32 b b′ same 28 (omega arith) (omega arith)))
 
--- the lawful slots
+-- the valid slots
 module _ (layout : Layout) where
   pub slot-low : (slot : ℕ) → validSlot layout slot ≡ true → 1 ≤ slot
   unfolding validSlot
@@ -182,10 +182,10 @@ module _ (layout : Layout) (b : List ℕ) where
   trailer-parts valid =
       let t = eight _ _ _ _ _ _ _ _ valid in
       record {
-        idle = λ slot lawful unused.
+        idle = λ slot is-slot unused.
             eqb-true (slotWord layout b slot) 0
             (either-other (inUse layout b slot) (eqb (slotWord layout b slot) 0)
-            (every-slot (idleIsZero layout b) (slots layout) slot (t .0) (slot-low layout slot lawful) (slot-high layout slot lawful)) unused);
+            (every-slot (idleIsZero layout b) (slots layout) slot (t .0) (slot-low layout slot is-slot) (slot-high layout slot is-slot)) unused);
         bits = ltb-true _ _ (t .1);
         gap = gap-byte (eqb-true _ 0 (t .2)) (eqb-true _ 0 (t .3)) (eqb-true _ 0 (t .4));
         size = eqb-true _ _ (t .5);
@@ -235,7 +235,7 @@ module _ (b b′ : List ℕ) (valid : validTrailer (layoutOf b) b ≡ true) (siz
         size = size;
         layout = layout-same b b′ size (λ k low high. same k (omega arith) high);
         valid = parts-trailer (layoutOf b) b′ (record {
-          idle = λ slot lawful unused. word-is slot lawful ∙ idle slot lawful (sym (use-is slot lawful) ∙ unused);
+          idle = λ slot is-slot unused. word-is slot is-slot ∙ idle slot is-slot (sym (use-is slot is-slot) ∙ unused);
           bits = bits;
           gap = λ k low high.
               let e : trailerAt (layoutOf b) + (16 + k) ≡ trailerAt (layoutOf b) + 16 + k = omega arith in
@@ -257,9 +257,9 @@ module _ (b b′ : List ℕ) (valid : validTrailer (layoutOf b) b ≡ true) (siz
       let p = trailer-parts (layoutOf b) b valid in
       let bits : getD b′ (bitsAt (layoutOf b)) 0 ≡ getD b (bitsAt (layoutOf b)) 0 = same 16 (omega arith) (omega arith) in
       trailer-says _ _ _ (λ k low high. same k (omega arith) high) (subst (λ (v : ℕ). v < 2 ^ slots (layoutOf b)) (sym bits) (p .bits)) refl
-      (λ slot lawful.
-      let inside : slot ≤ 3 = subst (λ (n : ℕ). slot ≤ n) (slots-three (layoutOf b)) (slot-high (layoutOf b) slot lawful) in
+      (λ slot is-slot.
+      let inside : slot ≤ 3 = subst (λ (n : ℕ). slot ≤ n) (slots-three (layoutOf b)) (slot-high (layoutOf b) slot is-slot) in
       subst (λ (at : ℕ). wordAt b′ at ≡ wordAt b at) (sym (slot-at (layoutOf b) slot))
-      (same-word (trailerAt (layoutOf b)) 4 32 b b′ same (4 * slot) (omega (arith, slot-low (layoutOf b) slot lawful)) (omega arith)))
-      (λ slot lawful. ap (λ (v : ℕ). eqb (v / slotBit slot % 2) 1) bits)
+      (same-word (trailerAt (layoutOf b)) 4 32 b b′ same (4 * slot) (omega (arith, slot-low (layoutOf b) slot is-slot)) (omega arith)))
+      (λ slot is-slot. ap (λ (v : ℕ). eqb (v / slotBit slot % 2) 1) bits)
       (p .idle)

@@ -32,7 +32,7 @@ module _ (b : List ℕ) where
   unfolding badSize
   size-other e h = rw (eq-eqb (length b % 32) 0 e, le-ltb (length b / 32) 4 h)
 
--- a block of lawful size fits the layout that it states
+-- a block of valid size fits the layout that it states
 pub fits : (b : List ℕ) → badSize b ≡ false → Fits (layoutOf b) (length b)
 fits b good = let s = sized b good in record { whole = s .whole; least = s .least; most = s .most }
 

@@ -54,12 +54,12 @@ module _ (b : List ℕ) (s : Sized b) (v : ℕ) where
       outside i (inr behind) = root-byte i (inr (omega arith))
 
 -- a slot lies between the root and the bits
-module _ (layout : Layout) (slot : ℕ) (lawful : validSlot layout slot ≡ true) where
+module _ (layout : Layout) (slot : ℕ) (is-slot : validSlot layout slot ≡ true) where
   pub slot-from : trailerAt layout + 4 ≤ slotAt layout slot
-  slot-from = omega (arith, slot-at layout slot, slot-low layout slot lawful)
+  slot-from = omega (arith, slot-at layout slot, slot-low layout slot is-slot)
 
   pub slot-to : slotAt layout slot + 4 ≤ bitsAt layout
-  slot-to = omega (arith, slot-at layout slot, slot-high layout slot lawful, slots-three layout)
+  slot-to = omega (arith, slot-at layout slot, slot-high layout slot is-slot, slots-three layout)
 
 -- two slots do not overlap
 pub slots-apart : (layout : Layout) (slot other : ℕ) → other ≢ slot → (slotAt layout other + 4 ≤ slotAt layout slot) ⊎ (slotAt layout slot + 4 ≤ slotAt layout other)
@@ -72,7 +72,7 @@ slots-apart layout slot other apart = elim (decLt other slot) [
 abbrev pub slotBlock : List ℕ → ℕ → ℕ → ℕ → List ℕ
 slotBlock b slot v w = withWord (set b (bitsAt (layoutOf b)) v) (slotAt (layoutOf b) slot) w
 
-module _ (b : List ℕ) (s : Sized b) (slot v w : ℕ) (lawful : validSlot (layoutOf b) slot ≡ true) where
+module _ (b : List ℕ) (s : Sized b) (slot v w : ℕ) (is-slot : validSlot (layoutOf b) slot ≡ true) where
   pub slot-block-length : length (slotBlock b slot v w) ≡ length b
   slot-block-length = length-withWord (set b (bitsAt (layoutOf b)) v) (slotAt (layoutOf b) slot) w ∙ length-set b (bitsAt (layoutOf b)) v
 
@@ -96,20 +96,20 @@ module _ (b : List ℕ) (s : Sized b) (slot v w : ℕ) (lawful : validSlot (layo
 
   slot-block-bits : getD (slotBlock b slot v w) (bitsAt (layoutOf b)) 0 ≡ v
   slot-block-bits =
-      byte-other (set b (bitsAt (layoutOf b)) v) (slotAt (layoutOf b) slot) w (bitsAt (layoutOf b)) (inr (slot-to (layoutOf b) slot lawful))
+      byte-other (set b (bitsAt (layoutOf b)) v) (slotAt (layoutOf b) slot) w (bitsAt (layoutOf b)) (inr (slot-to (layoutOf b) slot is-slot))
       ∙ getD-set-same b (bitsAt (layoutOf b)) v 0 (omega (arith, trailer-fits b s))
 
   slot-block-here : w < 4294967296 → wordAt (slotBlock b slot v w) (slotAt (layoutOf b) slot) ≡ w
   slot-block-here small =
       word-same (set b (bitsAt (layoutOf b)) v) (slotAt (layoutOf b) slot) w
-      (omega (arith, trailer-fits b s, slot-to (layoutOf b) slot lawful, length-set b (bitsAt (layoutOf b)) v)) small
+      (omega (arith, trailer-fits b s, slot-to (layoutOf b) slot is-slot, length-set b (bitsAt (layoutOf b)) v)) small
 
   pub slot-block-cells : (c : ℕ) → c ≢ layoutOf b .cells - 1 → memoryOf (slotBlock b slot v w) c ≡ memoryOf b c
   slot-block-cells = cell-outside (layoutOf b) b (slotBlock b slot v w) outside
     where
       outside : (i : ℕ) → (i < trailerAt (layoutOf b)) ⊎ (trailerAt (layoutOf b) + 32 ≤ i) → getD (slotBlock b slot v w) i 0 ≡ getD b i 0
-      outside i (inl before) = slot-block-byte i (omega arith) (inl (omega (arith, slot-from (layoutOf b) slot lawful)))
-      outside i (inr behind) = slot-block-byte i (omega arith) (inr (omega (arith, slot-to (layoutOf b) slot lawful)))
+      outside i (inl before) = slot-block-byte i (omega arith) (inl (omega (arith, slot-from (layoutOf b) slot is-slot)))
+      outside i (inr behind) = slot-block-byte i (omega arith) (inr (omega (arith, slot-to (layoutOf b) slot is-slot)))
 
   -- what the trailer then says, where the bits v are those of the slots with this one's use
   pub slot-written : (used : Bool) → validTrailer (layoutOf b) b ≡ true → w < 4294967296 → v < 2 ^ slots (layoutOf b)
@@ -119,17 +119,17 @@ module _ (b : List ℕ) (s : Sized b) (slot v w : ℕ) (lawful : validSlot (layo
   unfolding rootWord inUse
   slot-written used valid small fits uses idle =
       trailer-says b (slotBlock b slot v w) valid slot-block-length _ _ _
-      (λ k low high. slot-block-byte (trailerAt (layoutOf b) + k) (omega arith) (inr (omega (arith, slot-to (layoutOf b) slot lawful))))
+      (λ k low high. slot-block-byte (trailerAt (layoutOf b) + k) (omega arith) (inr (omega (arith, slot-to (layoutOf b) slot is-slot))))
       (subst (λ (x : ℕ). x < 2 ^ slots (layoutOf b)) (sym slot-block-bits) fits)
-      (slot-block-word (trailerAt (layoutOf b)) (omega arith) (inl (slot-from (layoutOf b) slot lawful)))
+      (slot-block-word (trailerAt (layoutOf b)) (omega arith) (inl (slot-from (layoutOf b) slot is-slot)))
       words
-      (λ other other-lawful. ap (λ (x : ℕ). eqb (x / slotBit other % 2) 1) slot-block-bits ∙ uses other other-lawful)
-      (λ other other-lawful unused. idle-replaced (eqb other slot) unused idle (trailer-parts (layoutOf b) b valid .idle other other-lawful))
+      (λ other other-is-slot. ap (λ (x : ℕ). eqb (x / slotBit other % 2) 1) slot-block-bits ∙ uses other other-is-slot)
+      (λ other other-is-slot unused. idle-replaced (eqb other slot) unused idle (trailer-parts (layoutOf b) b valid .idle other other-is-slot))
     where
       words : (other : ℕ) → validSlot (layoutOf b) other ≡ true → slotWord (layoutOf b) (slotBlock b slot v w) other ≡ replacedAt (slotWord (layoutOf b) b) slot w other
-      words other other-lawful = elim (ℕ-discrete other slot) [
+      words other other-is-slot = elim (ℕ-discrete other slot) [
         | yes e ↦ rw (eq-eqb other slot e) (ap (λ (x : ℕ). wordAt (slotBlock b slot v w) (slotAt (layoutOf b) x)) e ∙ slot-block-here small)
-        | no n ↦ rw (ne-eqb other slot n) (slot-block-word (slotAt (layoutOf b) other) (slot-to (layoutOf b) other other-lawful) (slots-apart (layoutOf b) slot other n))
+        | no n ↦ rw (ne-eqb other slot n) (slot-block-word (slotAt (layoutOf b) other) (slot-to (layoutOf b) other other-is-slot) (slots-apart (layoutOf b) slot other n))
       ]
 
 -- the bits v with bit i set, and with it cleared
@@ -159,7 +159,7 @@ by-slot {slot} {other} low low′ h = elim (ℕ-discrete other slot) [
 ]
 
 -- the bits of the slots with one in use, and with one not
-module _ (layout : Layout) (b : List ℕ) (slot : ℕ) (lawful : validSlot layout slot ≡ true) where
+module _ (layout : Layout) (b : List ℕ) (slot : ℕ) (is-slot : validSlot layout slot ≡ true) where
   pub with-bit-fits : getD b (bitsAt layout) 0 < 2 ^ slots layout → withBit layout b slot < 2 ^ slots layout
   unfolding withBit inUse
   with-bit-fits small = go (inUse layout b slot) refl
@@ -168,14 +168,14 @@ module _ (layout : Layout) (b : List ℕ) (slot : ℕ) (lawful : validSlot layou
           → pick t (getD b (bitsAt layout) 0) (getD b (bitsAt layout) 0 + slotBit slot) < 2 ^ slots layout
       go true on = small
       go false off =
-          bit-bound (getD b (bitsAt layout) 0) (slot - 1) (slots layout) (omega (arith, slot-low layout slot lawful, slot-high layout slot lawful)) small
+          bit-bound (getD b (bitsAt layout) 0) (slot - 1) (slots layout) (omega (arith, slot-low layout slot is-slot, slot-high layout slot is-slot)) small
           (eqb-false _ 1 off)
 
   pub with-bit-uses : (other : ℕ) → validSlot layout other ≡ true
       → eqb (withBit layout b slot / slotBit other % 2) 1 ≡ replacedAt (inUse layout b) slot true other
   unfolding withBit inUse
-  with-bit-uses other other-lawful =
-      by-slot (slot-low layout slot lawful) (slot-low layout other other-lawful)
+  with-bit-uses other other-is-slot =
+      by-slot (slot-low layout slot is-slot) (slot-low layout other other-is-slot)
       (set-uses (getD b (bitsAt layout) 0) (slot - 1) (inUse layout b slot) refl (other - 1))
 
   module _ (on : inUse layout b slot ≡ true) where
@@ -186,9 +186,9 @@ module _ (layout : Layout) (b : List ℕ) (slot : ℕ) (lawful : validSlot layou
     pub without-bit-uses : (other : ℕ) → validSlot layout other ≡ true
         → eqb (withoutBit layout b slot / slotBit other % 2) 1 ≡ replacedAt (inUse layout b) slot false other
     unfolding withoutBit inUse
-    without-bit-uses other other-lawful =
+    without-bit-uses other other-is-slot =
         rw on
-        (by-slot (slot-low layout slot lawful) (slot-low layout other other-lawful)
+        (by-slot (slot-low layout slot is-slot) (slot-low layout other other-is-slot)
         (cleared-uses (getD b (bitsAt layout) 0) (slot - 1) on (other - 1)))
 
 -- the bits are a byte

@@ -12,4 +12,4 @@ pub mod Answers
 pub mod Stamps
 pub mod Unstamped
 pub mod Committed
-pub mod Lawful
+pub mod Insertable

@@ -9,7 +9,7 @@ ghost use Rattle.store.specs.Answers.{insertedOutcome};
 ghost use Rattle.store.specs.Committed.{Inside, commitWrites};
 ghost use Rattle.store.specs.Fits.{Fits};
 ghost use Rattle.store.specs.Insert.{insert};
-ghost use Rattle.store.specs.Lawful.{Lawful};
+ghost use Rattle.store.specs.Insertable.{Insertable};
 use crate::answer::InsertAnswer;
 use crate::answer::Refusal;
 use crate::free_cells::free_cells;
@@ -50,15 +50,15 @@ fn commit(layout: Layout, block: &mut [u8], stage: &[u8; 6464], numbers: &[u16; 
     put_word(block, at, word);
 }
 
-// Inserts a lawful pair into a sound block, if enough cells are free.
-fn insert_lawful(
+// Inserts a valid pair into a sound block, if enough cells are free.
+fn insert_valid(
     layout: Layout,
     block: &mut [u8],
     stamps: &[u8; 2048],
     key: &[u8],
     value: u32,
 ) -> InsertAnswer
-    requires { ⌜ Lawful layout (now block) (now stamps) (now key) value ⌝ }
+    requires { ⌜ Insertable layout (now block) (now stamps) (now key) value ⌝ }
     ensures { λ r. ⌜ insert (now (block .entry)) (now (key .entry)) value ≡ insertedOutcome r (now (block .exit)) ⌝ }
 {
     let root = root_word(layout, block);
@@ -102,5 +102,5 @@ pub fn insert(block: &mut [u8], key: &[u8], value: u32) -> InsertAnswer
     if 2147483647 < value {
         return InsertAnswer::Refused(Refusal::BadValue);
     }
-    insert_lawful(layout, block, &stamps, key, value)
+    insert_valid(layout, block, &stamps, key, value)
 }

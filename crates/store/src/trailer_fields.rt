@@ -8,7 +8,7 @@ ghost use Rattle.store.specs.Fits.{Fits};
 use cells::word_at;
 use nodes::layout::Layout;
 
-// Whether a block is no lawful number of whole cells.
+// Whether a block is no valid number of whole cells.
 pub fn is_bad_size(block: &[u8]) -> bool
     ensures { λ r. ⌜ r ≡ badSize (now (block .entry)) ⌝ }
 {

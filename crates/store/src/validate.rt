@@ -61,7 +61,7 @@ pub fn is_sound(layout: Layout, block: &[u8], stamps: &mut [u8; 2048]) -> bool
     true
 }
 
-// Whether a block is lawful in size and sound.
+// Whether a block is valid in size and sound.
 pub fn validate(block: &[u8]) -> ChangeAnswer
     ensures { λ r. ⌜ validate (now (block .entry)) ≡ changeNumber r ⌝ }
 {

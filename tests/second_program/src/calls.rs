@@ -1,9 +1,9 @@
 //! Every call of the specification on a block, its answers tried in rising order of their numbers.
 
 use crate::coverage::Coverage;
-use crate::desk::{self, Question};
 use crate::encode::{entered, fresh_cells, Cases, Layer};
 use crate::model::{put_word, word_at, Book, CELL, LONGEST_KEY};
+use crate::verdict::{verdict, Question};
 use std::ops::Bound;
 
 /// A call with its arguments.
@@ -67,7 +67,7 @@ pub fn perform(block: &mut [u8], call: &Call, coverage: &mut Coverage) -> Outcom
 
 /// The answers that every call shares, and then the call's own.
 fn answer(block: &mut [u8], call: &Call, coverage: &mut Coverage) -> Outcome {
-    if !lawful_length(block.len()) {
+    if !valid_length(block.len()) {
         return Outcome::bare(1);
     }
     if let Call::Format = call {
@@ -89,17 +89,17 @@ fn answer(block: &mut [u8], call: &Call, coverage: &mut Coverage) -> Outcome {
         Call::Snapshot { slot } => snapshot(block, *slot),
         Call::Restore { slot } => restore(block, *slot),
         Call::Release { slot } => release(block, *slot),
-        Call::Verdict(question) => desk::verdict(&book, question),
+        Call::Verdict(question) => verdict(&book, question),
     }
 }
 
 /// Whether a block of this length holds from 4 to 2,048 whole cells.
-pub fn lawful_length(length: usize) -> bool {
+pub fn valid_length(length: usize) -> bool {
     length % CELL == 0 && (4..=2048).contains(&(length / CELL))
 }
 
-/// Whether a key that must name something has a lawful length.
-pub fn lawful_key(key: &[u8]) -> bool {
+/// Whether a key that must name something has a valid length.
+pub fn valid_key(key: &[u8]) -> bool {
     (1..=LONGEST_KEY).contains(&key.len())
 }
 
@@ -114,7 +114,7 @@ fn format(block: &mut [u8]) -> Outcome {
 
 /// Puts one pair into the root's table; the number is the count of cells taken.
 fn insert(block: &mut [u8], book: Book, key: &[u8], value: u32, coverage: &mut Coverage) -> Outcome {
-    if !lawful_key(key) {
+    if !valid_key(key) {
         return Outcome::bare(3);
     }
     if value > 0x7FFF_FFFF {
@@ -138,7 +138,7 @@ fn insert(block: &mut [u8], book: Book, key: &[u8], value: u32, coverage: &mut C
 
 /// The value of a key that the root shows.
 fn get(book: &Book, key: &[u8]) -> Outcome {
-    if !lawful_key(key) {
+    if !valid_key(key) {
         return Outcome::bare(3);
     }
     match book.root.table().get(key) {

@@ -1,6 +1,6 @@
 //! Sound blocks that no history makes: junk in every meaningless byte, odd shapes, shared and cross-read cells.
 
-use crate::calls::lawful_length;
+use crate::calls::valid_length;
 use crate::generate::Scene;
 use crate::model::{pointer, put_word, Book, CELL, LONGEST_KEY};
 use crate::random::Random;
@@ -73,7 +73,7 @@ pub fn junk(cells: usize, random: &mut Random) -> Vec<u8> {
     block
 }
 
-/// Writes a lawful trailer with a root and marks.
+/// Writes a valid trailer with a root and marks.
 pub fn write_trailer(block: &mut [u8], root: u32, marks: &[Option<u32>; 3]) {
     let cells = block.len() / CELL;
     let trailer = &mut block[(cells - 1) * CELL..];
@@ -120,7 +120,7 @@ pub fn order_word_block(order: u16, random: &mut Random) -> Vec<u8> {
     }
     block[CELL + 0x1E..CELL + 0x20].copy_from_slice(&order.to_be_bytes());
     write_trailer(&mut block, pointer(1, 0x1E), &[None; 3]);
-    assert!(lawful_length(block.len()));
+    assert!(valid_length(block.len()));
     block
 }
 
@@ -229,12 +229,12 @@ impl Planter<'_> {
         Some(self.keep(pointer(cell, 0x1C - run), run + child.height, vec![cell], &[child]))
     }
 
-    /// A sparse node in any lawful order, the characters past its last child left as they are.
+    /// A sparse node in any valid order, the characters past its last child left as they are.
     fn sparse(&mut self, depth: usize) -> Option<Planted> {
         let cell = self.take()?;
         let count = self.random.between(2, 6);
         let characters = self.characters(count, 0, 256);
-        let positions = lawful_positions(count, self.random);
+        let positions = valid_positions(count, self.random);
         let children: Vec<Planted> = (0..count).map(|_| self.child(depth + 1)).collect();
         let image = &mut self.block[cell * CELL..][..CELL];
         for position in 0..6 {
@@ -302,8 +302,8 @@ impl Planter<'_> {
     }
 }
 
-/// The digits of a lawful order word, lowest first: each once, 1 above 0.
-fn lawful_positions(count: usize, random: &mut Random) -> Vec<usize> {
+/// The digits of a valid order word, lowest first: each once, 1 above 0.
+fn valid_positions(count: usize, random: &mut Random) -> Vec<usize> {
     let mut positions: Vec<usize> = (0..count).collect();
     random.shuffle(&mut positions);
     let place_of = |digit: usize| positions.iter().position(|position| *position == digit).expect("each once");

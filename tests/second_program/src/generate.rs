@@ -1,8 +1,8 @@
-//! Seeded arguments: keys, values, dates, sheets and whole calls, lawful and not.
+//! Seeded arguments: keys, values, dates, sheets and whole calls, valid and not.
 
 use crate::calls::Call;
-use crate::desk::{celsius, days_in_month, Question, CELSIUS, FAHRENHEIT, GATE_ANY, GATE_AT_LEAST, GATE_BETWEEN};
 use crate::random::Random;
+use crate::verdict::{celsius, days_in_month, Question, CELSIUS, FAHRENHEIT, GATE_ANY, GATE_AT_LEAST, GATE_BETWEEN};
 
 /// How often each call comes, in the order of `Call::number`.
 pub type Weights = [usize; 9];
@@ -13,8 +13,8 @@ pub const HISTORY: Weights = [1, 3, 36, 10, 12, 9, 7, 5, 17];
 pub const FOREIGN: Weights = [0, 6, 36, 11, 15, 6, 6, 4, 16];
 /// Calls on a block that may be unsound.
 pub const HOSTILE: Weights = [1, 20, 16, 10, 10, 9, 9, 9, 16];
-/// Calls on a block of unlawful length.
-pub const UNLAWFUL: Weights = [1, 1, 1, 1, 1, 1, 1, 1, 1];
+/// Calls on a block of a bad length.
+pub const BAD_LENGTH: Weights = [1, 1, 1, 1, 1, 1, 1, 1, 1];
 
 /// The most keys that a scene remembers.
 const REMEMBERED: usize = 64;
@@ -55,8 +55,8 @@ impl Scene {
         self.keys.extend(keys.take(REMEMBERED));
     }
 
-    /// A key of lawful length: an earlier one, one near it, or a new one.
-    fn lawful_key(&mut self, random: &mut Random) -> Vec<u8> {
+    /// A key of valid length: an earlier one, one near it, or a new one.
+    fn valid_key(&mut self, random: &mut Random) -> Vec<u8> {
         let mut key = match self.keys.len() {
             0 => self.new_key(random),
             count => self.keys[random.below(count)].clone(),
@@ -88,10 +88,10 @@ impl Scene {
         (0..length).map(|_| random.pick(&self.alphabet)).collect()
     }
 
-    /// A key that now and then has an unlawful length.
+    /// A key that now and then has a bad length.
     fn key(&mut self, random: &mut Random) -> Vec<u8> {
         if !random.chance(5) {
-            return self.lawful_key(random);
+            return self.valid_key(random);
         }
         let length = random.pick(&[0, 0, 49, 50, 64, 256, 300, 0x1_0001]);
         (0..length).map(|_| random.pick(&self.alphabet)).collect()
@@ -165,23 +165,23 @@ impl Scene {
         }
     }
 
-    /// A question to the desk, with none, one or several faults.
+    /// A question for a verdict, with none, one or several faults.
     fn question(&mut self, random: &mut Random) -> Question {
-        let mut question = self.lawful_question(random);
+        let mut question = self.valid_question(random);
         while random.chance(36) {
             spoil_question(&mut question, random);
         }
         question
     }
 
-    /// A question with a lawful sheet, reading and day, its limits often met exactly.
-    fn lawful_question(&mut self, random: &mut Random) -> Question {
+    /// A question with a valid sheet, reading and day, its limits often met exactly.
+    fn valid_question(&mut self, random: &mut Random) -> Question {
         let [year, month, day] = self.date(random);
         let unit = random.pick(&[CELSIUS, FAHRENHEIT]);
-        let degrees = lawful_number(-100.0, 400.0, random);
-        let reading = celsius(unit, degrees).expect("a lawful reading");
+        let degrees = valid_number(-100.0, 400.0, random);
+        let reading = celsius(unit, degrees).expect("a valid reading");
         let limit = |random: &mut Random| match random.below(4) {
-            0 => lawful_number(-100.0, 400.0, random),
+            0 => valid_number(-100.0, 400.0, random),
             1 => reading,
             2 => reading.next_up().min(400.0),
             _ => reading.next_down().max(-100.0),
@@ -195,8 +195,8 @@ impl Scene {
         if kind != GATE_BETWEEN {
             high = strange_number(-100.0, 400.0, random);
         }
-        let section = lawful_number(0.5, 100.0, random);
-        let length = lawful_number(1.0, 10_000.0, random);
+        let section = valid_number(0.5, 100.0, random);
+        let length = valid_number(1.0, 10_000.0, random);
         let label = self.asked_key(random);
         Question { label, year, month, day, unit, degrees, kind, low, high, section, length }
     }
@@ -207,7 +207,7 @@ fn near(number: u32, random: &mut Random) -> u32 {
     number + random.pick(&[0, 0, 0, 1, 2]) - random.pick(&[0, 0, 0, 1])
 }
 
-/// A slot number, lawful nine times in ten.
+/// A slot number, valid nine times in ten.
 fn slot(random: &mut Random) -> u32 {
     match random.chance(90) {
         true => random.between(1, 3) as u32,
@@ -216,7 +216,7 @@ fn slot(random: &mut Random) -> u32 {
 }
 
 /// A number inside its bounds, often on one or beside it.
-fn lawful_number(low: f32, high: f32, random: &mut Random) -> f32 {
+fn valid_number(low: f32, high: f32, random: &mut Random) -> f32 {
     match random.below(12) {
         0 => low,
         1 => high,

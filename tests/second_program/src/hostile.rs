@@ -1,4 +1,4 @@
-//! Hostile and damaged blocks: sound ones with one rule broken, noise, unlawful lengths.
+//! Hostile and damaged blocks: sound ones with one rule broken, noise, bad lengths.
 
 use crate::foreign::{junk, write_trailer};
 use crate::model::{pointer, put_word, split_children, word_at, Book, Node, Place, CELL};
@@ -234,7 +234,7 @@ fn hostile_word(block: &[u8], offset: usize, spots: &[Spot], random: &mut Random
     }
 }
 
-/// Noise: every cell random, mostly under a lawful trailer whose root leads somewhere.
+/// Noise: every cell random, mostly under a valid trailer whose root leads somewhere.
 pub fn noise_block(cells: usize, random: &mut Random) -> Vec<u8> {
     let mut block = junk(cells, random);
     if random.chance(85) {
@@ -244,8 +244,8 @@ pub fn noise_block(cells: usize, random: &mut Random) -> Vec<u8> {
     block
 }
 
-/// A block of unlawful length: not a multiple of 32, under 4 cells, or over 2,048.
-pub fn unlawful_block(random: &mut Random) -> Vec<u8> {
+/// A block of a bad length: not a multiple of 32, under 4 cells, or over 2,048.
+pub fn bad_length_block(random: &mut Random) -> Vec<u8> {
     let cells = random.pick(&[0, 1, 2, 3, 3, 3]);
     let cells = if random.chance(6) { random.pick(&[2049, 2049, 2050, 4096]) } else { cells };
     let mut block = junk(cells, random);

@@ -1,6 +1,6 @@
 //! The ledger beside a history: it never looks into the block, and says what each call must answer.
 
-use crate::calls::{lawful_key, Call};
+use crate::calls::{valid_key, Call};
 use crate::model::{Book, Table};
 
 /// The present table, and for each slot a table or nothing.
@@ -42,7 +42,7 @@ impl Ledger {
 
     /// Entering: 3 or 4 by the arguments, 7 if that was fed, else the key has this value.
     fn insert(&mut self, key: &[u8], value: u32, no_room: bool) -> u8 {
-        if !lawful_key(key) {
+        if !valid_key(key) {
             return 3;
         }
         if value > i32::MAX as u32 {
@@ -55,9 +55,9 @@ impl Ledger {
         0
     }
 
-    /// A lawful slot's place in the list.
+    /// A valid slot's place in the list.
     fn place(slot: u32) -> Option<usize> {
-        [1, 2, 3].iter().position(|lawful| *lawful == slot)
+        [1, 2, 3].iter().position(|valid| *valid == slot)
     }
 
     /// Marking: the slot holds the present table.

@@ -5,7 +5,6 @@ mod calls;
 mod compare;
 mod coverage;
 mod crafted;
-mod desk;
 mod encode;
 mod foreign;
 mod generate;
@@ -21,6 +20,7 @@ mod schedule;
 #[cfg(alone)]
 mod self_test;
 mod sweeps;
+mod verdict;
 
 use compare::{Comparison, Other};
 use std::process::ExitCode;

@@ -68,7 +68,7 @@ pub fn pointer(cell: usize, kind: usize) -> u32 {
     (cell * CELL + kind) as u32
 }
 
-/// The order word of characters by position, or nothing where no lawful word lists them strictly rising.
+/// The order word of characters by position, or nothing where no valid word lists them strictly rising.
 pub fn order_word(characters: &[u8]) -> Option<u16> {
     let by_character: BTreeMap<u8, usize> = characters.iter().copied().zip(0..).collect();
     if by_character.len() < characters.len() || characters[0] > characters[1] {
@@ -78,7 +78,7 @@ pub fn order_word(characters: &[u8]) -> Option<u16> {
 }
 
 impl Book {
-    /// Decodes a block of lawful length, or names the first rule that it breaks.
+    /// Decodes a block of valid length, or names the first rule that it breaks.
     pub fn decode(block: &[u8]) -> Result<Book, Flaw> {
         let cells = block.len() / CELL;
         let trailer = (cells - 1) * CELL;

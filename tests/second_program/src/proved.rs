@@ -1,7 +1,7 @@
 //! The proved library behind its C functions; all use of them stands in this file.
 
 use crate::calls::{Call, Outcome};
-use crate::desk::Question;
+use crate::verdict::Question;
 
 extern "C" {
     fn exports_format(block: *mut u8, block_len: usize) -> u8;

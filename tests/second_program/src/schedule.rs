@@ -4,8 +4,8 @@ use crate::calls::Call;
 use crate::compare::Comparison;
 use crate::crafted::crafted_block;
 use crate::foreign::{foreign_block, junk};
-use crate::generate::{Scene, Weights, FOREIGN, HISTORY, HOSTILE, UNLAWFUL};
-use crate::hostile::{damage, noise_block, unlawful_block};
+use crate::generate::{Scene, Weights, BAD_LENGTH, FOREIGN, HISTORY, HOSTILE};
+use crate::hostile::{bad_length_block, damage, noise_block};
 use crate::ledger::Ledger;
 use crate::model::{Book, LONGEST_KEY};
 use crate::random::Random;
@@ -113,7 +113,7 @@ fn damaged(comparison: &mut Comparison, block: &[u8], scene: &mut Scene, random:
     }
 }
 
-/// A block that owes nothing to a sound one: crafted, noise, too deep, or of unlawful length.
+/// A block that owes nothing to a sound one: crafted, noise, too deep, or of a bad length.
 fn hostile(comparison: &mut Comparison, cells: usize, random: &mut Random) {
     let mut scene = Scene::drawn(random);
     let (mut block, weights) = match random.weighted(&[45, 8, 20, 27]) {
@@ -123,7 +123,7 @@ fn hostile(comparison: &mut Comparison, cells: usize, random: &mut Random) {
             let limit = LONGEST_KEY + random.pick(&[1, 1, 1, 2, 16]);
             (foreign_block(cells, limit, &scene, random), &HOSTILE)
         }
-        _ => (unlawful_block(random), &UNLAWFUL),
+        _ => (bad_length_block(random), &BAD_LENGTH),
     };
     calls(comparison, &mut block, &mut scene, weights, 5, random);
 }

@@ -2,11 +2,13 @@
 
 use crate::calls::{perform, Call, Outcome};
 use crate::coverage::Coverage;
-use crate::desk::{celsius, day_number, rounded, Question, CELSIUS, FAHRENHEIT, GATE_ANY, GATE_AT_LEAST, GATE_BETWEEN};
 use crate::foreign::order_word_block;
 use crate::generate::Scene;
 use crate::model::{put_word, word_at, Book, CELL};
 use crate::random::Random;
+use crate::verdict::{
+    celsius, day_number, rounded, Question, CELSIUS, FAHRENHEIT, GATE_ANY, GATE_AT_LEAST, GATE_BETWEEN,
+};
 
 /// Runs every case; the first that fails ends the program.
 pub fn run() {
@@ -95,7 +97,7 @@ fn samples_e_to_h() {
 }
 
 /// The rule of order words, digit by digit as the specification says it.
-fn lawful_order(order: u16) -> bool {
+fn valid_order(order: u16) -> bool {
     let mut digits = Vec::new();
     let mut rest = order;
     while rest > 0 {
@@ -108,19 +110,19 @@ fn lawful_order(order: u16) -> bool {
     (2..=6).contains(&digits.len()) && sorted.into_iter().eq(0..digits.len() as u16) && place(1) > place(0)
 }
 
-/// Sample I, and every other word: a sparse node whose characters rise as its word lists them is sound if it is lawful.
+/// Sample I, and every other word: a sparse node whose characters rise as its word lists them is sound if it is valid.
 fn sample_i_order_words() {
-    assert!([0x0006, 0x0026, 0x8129].into_iter().all(lawful_order));
-    assert!(![0x0001, 0x0007].into_iter().any(lawful_order));
-    assert_eq!((0..=u16::MAX).filter(|order| lawful_order(*order)).count(), 436);
+    assert!([0x0006, 0x0026, 0x8129].into_iter().all(valid_order));
+    assert!(![0x0001, 0x0007].into_iter().any(valid_order));
+    assert_eq!((0..=u16::MAX).filter(|order| valid_order(*order)).count(), 436);
     let mut random = Random::seeded(436);
     for order in 0..=u16::MAX {
         let sound = Book::decode(&order_word_block(order, &mut random)).is_ok();
-        assert_eq!(sound, lawful_order(order), "order word {order:04X}");
+        assert_eq!(sound, valid_order(order), "order word {order:04X}");
     }
 }
 
-/// A question about label 41 on a day, all else lawful.
+/// A question about label 41 on a day, all else valid.
 fn question(year: u32, month: u32, day: u32) -> Question {
     Question {
         label: vec![0x41],
@@ -167,7 +169,7 @@ fn seven_children() {
     assert_eq!(insert(&mut block, &[0x51], 6), (0, 6));
 }
 
-/// Blocks of 3 and 2,049 cells, and the last lengths that are lawful.
+/// Blocks of 3 and 2,049 cells, and the last lengths that are valid.
 fn lengths() {
     for (length, answer) in [(0, 1), (96, 1), (127, 1), (128, 0), (129, 1), (65_536, 0), (2049 * CELL, 1)] {
         let mut block = vec![0xAA; length];

@@ -2,13 +2,13 @@
 
 use crate::calls::Call;
 use crate::compare::Comparison;
-use crate::desk::{Question, CELSIUS, FAHRENHEIT, GATE_ANY, GATE_BETWEEN};
 use crate::foreign::{junk, order_word_block, write_trailer};
 use crate::generate::{Scene, FOREIGN};
 use crate::ledger::Ledger;
 use crate::model::{pointer, put_word, CELL};
 use crate::random::Random;
 use crate::schedule::{calls, remember_shown};
+use crate::verdict::{Question, CELSIUS, FAHRENHEIT, GATE_ANY, GATE_BETWEEN};
 
 /// All sweeps, one after the other.
 pub fn run(comparison: &mut Comparison) {

@@ -45,7 +45,7 @@ pub fn show_label(label: &[u8]) -> String {
     }
 }
 
-/// A whole number such as a slot or a count of cells; which of them are lawful is for the library to say.
+/// A whole number such as a slot or a count of cells; which of them are valid is for the library to say.
 pub fn whole_number(argument: &OsStr, name: &str) -> Result<u32, Trouble> {
     let given = text(argument)?;
     let refusal = || usage(format!("'{given}' is no {name}: write a whole number, as in 3"));

@@ -1,15 +1,15 @@
--- The answers 1 to 4 in their order, and else the insertion of a lawful pair.
+-- The answers 1 to 4 in their order, and else the insertion of a valid pair.
 use mathlib.Core.Path.{refl, sym, _∙_}
 use borrow.Author.Tests.{not-true, not-false}
 use Rattle.cells.specs.Bytes.{zeros}
 use Rattle.store.proofs.ValidateSteps.{layout-fits}
-use Rattle.store.proofs.InsertRefused.{insert-size, insert-unsound, insert-key, insert-value, insert-lawful}
+use Rattle.store.proofs.InsertRefused.{insert-size, insert-unsound, insert-key, insert-value, is-insertable}
 use borrow.Author.Needs.{needs}
 use Rattle.store.proofs.inserting.insert.Statement.{statement}
 use Rattle.store.proofs.inserting.insert.Tie as tie
 use Rattle.store.proofs.inserting.insert.Reads as reads
 use Rattle.store.proofs.inserting.insert.Lts as lts
-use Rattle.store.proofs.inserting.insert_lawful.Reads as insert-lawful-reads
+use Rattle.store.proofs.inserting.insert_valid.Reads as insert-valid-reads
 use Rattle.store.proofs.key.is_bad_key.Reads as is-bad-key-reads
 use Rattle.store.proofs.trailer_fields.is_bad_size.Reads as is-bad-size-reads
 use Rattle.store.proofs.trailer_fields.layout_of.Reads as layout-of-reads
@@ -66,11 +66,11 @@ returns-4 c =
     insert-value _ _ _ (sym (sized .before .is-bad-size .ensures) ∙ sized .if1 .left) _ _ _ (judged .before .before .before .layout-of .ensures) (judged .is-sound .ensures)
     (not-false _ (c .before .before .before .if2 .left)) (sym (c .before .before .is-bad-key .ensures) ∙ c .before .if3 .left) (c .if4 .taken)
 
-insert-lawful-requires : tie.Need-insert-lawful-requires
-insert-lawful-requires c κs =
+insert-valid-requires : tie.Need-insert-valid-requires
+insert-valid-requires c κs =
     let judged = c .before .before .before .before .before .before in
     let sized = judged .before .before .before .before .before in
-    insert-lawful _ _ _ (sym (sized .before .is-bad-size .ensures) ∙ sized .if1 .left) _ _ _ (judged .before .before .before .layout-of .ensures) (judged .is-sound .ensures)
+    is-insertable _ _ _ (sym (sized .before .is-bad-size .ensures) ∙ sized .if1 .left) _ _ _ (judged .before .before .before .layout-of .ensures) (judged .is-sound .ensures)
     (not-false _ (c .before .before .before .before .before .if2 .left)) (sym (c .before .before .before .before .is-bad-key .ensures) ∙ c .before .before .before .if3 .left) (c .before .before .if4 .left)
 
 same-length-5 : tie.Need-same-length-5
@@ -95,6 +95,6 @@ insert-spec =
     returns-3
     same-length-4
     returns-4
-    insert-lawful-requires
+    insert-valid-requires
     same-length-5
     returns-5)

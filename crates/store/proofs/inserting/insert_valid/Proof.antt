@@ -1,21 +1,21 @@
 -- The free cells listed, the build and the commit, as the definition of an insertion has them.
 use native.Mathlib.Omega.{arith}
-use Rattle.store.proofs.InsertCode.{lawful-fits, build-ready, made-most, insert-lacks, taken-inside, insert-takes}
+use Rattle.store.proofs.InsertCode.{insertable-fits, build-ready, made-most, insert-lacks, taken-inside, insert-takes}
 use borrow.Author.Needs.{needs}
-use Rattle.store.proofs.inserting.insert_lawful.Statement.{statement}
-use Rattle.store.proofs.inserting.insert_lawful.Tie as tie
-use Rattle.store.proofs.inserting.insert_lawful.Reads as reads
-use Rattle.store.proofs.inserting.insert_lawful.Lts as lts
+use Rattle.store.proofs.inserting.insert_valid.Statement.{statement}
+use Rattle.store.proofs.inserting.insert_valid.Tie as tie
+use Rattle.store.proofs.inserting.insert_valid.Reads as reads
+use Rattle.store.proofs.inserting.insert_valid.Lts as lts
 use Rattle.store.proofs.free_cells.free_cells.Reads as free-cells-reads
 use Rattle.store.proofs.inserting.commit.Reads as commit-reads
 use Rattle.insertion.proofs.build.build_from.Reads as build-from-reads
 use Rattle.store.proofs.trailer_fields.root_word.Reads as root-word-reads
 
 root-word-requires : tie.Need-root-word-requires
-root-word-requires c κs = lawful-fits _ _ _ _ _ (c .before .before .before .pre)
+root-word-requires c κs = insertable-fits _ _ _ _ _ (c .before .before .before .pre)
 
 free-cells-requires : tie.Need-free-cells-requires
-free-cells-requires c κs = let f = lawful-fits _ _ _ _ _ (c .before .before .before .before .before .pre) in (omega (arith, f .least), f .most)
+free-cells-requires c κs = let f = insertable-fits _ _ _ _ _ (c .before .before .before .before .before .pre) in (omega (arith, f .least), f .most)
 
 build-from-requires : tie.Need-build-from-requires
 build-from-requires c κs =
@@ -35,7 +35,7 @@ commit-requires : tie.Need-commit-requires
 commit-requires c κs =
     let listed = c .before .before .before .before .before .before .before .before in
     let built = c .before .before .before .before in (
-      lawful-fits _ _ _ _ _ (listed .before .before .before .before .before .before .pre),
+      insertable-fits _ _ _ _ _ (listed .before .before .before .before .before .before .pre),
       made-most _ _ _ _ _ (listed .before .before .before .before .before .before .pre) _ _ _ (listed .before .before .root-word .ensures) (listed .free-cells .ensures) _ _ (built .build-from .ensures),
       taken-inside _ _ _ _ _ (listed .before .before .before .before .before .before .pre) _ _ _ (listed .before .before .root-word .ensures) (listed .free-cells .ensures)
           _ _ (built .build-from .ensures) (c .before .before .before .if1 .left),
@@ -59,8 +59,8 @@ returns-2 c =
     insert-takes _ _ _ _ _ (listed .before .before .before .before .before .before .pre) _ _ _ (listed .before .before .root-word .ensures) (listed .free-cells .ensures)
     _ _ (c .before .before .before .before .before .before .before .build-from .ensures) (c .before .before .before .before .before .before .if1 .left) _ (c .before .before .commit .ensures)
 
-pub insert-lawful-spec : {M : Type 1} → statement M
-insert-lawful-spec =
+pub insert-valid-spec : {M : Type 1} → statement M
+insert-valid-spec =
     tie.close
     (tie.spec
     root-word-requires

@@ -10,7 +10,7 @@ use Rattle.store.specs.Refusal.{badNewKey, badValue}
 use Rattle.store.specs.Stamps.{Stamped}
 
 -- a pair that may be inserted into a sound block, of which the layout and the stamps of a validation are known
-pub record Lawful (layout : Layout) (block stamps key : List ℕ) (value : ℕ) : Type 0 where
+pub record Insertable (layout : Layout) (block stamps key : List ℕ) (value : ℕ) : Type 0 where
   pub stated : layout ≡ layoutOf block
   pub size : badSize block ≡ false
   pub valid : sound block ≡ true

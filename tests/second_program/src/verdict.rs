@@ -1,9 +1,9 @@
-//! The desk: calendar, reading, sheet and gate, and the verdict whether a cartridge may be dosed now.
+//! The verdict: calendar, reading, sheet and gate, and whether a cartridge may be dosed now.
 
-use crate::calls::{lawful_key, Outcome};
+use crate::calls::{valid_key, Outcome};
 use crate::model::Book;
 
-/// What the desk is asked, in the numbers of the call for firmware.
+/// What a verdict is asked on, in the numbers of the call for firmware.
 #[derive(Clone, Debug)]
 pub struct Question {
     pub label: Vec<u8>,
@@ -30,10 +30,10 @@ pub const GATE_BETWEEN: u32 = 3;
 
 /// The verdict of a sound block; a dose goes with answer 0 alone.
 pub fn verdict(book: &Book, question: &Question) -> Outcome {
-    if !lawful_key(&question.label) {
+    if !valid_key(&question.label) {
         return Outcome::bare(3);
     }
-    if !lawful_sheet(question) {
+    if !valid_sheet(question) {
         return Outcome::bare(8);
     }
     let Some(degrees) = celsius(question.unit, question.degrees) else {
@@ -69,19 +69,19 @@ fn inside(number: f32, low: f32, high: f32) -> bool {
     low <= number && number <= high
 }
 
-/// Whether the sheet is lawful; a limit that the gate does not use is not judged.
-fn lawful_sheet(question: &Question) -> bool {
-    let lawful_limit = |limit: f32| inside(limit, -100.0, 400.0);
-    let lawful_gate = match question.kind {
+/// Whether the sheet is valid; a limit that the gate does not use is not judged.
+fn valid_sheet(question: &Question) -> bool {
+    let valid_limit = |limit: f32| inside(limit, -100.0, 400.0);
+    let valid_gate = match question.kind {
         GATE_ANY => true,
-        GATE_AT_LEAST => lawful_limit(question.low),
-        GATE_BETWEEN => lawful_limit(question.low) && lawful_limit(question.high) && question.low <= question.high,
+        GATE_AT_LEAST => valid_limit(question.low),
+        GATE_BETWEEN => valid_limit(question.low) && valid_limit(question.high) && question.low <= question.high,
         _ => false,
     };
-    lawful_gate && inside(question.section, 0.5, 100.0) && inside(question.length, 1.0, 10_000.0)
+    valid_gate && inside(question.section, 0.5, 100.0) && inside(question.length, 1.0, 10_000.0)
 }
 
-/// A lawful reading in Celsius; it is judged in its own unit, before it is converted.
+/// A valid reading in Celsius; it is judged in its own unit, before it is converted.
 pub fn celsius(unit: u32, degrees: f32) -> Option<f32> {
     if !inside(degrees, -100.0, 400.0) {
         return None;
@@ -97,7 +97,7 @@ pub fn celsius(unit: u32, degrees: f32) -> Option<f32> {
     }
 }
 
-/// Whether a lawful gate lets a reading through.
+/// Whether a valid gate lets a reading through.
 fn gate_lets_through(question: &Question, degrees: f32) -> bool {
     match question.kind {
         GATE_AT_LEAST => degrees >= question.low,
