@@ -25,3 +25,4 @@ pub mod InsertRefused
 pub mod InsertCode
 pub mod FreeWrites
 pub mod WriteCalls
+pub mod Determined
