@@ -24,3 +24,5 @@ pub mod CommitSteps
 pub mod InsertRefused
 pub mod InsertCode
 pub mod FreeWrites
+pub mod WriteCalls
+pub mod Determined

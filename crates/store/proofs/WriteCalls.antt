@@ -1,0 +1,210 @@
+-- 01's table of answers for validation and for the calls that write a block: each answer is given exactly under its
+-- condition, a no leaves the block as it was, and what a yes leaves.
+use mathlib.Core.Path.{_≡_, refl, sym, ap, _∙_}
+use mathlib.Core.Logic.{_≢_}
+use mathlib.Core.Bool.{Bool, true, false, not}
+use mathlib.Core.List.{List, [], _∷_, _++_}
+use Prim.Native.Nat.{ℕ, _≤_, _<_}
+use lib.ListN.{length}
+use borrow.Author.Tests.{not-true, not-false}
+use Rattle.cells.specs.Bytes.{IsBytes}
+use Rattle.cells.specs.Memory.{memoryOf}
+use Rattle.cells.specs.Occurrences.{occurrences, all, distinct}
+use Rattle.trees.specs.Lookup.{Table, update}
+use Rattle.insertion.specs.Build.{cellsNeeded}
+use Rattle.store.specs.Trailer.{badSize, layoutOf, rootWord, validSlot, inUse}
+use Rattle.store.specs.Sound.{sound}
+use Rattle.store.specs.Free.{free}
+use Rattle.store.specs.Refusal.{Refusal, refusal, firstRefusal, Changed, changedBy, badNewKey, badValue}
+use Rattle.store.specs.Format.{formatRefusals, format}
+use Rattle.store.specs.Read.{validate, shown}
+use Rattle.store.specs.Insert.{Inserted, insert}
+use Rattle.store.specs.Snapshots.{slotRefusals, snapshotBlock, restoreBlock, releaseBlock, snapshot, restore, release}
+use Rattle.store.proofs.Refusals.{Exactly, Answers, answers, done-block, refused-block, block-answers, format-answers, insert-answers}
+use Rattle.store.proofs.ReadCalls.{Asked, asked, refusals-none, exactly}
+use Rattle.store.proofs.TrailerWrites.{replacedAt}
+use Rattle.store.proofs.After.{After, slotShown}
+use Rattle.store.proofs.Format.{Fresh, freshOf, format-law}
+use Rattle.store.proofs.InsertCall.{Laid, insert-number, insert-zero, insert-seven, insert-refused, insert-refused-count, insert-after, insert-laid}
+use Rattle.store.proofs.SnapshotCalls.{snapshot-law, restore-law, release-law}
+
+-- a block that passes validation: neither 1 nor 2 applies
+abbrev pub Passes : List ℕ → Type 0
+Passes b = (badSize b ≡ false) × (sound b ≡ true)
+
+-- 01's table for validation
+pub record ValidateTable (b : List ℕ) (answer : ℕ) : Type 0 where
+  pub bad-size : Exactly answer 1 (badSize b ≡ true)
+  pub unsound : Exactly answer 2 ((badSize b ≡ false) × (sound b ≡ false))
+  pub done : Exactly answer 0 (Passes b)
+
+pub validate-table : (b : List ℕ) → ValidateTable b (validate b)
+unfolding validate
+validate-table b =
+    let x = block-answers b in
+    record {
+      bad-size = exactly refl (x .0) (λ c. c .1) (λ d. (tt, d));
+      unsound = exactly refl (x .1 .0) (λ c. (c .0 .0, not-true _ (c .1))) (λ d. ((d .0, tt), ap not (d .1)));
+      done = exactly refl (x .1 .1) (λ c. (c .0, not-false _ (c .1 .0))) (λ d. (d .0, (ap not (d .1), tt)));
+    }
+
+-- 01's table for a fresh block: this does not ask whether the old one is sound
+pub record FormatTable (b : List ℕ) (r : Changed) : Type 0 where
+  pub bad-size : Exactly (r .answer) 1 (badSize b ≡ true)
+  pub done : Exactly (r .answer) 0 (badSize b ≡ false)
+  pub refused : r .answer ≢ 0 → r .block ≡ b
+  -- all zero but for n and the edition
+  pub left : r .answer ≡ 0 → r .block ≡ freshOf b
+  -- which is sound, shows nothing and has no slot in use
+  pub fresh : r .answer ≡ 0 → Fresh b (r .block)
+
+pub format-table : (b : List ℕ) → FormatTable b (format b)
+unfolding format
+format-table b =
+    record {
+      bad-size = exactly refl (format-answers b .0) (λ c. c .1) (λ d. (tt, d));
+      done = exactly refl (format-answers b .1) (λ c. c .0) (λ d. (d, tt));
+      refused = refused-block (formatRefusals b) b (freshOf b);
+      left = done-block (formatRefusals b) b (freshOf b);
+      fresh = format-law b;
+    }
+
+-- the cells that an insertion takes, and those that it may
+abbrev pub needed : List ℕ → List ℕ → ℕ
+needed b key = cellsNeeded (layoutOf b) (memoryOf b) (rootWord (layoutOf b) b) key
+
+abbrev pub room : List ℕ → ℕ
+room b = length (free (layoutOf b) b)
+
+-- 01's table for an insertion
+pub record InsertTable (b key : List ℕ) (value : ℕ) (r : Inserted) : Type 0 where
+  pub bad-size : Exactly (r .answer) 1 (badSize b ≡ true)
+  pub unsound : Exactly (r .answer) 2 ((badSize b ≡ false) × (sound b ≡ false))
+  pub bad-key : Exactly (r .answer) 3 (Passes b × (badNewKey key ≡ true))
+  pub bad-value : Exactly (r .answer) 4 (Asked b (badNewKey key) × (badValue value ≡ true))
+  pub no-room : Exactly (r .answer) 7 (Asked b (badNewKey key) × ((badValue value ≡ false) × (room b < needed b key)))
+  pub done : Exactly (r .answer) 0 (Asked b (badNewKey key) × ((badValue value ≡ false) × (needed b key ≤ room b)))
+  pub refused : r .answer ≢ 0 → (r .count ≡ 0) × (r .block ≡ b)
+  -- the block left shows the old table with the value at the key, and each slot what it did
+  pub after : IsBytes b → IsBytes key → r .answer ≡ 0 → After b (r .block) (update (shown b) key value) (inUse (layoutOf b) b) (slotShown b)
+  -- every byte of it, and the count: that of the cells newly reached
+  pub laid : IsBytes b → IsBytes key → r .answer ≡ 0 → Laid b key value (r .count) (r .block)
+
+pub insert-table : (b key : List ℕ) (value : ℕ) → InsertTable b key value (insert b key value)
+insert-table b key value =
+    let n = insert-number b key value in
+    let x = insert-answers b key value in
+    record {
+      bad-size = exactly n (x .0) (λ c. c .1) (λ d. (tt, d));
+      unsound = exactly n (x .1 .0) (λ c. (c .0 .0, not-true _ (c .1))) (λ d. ((d .0, tt), ap not (d .1)));
+      bad-key = exactly n (x .1 .1 .0) (λ c. ((c .0 .0, not-false _ (c .0 .1 .0)), c .1)) (λ d. ((d .0 .0, (ap not (d .0 .1), tt)), d .1));
+      bad-value = exactly n (x .1 .1 .1 .0) (λ c. (asked (c .0), c .1)) (λ d. (refusals-none (d .0) tt, d .1));
+      no-room = exactly refl (insert-seven b key value)
+          (λ c. (record { size = c .size; valid = c .valid; key = c .good-key }, (c .good-value, c .more)))
+          (λ d. record { size = d .0 .size; valid = d .0 .valid; good-key = d .0 .key; good-value = d .1 .0; more = d .1 .1 });
+      done = exactly refl (insert-zero b key value)
+          (λ c. (record { size = c .size; valid = c .valid; key = c .good-key }, (c .good-value, c .enough)))
+          (λ d. record { size = d .0 .size; valid = d .0 .valid; good-key = d .0 .key; good-value = d .1 .0; enough = d .1 .1 });
+      refused = λ no. (insert-refused-count b key value no, insert-refused b key value no);
+      after = insert-after b key value;
+      laid = insert-laid b key value;
+    }
+
+-- the parts in which the calls on a slot differ: whether 6 applies, the block left where the call is done, what that shows,
+-- which of its slots are in use and what these show
+pub record SlotCall : Type 0 where
+  pub barred : Bool
+  pub left : List ℕ
+  pub present : Table
+  pub used : ℕ → Bool
+  pub held : ℕ → Table
+
+abbrev pub snapshotCall : List ℕ → ℕ → SlotCall
+snapshotCall b slot =
+    record {
+      barred = false;
+      left = snapshotBlock (layoutOf b) b slot;
+      present = shown b;
+      used = replacedAt (inUse (layoutOf b) b) slot true;
+      held = replacedAt (slotShown b) slot (shown b);
+    }
+
+abbrev pub restoreCall : List ℕ → ℕ → SlotCall
+restoreCall b slot =
+    record {
+      barred = not (inUse (layoutOf b) b slot);
+      left = restoreBlock (layoutOf b) b slot;
+      present = slotShown b slot;
+      used = inUse (layoutOf b) b;
+      held = slotShown b;
+    }
+
+abbrev pub releaseCall : List ℕ → ℕ → SlotCall
+releaseCall b slot =
+    record {
+      barred = not (inUse (layoutOf b) b slot);
+      left = releaseBlock (layoutOf b) b slot;
+      present = shown b;
+      used = replacedAt (inUse (layoutOf b) b) slot false;
+      held = slotShown b;
+    }
+
+-- 01's table for a call on a slot
+pub record SlotTable (b : List ℕ) (slot : ℕ) (call : SlotCall) (r : Changed) : Type 0 where
+  pub bad-size : Exactly (r .answer) 1 (badSize b ≡ true)
+  pub unsound : Exactly (r .answer) 2 ((badSize b ≡ false) × (sound b ≡ false))
+  pub bad-slot : Exactly (r .answer) 5 (Passes b × (validSlot (layoutOf b) slot ≡ false))
+  pub not-in-use : Exactly (r .answer) 6 (Passes b × ((validSlot (layoutOf b) slot ≡ true) × (call .barred ≡ true)))
+  pub done : Exactly (r .answer) 0 (Passes b × ((validSlot (layoutOf b) slot ≡ true) × (call .barred ≡ false)))
+  pub refused : r .answer ≢ 0 → r .block ≡ b
+  -- every byte of the block left, and what it shows
+  pub left : r .answer ≡ 0 → r .block ≡ call .left
+  pub after : IsBytes b → r .answer ≡ 0 → After b (r .block) (call .present) (call .used) (call .held)
+
+module _ (b : List ℕ) (slot : ℕ) where
+  -- the refusals of a call on a slot, which may be barred
+  abbrev barredRefusals : Bool → List Refusal
+  barredRefusals barred = slotRefusals b slot ++ (refusal 6 barred ∷ [])
+
+  barred-answers : (barred : Bool) → Answers (barredRefusals barred)
+  unfolding distinct all occurrences
+  barred-answers barred = answers (barredRefusals barred) refl
+
+  -- the table of any call that is refused in this order
+  slot-table : (call : SlotCall) (r : Changed) → r ≡ changedBy (barredRefusals (call .barred)) b (call .left)
+      → (IsBytes b → r .answer ≡ 0 → After b (r .block) (call .present) (call .used) (call .held))
+      → SlotTable b slot call r
+  slot-table call r is law =
+      let rs = barredRefusals (call .barred) in
+      let n : r .answer ≡ firstRefusal rs = ap (λ (c : Changed). c .answer) is in
+      let new : r .block ≡ changedBy rs b (call .left) .block = ap (λ (c : Changed). c .block) is in
+      let x = barred-answers (call .barred) in
+      record {
+        bad-size = exactly n (x .0) (λ c. c .1) (λ d. (tt, d));
+        unsound = exactly n (x .1 .0) (λ c. (c .0 .0, not-true _ (c .1))) (λ d. ((d .0, tt), ap not (d .1)));
+        bad-slot = exactly n (x .1 .1 .0) (λ c. ((c .0 .0, not-false _ (c .0 .1 .0)), not-true _ (c .1)))
+            (λ d. ((d .0 .0, (ap not (d .0 .1), tt)), ap not (d .1)));
+        not-in-use = exactly n (x .1 .1 .1 .0) (λ c. ((c .0 .0, not-false _ (c .0 .1 .0)), (not-false _ (c .0 .1 .1 .0), c .1)))
+            (λ d. ((d .0 .0, (ap not (d .0 .1), (ap not (d .1 .0), tt))), d .1 .1));
+        done = exactly n (x .1 .1 .1 .1) (λ c. ((c .0, not-false _ (c .1 .0)), (not-false _ (c .1 .1 .0), c .1 .1 .1 .0)))
+            (λ d. (d .0 .0, (ap not (d .0 .1), (ap not (d .1 .0), (d .1 .1, tt)))));
+        refused = λ no. new ∙ refused-block rs b (call .left) (λ e. no (n ∙ e));
+        left = λ yes. new ∙ done-block rs b (call .left) (sym n ∙ yes);
+        after = law;
+      }
+
+  -- a snapshot never is
+  snapshot-never : snapshot b slot ≡ changedBy (barredRefusals false) b (snapshotBlock (layoutOf b) b slot)
+  unfolding snapshot firstRefusal
+  snapshot-never = refl
+
+  pub snapshot-table : SlotTable b slot (snapshotCall b slot) (snapshot b slot)
+  snapshot-table = slot-table (snapshotCall b slot) (snapshot b slot) snapshot-never (snapshot-law b slot)
+
+  pub restore-table : SlotTable b slot (restoreCall b slot) (restore b slot)
+  unfolding restore
+  restore-table = slot-table (restoreCall b slot) (restore b slot) refl (restore-law b slot)
+
+  pub release-table : SlotTable b slot (releaseCall b slot) (release b slot)
+  unfolding release
+  release-table = slot-table (releaseCall b slot) (release b slot) refl (release-law b slot)
