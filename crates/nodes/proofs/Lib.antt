@@ -16,3 +16,5 @@ pub mod StepRead
 pub mod FirstStep
 pub mod SparseLeast
 pub mod LeastWays
+pub mod Meaning
+pub mod MeantNode
