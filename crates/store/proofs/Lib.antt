@@ -26,3 +26,4 @@ pub mod InsertCode
 pub mod FreeWrites
 pub mod WriteCalls
 pub mod Determined
+pub mod MeantBlock
