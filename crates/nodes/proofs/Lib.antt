@@ -14,5 +14,6 @@ pub mod StepWays
 pub mod ValueWays
 pub mod StepRead
 pub mod FirstStep
+pub mod SparseChildren
 pub mod SparseLeast
 pub mod LeastWays

@@ -15,7 +15,7 @@ use Rattle.cells.specs.Choice.{pick}
 use Rattle.cells.specs.Occurrences.{occurrences}
 use Rattle.order_words.specs.Digits.{digits}
 use Rattle.order_words.specs.Order.{eachOnce, place, validDigits}
-use Rattle.order_words.proofs.Inserted.{occurrences-none, occurrences-cons}
+use Rattle.cells.proofs.Occurrences.{occurrences-none, occurrences-cons}
 use Rattle.order_words.proofs.Valid.{place-here, place-later}
 use Rattle.order_words.proofs.Coding.{digits-zero, digits-more, length-digits}
 
