@@ -9,7 +9,6 @@ use lib.Dec.{T, leb, ltb, eqb}
 use borrow.Author.Tests.{lt-ltb, le-ltb, le-leb, lt-leb, eq-eqb, ne-eqb, leb-true, ltb-true, ltb-false}
 use Rattle.calendar.specs.declared.Year.{Year}
 use Rattle.calendar.specs.declared.Month.{Month}
-use Rattle.calendar.specs.declared.Day.{Day}
 use Rattle.calendar.specs.declared.Date.{Date}
 use Rattle.calendar.specs.Date.{februaryDays, daysOfMonth, isDate, packedDate, unpackedDate, isAfter, goodOn}
 

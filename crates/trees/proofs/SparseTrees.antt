@@ -15,7 +15,7 @@ use Rattle.cells.proofs.Occurrences.{occurrences-at, occurrences-index}
 use Rattle.nodes.specs.Layout.{Layout}
 use Rattle.nodes.specs.Pointer.{pointer}
 use Rattle.nodes.specs.Pointer.Pointer.{sparse}
-use Rattle.nodes.specs.Sparse.{sparseWord, sparseCharacter, sparseOrder, sparseDigits, sparseCount, validSparse, sparseChild}
+use Rattle.nodes.specs.Sparse.{sparseWord, sparseCharacter, sparseDigits, sparseCount, validSparse, sparseChild}
 use Rattle.nodes.specs.Split.{gather}
 use Rattle.nodes.specs.Node.{Node, sparseNode, plain}
 use Rattle.nodes.proofs.Frame.{sparse-join}
