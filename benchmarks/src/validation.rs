@@ -2,10 +2,10 @@
 
 use crate::plain::{cell_of, is_leaf, kind_of, word_at, CELL, LONGEST_KEY, NO_KIND, PREFIX, SPARSE, SPLIT};
 
-/// For each cell one bit for each root (the root's own, then the marks') whose tree has entered it.
+/// For each cell one bit for each root (the root's own, then the snapshots') whose tree has entered it.
 pub type Reached = [u8; 2048];
 
-/// Whether the block is sound; the cells of a sound block that its roots reach are marked, all zero before.
+/// Whether the block is sound; the cells of a sound block that its roots reach are flagged, all zero before.
 pub fn is_sound(block: &[u8], reached: &mut Reached) -> bool {
     let trailer = &block[block.len() - CELL..];
     if !valid_trailer(trailer, block.len() / CELL) {

@@ -1,6 +1,6 @@
 -- Laws of dates: what a valid date keeps to, and that its one number says the same as its three parts. Assumes nothing.
 use Prim.Native.Nat.{ℕ, _+_, _*_, _/_, _%_, _<_, _≤_}
-use mathlib.Core.Bool.{cond, Bool, true, false, not, _&&_, _||_}
+use mathlib.Core.Bool.{cond, Bool, true, false, not, _&&_, _||_, and-false, or-false}
 use mathlib.Core.Logic.{_≢_, _⊎_, inl, inr}
 use mathlib.Core.Path.{_≡_, refl, sym, ap, _∙_, subst}
 use native.Mathlib.Decide.{decLt, decLe, ℕ-discrete}
@@ -9,7 +9,6 @@ use lib.Dec.{T, leb, ltb, eqb}
 use borrow.Author.Tests.{lt-ltb, le-ltb, le-leb, lt-leb, eq-eqb, ne-eqb, leb-true, ltb-true, ltb-false}
 use Rattle.calendar.specs.declared.Year.{Year}
 use Rattle.calendar.specs.declared.Month.{Month}
-use Rattle.calendar.specs.declared.Day.{Day}
 use Rattle.calendar.specs.declared.Date.{Date}
 use Rattle.calendar.specs.Date.{februaryDays, daysOfMonth, isDate, packedDate, unpackedDate, isAfter, goodOn}
 
@@ -26,16 +25,6 @@ first-true false b e = never e
 second-true : (a b : Bool) → (a && b) ≡ true → b ≡ true
 second-true true b e = e
 second-true false b e = never e
-
--- A conjunction with a false second part is false.
-and-false : (a : Bool) → (a && false) ≡ false
-and-false true = refl
-and-false false = refl
-
--- A disjunction with a false second part is its first.
-or-false : (a : Bool) → (a || false) ≡ a
-or-false true = refl
-or-false false = refl
 
 -- A choice keeps a bound that both sides keep.
 cond-within : (t : Bool) {a b n : ℕ} → a ≤ n → b ≤ n → cond t a b ≤ n

@@ -1,7 +1,7 @@
 -- Laws of choosing, of steps that may have no result, and of tests.
 use mathlib.Core.Path.{_≡_, refl, subst}
 use mathlib.Core.Bool.{Bool, true, false, _&&_, not}
-use mathlib.Core.List.{List, _∷_}
+use mathlib.Core.List.{List, [], _∷_}
 use mathlib.Core.Option.{Option, none, some}
 use Prim.Native.Nat.{ℕ}
 use native.Mathlib.Omega.{arith}
@@ -51,7 +51,17 @@ pub both-right : (a b : Bool) → a && b ≡ true → b ≡ true
 both-right true b e = e
 both-right false b e = absurd-false e
 
+pub each-of-four : (a b c d : Bool) → a && b && c && d ≡ true → (a ≡ true) × (b ≡ true) × (c ≡ true) × (d ≡ true)
+each-of-four a b c d e =
+    let three = both-left (a && b && c) d e in
+    let two = both-left (a && b) c three in
+    (both-left a b two, both-right a b two, both-right (a && b) c three, both-right (a && b && c) d e)
+
 -- a test of every element is one of the first and of the others
+pub all-none : {A : Type 0} (test : A → Bool) → all test [] ≡ true
+unfolding all
+all-none test = refl
+
 pub all-join : {A : Type 0} (test : A → Bool) (x : A) (xs : List A) → test x ≡ true → all test xs ≡ true → all test (x ∷ xs) ≡ true
 unfolding all
 all-join test x xs p q = both p q
@@ -63,3 +73,10 @@ all-head test x xs e = both-left (test x) (all test xs) e
 pub all-tail : {A : Type 0} (test : A → Bool) (x : A) (xs : List A) → all test (x ∷ xs) ≡ true → all test xs ≡ true
 unfolding all
 all-tail test x xs e = both-right (test x) (all test xs) e
+
+-- a weaker test holds of every element too
+pub all-weaker : {A : Type 0} (strong weak : A → Bool) (xs : List A) → ((x : A) → strong x ≡ true → weak x ≡ true)
+    → all strong xs ≡ true → all weak xs ≡ true
+all-weaker strong weak [] more holds = all-none weak
+all-weaker strong weak (x ∷ xs) more holds =
+    all-join weak x xs (more x (all-head strong x xs holds)) (all-weaker strong weak xs more (all-tail strong x xs holds))

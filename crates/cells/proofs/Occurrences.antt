@@ -3,11 +3,12 @@ use mathlib.Core.Path.{_≡_, refl, sym, ap, _∙_}
 use mathlib.Core.Logic.{_≢_}
 use mathlib.Core.Bool.{Bool, true}
 use mathlib.Core.List.{List, [], _∷_, _++_}
-use Prim.Native.Nat.{ℕ, _+_, _≤_}
+use Prim.Native.Nat.{ℕ, zero, suc, _+_, _≤_, _<_}
 use native.Mathlib.Decide.{decLe, ℕ-discrete}
 use native.Mathlib.Nat.{add-assoc, zero-add}
 use native.Mathlib.Omega.{arith}
 use lib.Dec.{leb, eqb}
+use lib.ListN.{length, getD}
 use borrow.Author.Tests.{eq-eqb, ne-eqb, le-leb, leb-true}
 use Rattle.cells.specs.Choice.{pick}
 use Rattle.cells.specs.Memory.{Memory}
@@ -22,6 +23,10 @@ occurrences-append c (x ∷ xs) ys =
     ap (λ (k : ℕ). pick (eqb c x) 1 0 + k) (occurrences-append c xs ys) ∙ sym (add-assoc (pick (eqb c x) 1 0) _ _)
 
 -- one more element counts one where it is the number, and else nothing
+pub occurrences-cons : (c x : ℕ) (xs : List ℕ) → occurrences c (x ∷ xs) ≡ pick (eqb c x) 1 0 + occurrences c xs
+unfolding occurrences
+occurrences-cons c x xs = refl
+
 pub occurrences-same : (c x : ℕ) (xs : List ℕ) → c ≡ x → occurrences c (x ∷ xs) ≡ 1 + occurrences c xs
 unfolding occurrences
 occurrences-same c x xs e = rw (eq-eqb c x e)
@@ -48,6 +53,22 @@ pub occurrences-one : (c x : ℕ) → 1 ≤ occurrences c (x ∷ []) → c ≡ x
 occurrences-one c x h = elim (ℕ-discrete c x) [
   | yes e ↦ e
   | no n ↦ absurd (omega (arith, occurrences-cons-other c x [] n, occurrences-none c))
+]
+
+-- what stands at an index stands in the list, and what stands in it stands at an index
+pub occurrences-at : (xs : List ℕ) (i past : ℕ) → i < length xs → 1 ≤ occurrences (getD xs i past) xs
+occurrences-at [] i past inside = absurd (omega arith)
+occurrences-at (x ∷ xs) zero past inside = occurrences-here x xs
+occurrences-at (x ∷ xs) (suc i) past inside =
+    omega (arith, occurrences-at xs i past (omega arith), occurrences-later (getD xs i past) x xs)
+
+pub occurrences-index : (c : ℕ) (xs : List ℕ) → 1 ≤ occurrences c xs → (i : ℕ) × (i < length xs) × (getD xs i 0 ≡ c)
+occurrences-index c [] h = absurd (omega (arith, occurrences-none c))
+occurrences-index c (x ∷ xs) h = elim (ℕ-discrete c x) [
+  | yes same ↦ (0, omega arith, sym same)
+  | no other ↦
+      let p = occurrences-index c xs (omega (arith, occurrences-cons-other c x xs other)) in
+      (suc (p .0), omega (arith, p .1), p .2)
 ]
 
 -- a test of every element is a test of every number that stands in the list

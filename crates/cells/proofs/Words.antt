@@ -28,7 +28,10 @@ padded-byte [] n i = zeros-byte n i
 padded-byte (x ∷ l) n zero = refl
 padded-byte (x ∷ l) n (suc i) = padded-byte l n i
 
--- a list of bytes with a byte set, or cut, or joined to another, is one again
+-- a list of bytes without its first, with a byte set, or cut, or joined to another, is one again
+pub bytes-tail : (x : ℕ) (l : List ℕ) → IsBytes (x ∷ l) → IsBytes l
+bytes-tail x l h = record { below = λ i. h .below (suc i) }
+
 pub set-bytes : (l : List ℕ) (i v : ℕ) → IsBytes l → v < 256 → IsBytes (set l i v)
 set-bytes l i v h b = record { below = go }
   where
@@ -196,7 +199,7 @@ module _ (s l : List ℕ) (from to : ℕ) (h : IsBytes s) (fits : to + 4 ≤ len
   word-copied (suc (suc (suc (suc r)))) b = absurd (omega arith)
 
 -- a remainder by 256 is a byte
-remainder-byte : (v : ℕ) → v % 256 < 256
+pub remainder-byte : (v : ℕ) → v % 256 < 256
 remainder-byte v = omega arith
 
 -- a list of bytes with a word written is one again

@@ -3,7 +3,7 @@ use mathlib.Core.Path.{_≡_, refl}
 use mathlib.Core.Bool.{Bool, true, false}
 use mathlib.Core.List.{List, [], _∷_, map}
 use Prim.Native.Nat.{_+_, _-_}
-use lib.IntN.{pos, negℤ}
+use lib.IntN.{pos}
 use lib.Ieee as Ieee
 use lib.Ieee.{Float, binary32, nan, inf, fin}
 use Rattle.dosing.specs.Temperature.{whole, _⊘_, scaleLow, scaleHigh, onScale, toCelsius, celsius, validReading, validGate, inGate}

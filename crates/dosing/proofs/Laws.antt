@@ -7,6 +7,7 @@ use borrow.Author.Tests.{eq-eqb}
 use lib.Dec.{eqb}
 use lib.Ieee as Ieee
 use lib.Ieee.{Float, nan, inf, fin, up, down}
+use Rattle.cells.proofs.Choice.{both-left, both-right}
 use Rattle.dosing.specs.Temperature.{onScale, validReading, validGate, inGate}
 use Rattle.dosing.specs.Sheet.{sheetOf, validSection, validLength, validSheet}
 use Rattle.dosing.specs.declared.temperature.Reading.the-variants.{Celsius, Fahrenheit}
@@ -90,14 +91,6 @@ nan-off-scale = simp nothing-below-nan
 pub on-scale-known : (degrees : Float) → onScale degrees ≡ true → degrees ≢ nan
 on-scale-known degrees valid is = false≢true (sym nan-off-scale ∙ sym (ap onScale is) ∙ valid)
 
-first-held : (first second : Bool) → (first && second) ≡ true → first ≡ true
-first-held true second held = refl
-first-held false second held = held
-
-second-held : (first second : Bool) → (first && second) ≡ true → second ≡ true
-second-held true second held = held
-second-held false second held = absurd (false≢true held)
-
 pub nan-low-invalid : (high : Float) → validGate (Between nan high) ≡ false
 unfolding validGate
 nan-low-invalid high = ap (λ (valid : Bool). valid && (onScale high && Ieee.le nan high)) nan-off-scale
@@ -113,18 +106,18 @@ nan-limit-invalid = nan-off-scale
 
 pub low-known : (low high : Float) → validGate (Between low high) ≡ true → onScale low ≡ true
 unfolding validGate
-low-known low high valid = first-held (onScale low) (onScale high && Ieee.le low high) valid
+low-known low high valid = both-left (onScale low) (onScale high && Ieee.le low high) valid
 
 pub high-known : (low high : Float) → validGate (Between low high) ≡ true → onScale high ≡ true
 unfolding validGate
 high-known low high valid =
-    first-held (onScale high) (Ieee.le low high) (second-held (onScale low) (onScale high && Ieee.le low high) valid)
+    both-left (onScale high) (Ieee.le low high) (both-right (onScale low) (onScale high && Ieee.le low high) valid)
 
 -- A valid gate's low is not above its high.
 pub limits-ordered : (low high : Float) → validGate (Between low high) ≡ true → Ieee.le low high ≡ true
 unfolding validGate
 limits-ordered low high valid =
-    second-held (onScale high) (Ieee.le low high) (second-held (onScale low) (onScale high && Ieee.le low high) valid)
+    both-right (onScale high) (Ieee.le low high) (both-right (onScale low) (onScale high && Ieee.le low high) valid)
 
 -- Both limits of a valid gate are inside it.
 pub low-passes : (low high : Float) → validGate (Between low high) ≡ true → inGate (Between low high) low ≡ true

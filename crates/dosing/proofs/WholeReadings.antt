@@ -7,7 +7,6 @@ use lib.Dec.{leb→le}
 use borrow.Author.Tests.{lt-ltb, le-ltb}
 use lib.ListN.{getD}
 use lib.IntN.{ℤ, pos, negsuc, negℤ, _+ℤ_, _*ℤ_, +ℤ-idr, +ℤ-assoc}
-use lib.Signed.{_≤ℤ_}
 use lib.Ieee as Ieee
 use lib.Ieee.{Float, nan}
 use Rattle.dosing.specs.Temperature.{whole, toCelsius, WholeReadings}

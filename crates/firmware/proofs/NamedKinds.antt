@@ -1,5 +1,5 @@
 -- The gate and the reading of a number, and why a number that names none may be judged as one off the scale.
-use mathlib.Core.Path.{_≡_, refl, sym, ap, _∙_}
+use mathlib.Core.Path.{_≡_, refl, sym, ap}
 use mathlib.Core.Logic.{_≢_}
 use mathlib.Core.Bool.{Bool, true, false, not}
 use mathlib.Core.List.{List}
@@ -20,7 +20,7 @@ use Rattle.dosing.specs.declared.temperature.TemperatureGate.the-variants.{Any,
 use Rattle.dosing.specs.declared.sheet.ProductSheet.{ProductSheet}
 use Rattle.dosing.specs.Temperature.{whole, onScale, validGate, validReading, celsius, inGate}
 use Rattle.dosing.specs.Sheet.{sheetOf, validSheet, doseOf}
-use Rattle.dosing.specs.Verdict.{Verdict, verdictRefusals, verdictOf, verdict}
+use Rattle.dosing.specs.Verdict.{verdictRefusals, verdictOf, verdict}
 use Rattle.firmware.specs.Choices.{ours}
 use Rattle.firmware.specs.NumberCalls.{gateOf, readingOf, badSheetNumbers, badReadingNumbers, outsideNumbers}
 use Rattle.firmware.specs.Named.{offScale, gateOr, readingOr, gateNamed, readingNamed}

@@ -1,5 +1,4 @@
 -- What 01 leaves free at the C boundary, in one place. Laws of these calls are stated for every choice whose numbers differ.
-use mathlib.Core.Path.{_≡_}
 use mathlib.Core.Logic.{_≢_}
 use mathlib.Core.Bool.{Bool, true}
 use Prim.Native.Nat.{ℕ}

@@ -1,5 +1,5 @@
 -- 01: "Controller firmware in C calls entering, look-up and the desk with numbers and byte blocks."
-use mathlib.Core.Bool.{Bool, true, false, not}
+use mathlib.Core.Bool.{Bool, true, not}
 use mathlib.Core.List.{List}
 use mathlib.Core.Option.{Option, none, some}
 use Prim.Native.Nat.{ℕ}
@@ -8,13 +8,11 @@ use lib.Ieee.{Float}
 use Rattle.cells.specs.Choice.{pick}
 use Rattle.store.specs.Read.{Found, get}
 use Rattle.store.specs.Insert.{Inserted, insert}
-use Rattle.calendar.specs.declared.Date.{Date}
 use Rattle.calendar.specs.Date.{yearOf, monthOf, dayOf, dateOf}
 use Rattle.dosing.specs.declared.temperature.Reading.{Reading}
 use Rattle.dosing.specs.declared.temperature.Reading.the-variants.{Celsius, Fahrenheit}
 use Rattle.dosing.specs.declared.temperature.TemperatureGate.{TemperatureGate}
 use Rattle.dosing.specs.declared.temperature.TemperatureGate.the-variants.{Any, AtLeast, Between}
-use Rattle.dosing.specs.declared.sheet.ProductSheet.{ProductSheet}
 use Rattle.dosing.specs.Temperature.{celsius, validReading, inGate}
 use Rattle.dosing.specs.Sheet.{sheetOf, validSheet}
 use Rattle.dosing.specs.Verdict.{Verdict, verdictRefusals, verdictOf}

@@ -9,38 +9,23 @@ use native.Mathlib.Decide.{ℕ-discrete}
 use native.Mathlib.Omega.{arith}
 use lib.ListN.{length, getD}
 use borrow.Author.Tests.{ne-eqb}
-use Rattle.cells.specs.Choice.{bind}
 use Rattle.cells.specs.Bytes.{IsBytes, zeros}
-use Rattle.cells.specs.Word.{wordAt, withWord}
 use Rattle.cells.specs.Memory.{memoryOf}
-use Rattle.cells.specs.Writes.{written, wordWrites}
-use Rattle.cells.specs.Occurrences.{occurrences, all, distinct, select}
 use Rattle.cells.proofs.Choice.{never}
 use Rattle.cells.proofs.Words.{set-bytes, bytes-zeros}
-use Rattle.nodes.specs.Layout.{trailerCells, usable, keyLimit}
-use Rattle.nodes.specs.Pointer.{byKind, pointer, leafWord}
-use Rattle.nodes.specs.Chain.{chainChild}
-use Rattle.nodes.specs.Split.{gather, under}
-use Rattle.nodes.specs.Node.{chainNode, plain, readAt, read}
-use Rattle.trees.specs.Tree.{spread, step, tree}
-use Rattle.trees.specs.Root.{isRoot, rootTree, onceVisited, cellsOf}
-use Rattle.trees.specs.Lookup.{emptyTable, lookup, sameKey, update}
-use Rattle.insertion.specs.NewCells.{blank, chainCell}
-use Rattle.insertion.specs.Built.{allocate, room, chainWith, chainOver}
-use Rattle.insertion.specs.SetChild.{chainSet, setChild}
-use Rattle.insertion.specs.Build.{wordAside, valueAside, putBack, childOf, pathCopy, valueAt, build, cellsNeeded}
-use Rattle.insertion.specs.Commit.{numberFrom, buildWrites}
-use Rattle.store.specs.Trailer.{badSize, layoutOf, rootWord, slots, validSlot, slotAt, inUse, everySlot, validTrailer}
-use Rattle.store.specs.Sound.{slotRoots, roots, soundWith, reachedFrom}
-use Rattle.store.specs.Free.{countUp, allocationOrder, free}
-use Rattle.store.specs.Refusal.{firstRefusal, overLong, badKey, badNewKey, badValue}
+use Rattle.nodes.specs.Layout.{keyLimit}
+use Rattle.trees.specs.Lookup.{emptyTable, sameKey, update}
+use Rattle.insertion.specs.Build.{cellsNeeded}
+use Rattle.store.specs.Trailer.{badSize, layoutOf, rootWord, slots, validSlot}
+use Rattle.store.specs.Free.{free}
+use Rattle.store.specs.Refusal.{overLong, badKey, badNewKey, badValue}
 use Rattle.store.specs.Refusal.{Changed}
-use Rattle.store.specs.Format.{formatted, format}
+use Rattle.store.specs.Format.{format}
 use Rattle.store.specs.Read.{shown}
-use Rattle.store.specs.Insert.{blockBuild, insertWrites, insert}
-use Rattle.store.specs.Snapshots.{withBit, snapshotBlock, restoreBlock, snapshot, restore}
+use Rattle.store.specs.Insert.{blockBuild}
 use Rattle.store.proofs.After.{slotShown}
 use Rattle.store.proofs.Format.{format-done}
+use Rattle.store.specs.Computing.{callsOpen}
 use Rattle.history.specs.Calls.{Call, inserting, snapshotting, restoring, outcome, run, answersOf}
 use Rattle.history.specs.Ledger.{emptyLedger, noteInsert, ledgerSlot, noteSnapshot, noteHeld, noteRestore, noteCall, ledgerAfter, ledgerAnswers, gotNoRoom, fedBy}
 use Rattle.history.specs.Demand3.{ledgerBeside, Demand3}
@@ -80,7 +65,7 @@ always-no-refuted number other d = other (ap (λ (c : Changed). c .answer) (d .f
 
 -- always no once formatted: 7 needs a full block, and any other answer to a good key and value is the ledger's 0
 insert-fits : length (free (layoutOf fresh) fresh) < cellsNeeded (layoutOf fresh) (memoryOf fresh) (rootWord (layoutOf fresh) fresh) letter → ⊥
-unfolding bind zeros wordAt withWord memoryOf written wordWrites occurrences all distinct select trailerCells usable keyLimit byKind pointer leafWord chainChild gather under chainNode plain readAt read spread step tree isRoot rootTree onceVisited cellsOf blank chainCell allocate room chainWith chainOver chainSet setChild wordAside valueAside putBack childOf pathCopy valueAt build cellsNeeded badSize layoutOf rootWord slots validSlot slotAt inUse everySlot validTrailer slotRoots roots soundWith reachedFrom countUp allocationOrder free firstRefusal formatted format
+unfolding callsOpen
 insert-fits more = omega (arith, more)
 
 ledger-zero : (number : ℕ) → number ≢ 7 → ledgerAnswers (slots (layoutOf fresh)) emptyLedger (fedBy (onlyFormats number) fresh (insertOne ∷ [])) ≡ 0 ∷ []
@@ -100,11 +85,16 @@ only-formats-refuted number other d = elim (ℕ-discrete number 7) [
       other (ap (λ (l : List ℕ). getD l 0 0) same)
 ]
 
+-- what an equation over a list of calls and the ledger beside it unfolds
+listsOpen : Unit {0}
+unfolding callsOpen sameKey update outcome run ledgerSlot noteInsert noteSnapshot noteHeld noteRestore noteCall ledgerAfter gotNoRoom fedBy
+listsOpen = tt
+
 -- inserting nothing: the ledger has the key, the block does not show it
 nothing-inserted :
     (shown (run insertsNothing fresh (insertOne ∷ [])) letter ≡ none)
     × (ledgerBeside insertsNothing fresh (insertOne ∷ []) .present letter ≡ some 0)
-unfolding bind zeros wordAt withWord memoryOf written wordWrites occurrences all distinct select trailerCells usable keyLimit byKind pointer leafWord chainChild gather under chainNode plain readAt read spread step tree isRoot rootTree onceVisited cellsOf lookup sameKey update blank chainCell allocate room chainWith chainOver chainSet setChild wordAside valueAside putBack childOf pathCopy valueAt build cellsNeeded numberFrom buildWrites badSize layoutOf rootWord slots validSlot slotAt inUse everySlot validTrailer slotRoots roots soundWith reachedFrom countUp allocationOrder free firstRefusal overLong badKey badNewKey badValue formatted format blockBuild insertWrites insert withBit snapshotBlock restoreBlock snapshot restore outcome run ledgerSlot noteInsert noteSnapshot noteHeld noteRestore noteCall ledgerAfter gotNoRoom fedBy insertsNothing
+unfolding listsOpen insertsNothing
 nothing-inserted = (refl, refl)
 
 pub inserts-nothing-refuted : Demand3 insertsNothing → ⊥
@@ -118,7 +108,7 @@ no-root-stored :
     × (slotShown (run storesNoRoot fresh thenSnapshot) 1 letter ≡ none)
     × (update emptyTable letter 0 letter ≡ some 0)
     × (validSlot (layoutOf (run storesNoRoot fresh thenSnapshot)) 1 ≡ true)
-unfolding bind zeros wordAt withWord memoryOf written wordWrites occurrences all distinct select trailerCells usable keyLimit byKind pointer leafWord chainChild gather under chainNode plain readAt read spread step tree isRoot rootTree onceVisited cellsOf lookup sameKey update blank chainCell allocate room chainWith chainOver chainSet setChild wordAside valueAside putBack childOf pathCopy valueAt build cellsNeeded numberFrom buildWrites badSize layoutOf rootWord slots validSlot slotAt inUse everySlot validTrailer slotRoots roots soundWith reachedFrom countUp allocationOrder free firstRefusal overLong badKey badNewKey badValue formatted format blockBuild insertWrites insert withBit snapshotBlock restoreBlock snapshot restore outcome run ledgerSlot noteInsert noteSnapshot noteHeld noteRestore noteCall ledgerAfter gotNoRoom fedBy rootlessBlock storesNoRoot
+unfolding listsOpen rootlessBlock storesNoRoot
 no-root-stored = (refl, refl, refl, refl)
 
 pub stores-no-root-refuted : Demand3 storesNoRoot → ⊥
@@ -131,7 +121,7 @@ stores-no-root-refuted d =
 nothing-restored :
     (ledgerBeside restoresNothing fresh thenRestore .present letter ≡ none)
     × (shown (run restoresNothing fresh thenRestore) letter ≡ some 0)
-unfolding bind zeros wordAt withWord memoryOf written wordWrites occurrences all distinct select trailerCells usable keyLimit byKind pointer leafWord chainChild gather under chainNode plain readAt read spread step tree isRoot rootTree onceVisited cellsOf lookup sameKey update blank chainCell allocate room chainWith chainOver chainSet setChild wordAside valueAside putBack childOf pathCopy valueAt build cellsNeeded numberFrom buildWrites badSize layoutOf rootWord slots validSlot slotAt inUse everySlot validTrailer slotRoots roots soundWith reachedFrom countUp allocationOrder free firstRefusal overLong badKey badNewKey badValue formatted format blockBuild insertWrites insert withBit snapshotBlock restoreBlock snapshot restore outcome run ledgerSlot noteInsert noteSnapshot noteHeld noteRestore noteCall ledgerAfter gotNoRoom fedBy restoresNothing
+unfolding listsOpen restoresNothing
 nothing-restored = (refl, refl)
 
 pub restores-nothing-refuted : Demand3 restoresNothing → ⊥
@@ -144,7 +134,7 @@ count-invented :
     (outcome inventsCount fresh insertOne .answer ≡ 0)
     × (outcome inventsCount fresh insertOne .count ≡ 2)
     × (length (blockBuild fresh letter 0 .cells) ≡ 1)
-unfolding bind zeros wordAt withWord memoryOf written wordWrites occurrences all distinct select trailerCells usable keyLimit byKind pointer leafWord chainChild gather under chainNode plain readAt read spread step tree isRoot rootTree onceVisited cellsOf lookup sameKey update blank chainCell allocate room chainWith chainOver chainSet setChild wordAside valueAside putBack childOf pathCopy valueAt build cellsNeeded numberFrom buildWrites badSize layoutOf rootWord slots validSlot slotAt inUse everySlot validTrailer slotRoots roots soundWith reachedFrom countUp allocationOrder free firstRefusal overLong badKey badNewKey badValue formatted format blockBuild insertWrites insert withBit snapshotBlock restoreBlock snapshot restore outcome run ledgerSlot noteInsert noteSnapshot noteHeld noteRestore noteCall ledgerAfter gotNoRoom fedBy inventsCount
+unfolding listsOpen inventsCount
 count-invented = (refl, refl, refl)
 
 pub invents-count-refuted : Demand3 inventsCount → ⊥

@@ -2,31 +2,10 @@
 use mathlib.Core.Path.{_≡_, refl}
 use mathlib.Core.List.{List, [], _∷_, _++_}
 use Prim.Native.Nat.{ℕ}
-use Rattle.cells.specs.Choice.{bind}
 use Rattle.cells.specs.Bytes.{zeros}
-use Rattle.cells.specs.Word.{wordAt, withWord}
-use Rattle.cells.specs.Memory.{memoryOf}
-use Rattle.cells.specs.Writes.{written, wordWrites}
-use Rattle.cells.specs.Occurrences.{occurrences, all, distinct, select}
-use Rattle.nodes.specs.Layout.{trailerCells, usable, keyLimit}
-use Rattle.nodes.specs.Pointer.{byKind, pointer, leafWord}
-use Rattle.nodes.specs.Chain.{chainChild}
-use Rattle.nodes.specs.Split.{gather, under}
-use Rattle.nodes.specs.Node.{chainNode, plain, readAt, read}
-use Rattle.trees.specs.Tree.{spread, step, tree}
-use Rattle.trees.specs.Root.{isRoot, rootTree, onceVisited, cellsOf}
-use Rattle.insertion.specs.NewCells.{blank, chainCell}
-use Rattle.insertion.specs.Built.{allocate, room, chainWith, chainOver}
-use Rattle.insertion.specs.SetChild.{chainSet, setChild}
-use Rattle.insertion.specs.Build.{wordAside, valueAside, putBack, childOf, pathCopy, valueAt, build, cellsNeeded}
-use Rattle.insertion.specs.Commit.{numberFrom, buildWrites}
-use Rattle.store.specs.Trailer.{badSize, layoutOf, rootWord, slots, validSlot, slotAt, inUse, everySlot, validTrailer}
-use Rattle.store.specs.Sound.{slotRoots, roots, soundWith, reachedFrom}
-use Rattle.store.specs.Free.{countUp, allocationOrder, free}
-use Rattle.store.specs.Refusal.{firstRefusal, overLong, badKey, badNewKey, badValue}
-use Rattle.store.specs.Format.{formatted, format}
-use Rattle.store.specs.Insert.{blockBuild, insertWrites, insert}
-use Rattle.store.specs.Snapshots.{withBit, withoutBit, snapshotBlock, restoreBlock, releaseBlock, snapshot, restore, release}
+use Rattle.store.specs.Trailer.{layoutOf, rootWord}
+use Rattle.store.specs.Format.{format}
+use Rattle.store.specs.Computing.{callsOpen}
 use Rattle.history.specs.Calls.{Call, inserting, snapshotting, restoring, releasing, ours, outcome, run, answersOf}
 
 abbrev letter : List ℕ
@@ -65,5 +44,5 @@ pub worked :
     ∷ (3 ∷ 4 ∷ 5 ∷ 5 ∷ 6 ∷ 6 ∷ [])
     ∷ (0x5B ∷ 0x3B ∷ 0 ∷ [])
     ∷ [])
-unfolding bind zeros wordAt withWord memoryOf written wordWrites occurrences all distinct select trailerCells usable keyLimit byKind pointer leafWord chainChild gather under chainNode plain readAt read spread step tree isRoot rootTree onceVisited cellsOf blank chainCell allocate room chainWith chainOver chainSet setChild wordAside valueAside putBack childOf pathCopy valueAt build cellsNeeded numberFrom buildWrites badSize layoutOf rootWord slots validSlot slotAt inUse everySlot validTrailer slotRoots roots soundWith reachedFrom countUp allocationOrder free firstRefusal overLong badKey badNewKey badValue formatted format blockBuild insertWrites insert withBit withoutBit snapshotBlock restoreBlock releaseBlock snapshot restore release ours outcome run answersOf
+unfolding callsOpen ours outcome run answersOf
 worked = refl

@@ -2,7 +2,7 @@
 use mathlib.Core.Path.{_≡_, refl, sym, ap, _∙_, subst}
 use mathlib.Core.Bool.{true}
 use mathlib.Core.List.{List}
-use mathlib.Core.Option.{none, some}
+use mathlib.Core.Option.{Option, none, some}
 use Prim.Native.Nat.{ℕ, _≤_, _<_}
 use native.Mathlib.Omega.{arith}
 use lib.Dec.{ltb, eqb}
@@ -17,15 +17,14 @@ use Rattle.nodes.specs.Layout.{Layout}
 use Rattle.nodes.specs.Pointer.{Pointer, pointer}
 use Rattle.nodes.specs.Pointer.Pointer.{nothing, leaf, chain, split, sparse, prefix, invalid}
 use Rattle.nodes.specs.Prefix.{prefixValue, prefixLink, validPrefix}
-use Rattle.nodes.specs.Node.{Node, childless, plain, readAt, read}
+use Rattle.nodes.specs.Node.{Node, childless, readAt, read}
 use Rattle.nodes.proofs.Pointers.{leaf-value}
-use Rattle.nodes.proofs.Frame.{chain-cut, split-cut, sparse-cut, prefix-cut, read-is, read-zero}
-use Rattle.nodes.proofs.Read.{read-plain}
+use Rattle.nodes.proofs.Frame.{prefix-cut, read-is, read-zero}
+use Rattle.nodes.proofs.Read.{plain-value, read-plain}
 use Rattle.insertion.specs.Built.{Built}
 use Rattle.insertion.specs.SetChild.{setChild}
-use Rattle.insertion.specs.Build.{wordAside, valueAside, putBack}
+use Rattle.insertion.specs.Build.{wordAside, valueAside, putBack, childOf}
 use Rattle.insertion.proofs.Claims.{Held, Fine, Placed, Changed}
-use Rattle.insertion.proofs.Chains.{chain-node-value}
 use Rattle.insertion.proofs.Prefixes.{putBack-changed, putBack-held}
 use Rattle.insertion.proofs.SetChild.{set-placed, set-held}
 
@@ -34,18 +33,12 @@ prefix-clear : (s : List ℕ) → validPrefix s ≡ true → prefixValue s < 214
 unfolding validPrefix
 prefix-clear s valid = ltb-true (prefixValue s) 2147483648 (both-left (ltb (prefixValue s) 2147483648) (eqb (getD s 4 0) 255) valid)
 
-module _ (layout : Layout) (m : Memory) where
-  -- a chain, sparse or split has no value
-  pub plain-value : (p : Pointer) (Z : Node) → plain layout m p ≡ some Z → Z .value ≡ none
-  unfolding plain
-  plain-value nothing Z e = never e
-  plain-value (leaf v) Z e = never e
-  plain-value (chain c k) Z e = ap (λ (N : Node). N .value) (sym (chain-cut layout m c k Z e .1)) ∙ chain-node-value (m c) c k
-  plain-value (split c) Z e = ap (λ (N : Node). N .value) (sym (split-cut layout m c Z e .3))
-  plain-value (sparse c) Z e = ap (λ (N : Node). N .value) (sym (sparse-cut layout m c Z e .1))
-  plain-value (prefix c) Z e = never e
-  plain-value invalid Z e = never e
+-- the child of a node that is read
+pub child-of : (o : Option Node) (X : Node) (x : ℕ) → o ≡ some X → childOf o x ≡ X .child x
+unfolding childOf
+child-of o X x e = rw e
 
+module _ (layout : Layout) (m : Memory) where
   -- the node X of the word w, whose pointer is p, without its value
   pub record Aside (w : ℕ) (p : Pointer) (X : Node) : Type 0 where
     pub bare : Node
@@ -85,15 +78,15 @@ module _ (layout : Layout) (m : Memory) where
         child = λ y. ap (λ (Z : Node). Z .child y) (sym is);
         cells = λ c. omega (arith, ap (λ (Z : Node). occurrences c (Z .cells)) is);
       }
-  aside-of w (chain c k) X named node at = aside-none w (chain c k) X refl refl node (plain-value (chain c k) X at)
-  aside-of w (split c) X named node at = aside-none w (split c) X refl refl node (plain-value (split c) X at)
-  aside-of w (sparse c) X named node at = aside-none w (sparse c) X refl refl node (plain-value (sparse c) X at)
+  aside-of w (chain c k) X named node at = aside-none w (chain c k) X refl refl node (plain-value layout m (chain c k) X at)
+  aside-of w (split c) X named node at = aside-none w (split c) X refl refl node (plain-value layout m (split c) X at)
+  aside-of w (sparse c) X named node at = aside-none w (sparse c) X refl refl node (plain-value layout m (sparse c) X at)
   aside-of w (prefix c) X named node at =
       let q = prefix-cut layout m c X at in
       record {
         bare = q .0;
         reads = read-plain layout m (prefixLink (m c)) (q .0) (q .2);
-        empty = plain-value (pointer layout (prefixLink (m c))) (q .0) (q .2);
+        empty = plain-value layout m (pointer layout (prefixLink (m c))) (q .0) (q .2);
         value = ap (λ (Z : Node). Z .value) (sym (q .3));
         clear = λ u e. let same : prefixValue (m c) ≡ u = cc in subst (λ z. z < 2147483648) same (prefix-clear (m c) (q .1));
         child = λ y. ap (λ (Z : Node). Z .child y) (sym (q .3));

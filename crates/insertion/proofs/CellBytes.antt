@@ -4,14 +4,14 @@ use mathlib.Core.Bool.{Bool, true, false}
 use mathlib.Core.List.{List, [], _∷_}
 use mathlib.Core.Option.{Option, none, some}
 use native.Mathlib.Omega.{arith}
-use Prim.Native.Nat.{ℕ, zero, suc, _+_, _-_, _*_, _/_, _%_, _<_}
+use Prim.Native.Nat.{ℕ, zero, suc, _+_, _-_, _*_, _/_, _<_}
 use lib.Dec.{eqb, ltb}
 use lib.ListN.{length, set, length-set}
 use Rattle.cells.specs.Choice.{pick}
 use Rattle.cells.specs.Bytes.{IsBytes}
 use Rattle.cells.specs.Word.{withWord}
 use Rattle.cells.specs.Memory.{Memory, memoryOf}
-use Rattle.cells.proofs.Words.{set-bytes, zeros-length, bytes-zeros, length-withWord, withWord-bytes}
+use Rattle.cells.proofs.Words.{set-bytes, bytes-tail, zeros-length, bytes-zeros, length-withWord, remainder-byte, withWord-bytes}
 use Rattle.cells.proofs.Memory.{memory-length, memory-bytes}
 use Rattle.nodes.specs.Layout.{Layout}
 use Rattle.nodes.specs.Pointer.{Pointer, pointer}
@@ -55,9 +55,6 @@ pick-cell : (t : Bool) {s s′ : List ℕ} → IsCell s → IsCell s′ → IsCe
 pick-cell true a b = a
 pick-cell false a b = b
 
-remainder-small : (v : ℕ) → v % 256 < 256
-remainder-small v = omega arith
-
 -- each new cell is 32 bytes
 pub chain-cell : (x word : ℕ) → x < 256 → IsCell (chainCell x word)
 unfolding chainCell
@@ -88,7 +85,7 @@ sparseCopy-cell s h = without-cell (6 - sparseCount s) (sparseCount s) s h
 pub appended-cell : (s : List ℕ) (x word : ℕ) → x < 256 → IsCell s → IsCell (appendedCell s x word)
 unfolding appendedCell withOrder
 appended-cell s x word small h =
-    set-cell _ 31 _ (remainder-small _) (set-cell _ 30 _ (remainder-small _) (set-cell _ _ x small (word-cell _ _ word (sparseCopy-cell s h))))
+    set-cell _ 31 _ (remainder-byte _) (set-cell _ 30 _ (remainder-byte _) (set-cell _ _ x small (word-cell _ _ word (sparseCopy-cell s h))))
 
 pub words-cell : (words : ℕ → ℕ) (count position : ℕ) (s : List ℕ) → IsCell s → IsCell (withWords words count position s)
 unfolding withWords
@@ -178,7 +175,7 @@ module _ (number : ℕ → ℕ) where
     pathCopy-whole atEnd h word (x ∷ key) small =
         putBack-whole (valueAside layout m (pointer layout word)) _
         (setChild-whole (pointer layout (wordAside layout m (pointer layout word) word)) x _ (small .below 0)
-        (pathCopy-whole atEnd h (childOf (read layout m word) x) key (record { below = λ i. small .below (suc i) })))
+        (pathCopy-whole atEnd h (childOf (read layout m word) x) key (bytes-tail x key small)))
 
     valueAt-whole : (value : ℕ) (p : Pointer) (word : ℕ) → Whole (valueAt layout number m value p word .cells)
     unfolding valueAt

@@ -1,6 +1,5 @@
 -- Setting a child of a chain node.
 use mathlib.Core.Path.{_≡_, refl, sym, ap, _∙_}
-use mathlib.Core.Logic.{_≢_}
 use mathlib.Core.Bool.{Bool, true, false}
 use mathlib.Core.List.{List}
 use mathlib.Core.Option.{some}
@@ -8,7 +7,7 @@ use Prim.Native.Nat.{ℕ, _≤_, _<_}
 use native.Mathlib.Decide.{ℕ-discrete}
 use native.Mathlib.Omega.{arith}
 use lib.Dec.{eqb}
-use borrow.Author.Tests.{eqb-true, eqb-false, ne-eqb}
+use borrow.Author.Tests.{eqb-true, eqb-false}
 use Rattle.cells.specs.Choice.{pick}
 use Rattle.cells.specs.Bytes.{IsBytes}
 use Rattle.cells.specs.Memory.{Memory}
@@ -19,30 +18,28 @@ use Rattle.nodes.specs.Chain.{chainCharacter, chainChild}
 use Rattle.nodes.specs.Node.{Node, oneChild, plain}
 use Rattle.nodes.proofs.Pointers.{usable-inside}
 use Rattle.nodes.proofs.Frame.{chain-cut}
+use Rattle.nodes.proofs.Chain.{one-child-other, chain-child-inside, chain-child-end, chain-child}
 use Rattle.insertion.specs.NewCells.{sparsePair}
 use Rattle.insertion.specs.Built.{Built, allocate, chainOver}
 use Rattle.insertion.specs.SetChild.{chainSet}
 use Rattle.insertion.proofs.Claims.{Held, Fine, Placed}
 use Rattle.insertion.proofs.Rooms.{allocate-before}
-use Rattle.insertion.proofs.Chains.{chain-child-last, chain-child-next, chain-node-child, chain-placed, chain-held}
+use Rattle.insertion.proofs.Chains.{chain-placed, chain-held}
 use Rattle.insertion.proofs.Pairs.{pair-placed}
 
 -- the child word of a chain is below 2^32
 pub chain-child-small : (layout : Layout) → layout .cells ≤ 2048 → (bytes : List ℕ) (c k : ℕ) → usable layout c ≡ true → k < 28 → IsBytes bytes
     → chainChild bytes c k < 4294967296
 chain-child-small layout small bytes c k free chain-kind is-bytes = elim (ℕ-discrete k 27) [
-  | yes last ↦ rw (last, chain-child-last bytes c) (word-bound bytes 28 is-bytes)
-  | no inside ↦ rw (chain-child-next bytes c k inside) (omega (arith, usable-inside layout c free))
+  | yes last ↦ rw (last, chain-child-end bytes c) (word-bound bytes 28 is-bytes)
+  | no inside ↦ rw (chain-child-inside bytes c k inside) (omega (arith, usable-inside layout c free))
 ]
 
 -- the children of a chain node that is read
 pub chain-cut-child : (layout : Layout) (m : Memory) (c k : ℕ) (Y : Node) → plain layout m (chain c k) ≡ some Y
     → (y : ℕ) → Y .child y ≡ oneChild (chainCharacter (m c) k) (chainChild (m c) c k) y
 chain-cut-child layout m c k Y reads y =
-    ap (λ (Z : Node). Z .child y) (sym (chain-cut layout m c k Y reads .1)) ∙ chain-node-child (m c) c k _ _ y refl refl
-
-one-child-other : (a u y : ℕ) → y ≢ a → oneChild a u y ≡ 0
-one-child-other a u y other = rw (ne-eqb y a other)
+    ap (λ (Z : Node). Z .child y) (sym (chain-cut layout m c k Y reads .1)) ∙ chain-child (m c) c k y
 
 module _ (layout : Layout) (small : layout .cells ≤ 2048) (number : ℕ → ℕ) (m m′ : Memory) (c k x : ℕ) (b : Built) where
   -- the chain's child and the new one in a sparse cell

@@ -3,13 +3,13 @@ use mathlib.Core.Path.{_≡_, refl, sym, ap, _∙_, subst}
 use mathlib.Core.Logic.{_≢_}
 use mathlib.Core.Bool.{Bool, true, false}
 use mathlib.Core.List.{List, [], _∷_}
-use mathlib.Core.Option.{none, some}
+use mathlib.Core.Option.{some}
 use Prim.Native.Nat.{ℕ, zero, suc, _+_, _≤_, _<_}
 use native.Mathlib.Omega.{arith}
 use lib.Dec.{eqb}
 use lib.ListN.{length, getD, set, length-set}
 use lib.Seq.{getD-set-same, getD-set-other}
-use borrow.Author.Tests.{eqb-false, ne-eqb, lt-ltb}
+use borrow.Author.Tests.{eqb-false, lt-ltb}
 use Rattle.cells.specs.Choice.{pick}
 use Rattle.cells.specs.Bytes.{zeros}
 use Rattle.cells.specs.Word.{wordAt, withWord}
@@ -22,6 +22,7 @@ use Rattle.nodes.specs.Pointer.{pointer, byKind, wordTo}
 use Rattle.nodes.specs.Chain.{chainChild}
 use Rattle.nodes.specs.Node.{Node, oneChild, chainNode, plain}
 use Rattle.nodes.proofs.Frame.{chain-join}
+use Rattle.nodes.proofs.Chain.{chain-child-inside, chain-child-end, chain-value, chain-cells-inside, chain-cells-end}
 use Rattle.insertion.specs.NewCells.{blank, chainCell}
 use Rattle.insertion.specs.Built.{Built, allocate, room, roomOf, characterBefore, chainWith, chainOver}
 use Rattle.insertion.specs.SetChild.{withChild}
@@ -41,31 +42,10 @@ pub chain-cell-end : (x w : ℕ) → w < 4294967296 → wordAt (chainCell x w) 2
 unfolding wordAt chainCell withWord blank zeros
 chain-cell-end x w small = recombine w small
 
--- the child word of a chain at the end of its cell, and at any other place
-pub chain-child-last : (bytes : List ℕ) (c : ℕ) → chainChild bytes c 27 ≡ wordAt bytes 28
-unfolding chainChild
-chain-child-last bytes c = refl
-
-pub chain-child-next : (bytes : List ℕ) (c k : ℕ) → k ≢ 27 → chainChild bytes c k ≡ wordTo c (k + 1)
-unfolding chainChild
-chain-child-next bytes c k other = rw (ne-eqb k 27 other)
-
--- a chain node has no value and one child; its cell is visited where the run ends
-pub chain-node-value : (bytes : List ℕ) (c k : ℕ) → chainNode bytes c k .value ≡ none
-unfolding chainNode
-chain-node-value bytes c k = refl
-
+-- a chain node by its character and its child word
 pub chain-node-child : (bytes : List ℕ) (c k x w y : ℕ) → getD bytes k 0 ≡ x → chainChild bytes c k ≡ w → chainNode bytes c k .child y ≡ oneChild x w y
 unfolding chainNode
 chain-node-child bytes c k x w y character child = ap (λ a. oneChild a (chainChild bytes c k) y) character ∙ ap (λ u. oneChild x u y) child
-
-pub chain-node-last : (bytes : List ℕ) (c : ℕ) → chainNode bytes c 27 .cells ≡ c ∷ []
-unfolding chainNode
-chain-node-last bytes c = refl
-
-pub chain-node-inside : (bytes : List ℕ) (c k : ℕ) → k ≢ 27 → chainNode bytes c k .cells ≡ []
-unfolding chainNode
-chain-node-inside bytes c k other = rw (ne-eqb k 27 other)
 
 -- one child instead of at most that one
 pub one-child : (child : ℕ → ℕ) (x w : ℕ) → ((y : ℕ) → y ≢ x → child y ≡ 0) → (y : ℕ) → oneChild x w y ≡ withChild child x w y
@@ -98,13 +78,13 @@ module _ (layout : Layout) (small : layout .cells ≤ 2048) (number : ℕ → �
         let byte : (j : ℕ) → 27 ≤ j → j < 32 → getD (m′ c) j 0 ≡ getD (chainCell x w) j 0 = λ j. from-at 27 (m′ c) (chainCell x w) j (stands .bytes) in
         let character : getD (m′ c) 27 0 ≡ x = byte 27 (omega arith) (omega arith) ∙ chain-cell-character x w in
         let child : chainChild (m′ c) c 27 ≡ w =
-        chain-child-last (m′ c) c ∙ word-agree (m′ c) (chainCell x w) 28 28 (λ r near. byte (28 + r) (omega arith) (omega arith))
+        chain-child-end (m′ c) c ∙ word-agree (m′ c) (chainCell x w) 28 28 (λ r near. byte (28 + r) (omega arith) (omega arith))
         ∙ chain-cell-end x w word-small in
-        let here : (z : ℕ) → occurrences z (chainNode (m′ c) c 27 .cells) ≡ occurrences z (c ∷ []) = λ z. ap (occurrences z) (chain-node-last (m′ c) c) in
+        let here : (z : ℕ) → occurrences z (chainNode (m′ c) c 27 .cells) ≡ occurrences z (c ∷ []) = λ z. ap (occurrences z) (chain-cells-end (m′ c) c) in
         record {
           node = chainNode (m′ c) c 27;
           reads = chain-node-reads 27 (chainCell x w) cells (omega arith) free child;
-          value = chain-node-value (m′ c) c 27;
+          value = chain-value (m′ c) c 27;
           child = λ y _. chain-node-child (m′ c) c 27 x w y character child ∙ one-child (Y .child) x w only y;
           most = λ z. omega (arith, here z, allocate-numbers number z 27 (chainCell x w) cells);
           least = λ z. omega (arith, here z, allocate-numbers number z 27 (chainCell x w) cells);
@@ -125,15 +105,15 @@ module _ (layout : Layout) (small : layout .cells ≤ 2048) (number : ℕ → �
         (allocate-stands layout number m′ k (set newest k x) rest held) in
         let character : getD (m′ c) k 0 ≡ x =
         from-at k (m′ c) (set newest k x) k (stands .bytes) (omega arith) (omega arith) ∙ getD-set-same newest k x 0 (omega (arith, run .2)) in
-        let child : chainChild (m′ c) c k ≡ w = chain-child-next (m′ c) c k inside ∙ omega (arith, run .0) in
+        let child : chainChild (m′ c) c k ≡ w = chain-child-inside (m′ c) c k inside ∙ omega (arith, run .0) in
         let here : (z : ℕ) → occurrences z (chainNode (m′ c) c k .cells) ≡ 0 =
-        λ z. ap (occurrences z) (chain-node-inside (m′ c) c k inside) ∙ occurrences-none z in
+        λ z. ap (occurrences z) (chain-cells-inside (m′ c) c k inside) ∙ occurrences-none z in
         let same : (z : ℕ) → occurrences z (numbers number (allocate number k (set newest k x) rest .cells)) ≡ occurrences z (numbers number (newest ∷ rest))
         = λ z. allocate-numbers number z k (set newest k x) rest ∙ sym (numbers-more number z newest rest) in
         record {
           node = chainNode (m′ c) c k;
           reads = chain-node-reads k (set newest k x) rest (omega arith) free child;
-          value = chain-node-value (m′ c) c k;
+          value = chain-value (m′ c) c k;
           child = λ y _. chain-node-child (m′ c) c k x w y character child ∙ one-child (Y .child) x w only y;
           most = λ z. omega (arith, here z, same z);
           least = λ z. omega (arith, here z, same z);

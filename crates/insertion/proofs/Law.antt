@@ -11,6 +11,7 @@ use lib.ListN.{length}
 use Rattle.cells.specs.Bytes.{IsBytes}
 use Rattle.cells.specs.Memory.{Memory}
 use Rattle.cells.proofs.Choice.{never, absurd-false}
+use Rattle.cells.proofs.Words.{bytes-tail}
 use Rattle.cells.proofs.Occurrences.{Agree, agree-less}
 use Rattle.nodes.specs.Layout.{Layout}
 use Rattle.nodes.specs.Pointer.{Pointer, pointer}
@@ -23,21 +24,9 @@ use Rattle.insertion.specs.Built.{Built}
 use Rattle.insertion.specs.SetChild.{setChild}
 use Rattle.insertion.specs.Build.{wordAside, valueAside, putBack, childOf, pathCopy, build}
 use Rattle.insertion.proofs.Claims.{Held, Fine, Placed, Grown}
-use Rattle.insertion.proofs.Aside.{aside, nodeSet, node-held, bare-placed, node-changed}
+use Rattle.insertion.proofs.Aside.{child-of, aside, nodeSet, node-held, bare-placed, node-changed}
 use Rattle.insertion.proofs.KeyEnd.{end-grown}
 use Rattle.insertion.proofs.Grow.{grow}
-
--- the first byte of a key, and the others
-key-head : (x : ℕ) (key : List ℕ) → IsBytes (x ∷ key) → x < 256
-key-head x key is-bytes = is-bytes .below 0
-
-key-tail : (x : ℕ) (key : List ℕ) → IsBytes (x ∷ key) → IsBytes key
-key-tail x key is-bytes = record { below = λ i. is-bytes .below (suc i) }
-
--- the child of a node that is read
-child-of : (o : Option Node) (X : Node) (x : ℕ) → o ≡ some X → childOf o x ≡ X .child x
-unfolding childOf
-child-of o X x e = rw e
 
 -- a root has no value, and a chain, sparse or split is one
 root-value : (layout : Layout) (m : Memory) (p : Pointer) → isRoot p ≡ true → valueAside layout m p ≡ none
@@ -108,12 +97,12 @@ module _ (layout : Layout) (small : layout .cells ≤ 2048) (number : ℕ → �
   law [] is-bytes d w cs fits found agree held = end-grown layout small number m m′ bytes value clear d w cs found agree held
   law (x ∷ key) is-bytes zero w cs fits found agree held = absurd (omega arith)
   law (x ∷ key) is-bytes (suc d) w cs fits found agree held =
-      let near : x < 256 = key-head x key is-bytes in
+      let near : x < 256 = is-bytes .below 0 in
       let u : ℕ = childOf (read layout m w) x in
       let b : Built = build layout number m u key value in
       let s = descend layout m m′ d w x cs near found agree in
       let later =
-      law key (key-tail x key is-bytes) d u (s .cells) (omega arith) (s .found) (s .agree-below) (node-held layout small number m m′ bytes whole w x b held) in
+      law key (bytes-tail x key is-bytes) d u (s .cells) (omega arith) (s .found) (s .agree-below) (node-held layout small number m m′ bytes whole w x b held) in
       let changed = node-changed layout small number m m′ bytes whole w (s .node) (s .reads) (s .agree) x near b (later .0) held in (
         changed .fine,
         grow layout small number m m′ bytes d w cs found agree (s .node) (s .reads) x near (s .cells) (ap (tree layout m d) (sym (s .child)) ∙ s .found)
@@ -129,12 +118,12 @@ module _ (layout : Layout) (small : layout .cells ≤ 2048) (number : ℕ → �
   rooted [] is-bytes some-key d w cs fits found agree root held = absurd (omega arith)
   rooted (x ∷ key) is-bytes some-key zero w cs fits found agree root held = absurd (omega arith)
   rooted (x ∷ key) is-bytes some-key (suc d) w cs fits found agree root held =
-      let near : x < 256 = key-head x key is-bytes in
+      let near : x < 256 = is-bytes .below 0 in
       let u : ℕ = childOf (read layout m w) x in
       let b : Built = build layout number m u key value in
       let s = descend layout m m′ d w x cs near found agree in
       let later =
-      law key (key-tail x key is-bytes) d u (s .cells) (omega arith) (s .found) (s .agree-below) (node-held layout small number m m′ bytes whole w x b held) in
+      law key (bytes-tail x key is-bytes) d u (s .cells) (omega arith) (s .found) (s .agree-below) (node-held layout small number m m′ bytes whole w x b held) in
       bare-root layout number m′ (valueAside layout m (pointer layout w)) (root-value layout m (pointer layout w) root)
       (aside layout m w (s .node) (s .reads) .bare) x b (setChild layout number m (pointer layout (wordAside layout m (pointer layout w) w)) x b) held
       (bare-placed layout small number m m′ bytes whole w (s .node) (s .reads) (s .agree) x near b (later .0))

@@ -14,7 +14,6 @@ pub mod SplitCells
 pub mod SplitRows
 pub mod SplitOf
 pub mod SplitCopied
-pub mod SparseChildren
 pub mod SparseCells
 pub mod SparseSet
 pub mod SetChild

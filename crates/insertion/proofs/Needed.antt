@@ -2,7 +2,7 @@
 use mathlib.Core.Path.{_≡_, refl, sym, ap, _∙_, subst}
 use mathlib.Core.Logic.{_≢_}
 use mathlib.Core.List.{List, [], _∷_}
-use mathlib.Core.Option.{Option, none, some}
+use mathlib.Core.Option.{none, some}
 use Prim.Native.Nat.{ℕ, zero, suc, _+_, _*_, _/_, _%_, _≤_, _<_}
 use native.Mathlib.Decide.{ℕ-discrete}
 use native.Mathlib.Omega.{arith}
@@ -13,16 +13,17 @@ use Rattle.cells.specs.Bytes.{IsBytes}
 use Rattle.cells.specs.Choice.{pick}
 use Rattle.cells.specs.Word.{withWord}
 use Rattle.cells.specs.Memory.{Memory}
+use Rattle.cells.proofs.Words.{bytes-tail}
 use Rattle.cells.proofs.Occurrences.{occurrences-later, Agree, agree-less, agree-head, agree-tail}
 use Rattle.nodes.specs.Layout.{Layout}
 use Rattle.nodes.specs.Pointer.{Pointer, pointer, wordTo}
 use Rattle.nodes.specs.Pointer.Pointer.{nothing, leaf, chain, split, sparse, prefix, invalid}
-use Rattle.nodes.specs.Split.{headWord, tableWord, under, endCells, midCells, headCells, wordBelow}
+use Rattle.nodes.specs.Split.{headWord, under, midCells, headCells, wordBelow}
 use Rattle.nodes.specs.Prefix.{prefixValue, prefixLink}
 use Rattle.nodes.specs.Node.{Node, chainNode, readAt, read}
 use Rattle.nodes.proofs.Pointers.{pointer-zero}
-use Rattle.nodes.proofs.Gather.{gather-at, under-word}
-use Rattle.nodes.proofs.Frame.{split-word-cell, end-cut, mid-cut, head-is, mid-ends, chain-cut, split-cut, sparse-cut, prefix-cut, read-is, plain-read}
+use Rattle.nodes.proofs.Gather.{gather-at}
+use Rattle.nodes.proofs.Frame.{end-agree, mid-agree, below-same, head-is, mid-ends, chain-cut, split-cut, sparse-cut, prefix-cut, read-is, plain-read}
 use Rattle.trees.specs.Tree.{tree}
 use Rattle.trees.proofs.Tree.{tree-cut, tree-below}
 use Rattle.trees.proofs.Frame.{footprint-in, node-frame}
@@ -31,12 +32,7 @@ use Rattle.insertion.specs.Built.{Built, allocate}
 use Rattle.insertion.specs.SplitBuild.{splitCopied}
 use Rattle.insertion.specs.SetChild.{chainSet, sparseSet, setChild}
 use Rattle.insertion.specs.Build.{wordAside, valueAside, putBack, childOf, pathCopy, valueAt, build, cellsNeeded}
-use Rattle.insertion.proofs.Aside.{nodeSet}
-
--- the child of a node that is read
-child-read : (o : Option Node) (X : Node) (x : ℕ) → o ≡ some X → childOf o x ≡ X .child x
-unfolding childOf
-child-read o X x e = rw e
+use Rattle.insertion.proofs.Aside.{child-of, nodeSet}
 
 -- the cells of a split's copy, by the bytes that they are copied from
 abbrev copied : (ℕ → ℕ) → ℕ → Built → List ℕ → List ℕ → List ℕ → Built
@@ -50,32 +46,12 @@ module _ (layout : Layout) (m m′ : Memory) where
   abbrev Same : ℕ → Type 0
   Same w = w ≢ 0 → m (w / 32) ≡ m′ (w / 32)
 
-  end-same : (w : ℕ) (a : List ℕ) → under (endCells layout m) w ≡ some a → Agree m m′ a → Same w
-  end-same w a e agree other =
-      let p = end-cut layout m w a (sym (under-word (endCells layout m) w other) ∙ e) in
-      subst (λ d. m d ≡ m′ d) (sym (split-word-cell layout w (p .0) (p .1)))
-      (agree-head m m′ (p .0) [] (subst (Agree m m′) (sym (p .3)) agree))
-
-  mid-same : (w : ℕ) (a : List ℕ) → under (midCells layout m) w ≡ some a → Agree m m′ a → Same w
-  mid-same w a e agree other =
-      let p = mid-cut layout m w a (sym (under-word (midCells layout m) w other) ∙ e) in
-      subst (λ d. m d ≡ m′ d) (sym (split-word-cell layout w (p .0) (p .2)))
-      (agree-head m m′ (p .0) (p .1) (subst (Agree m m′) (sym (p .5)) agree))
-
-  -- what is taken from that cell, and is something else where the word is NONE
-  taken-same : {A : Type 0} (f : List ℕ → A) (nil : A) (w : ℕ) → Same w → pick (eqb w 0) nil (f (m′ (w / 32))) ≡ pick (eqb w 0) nil (f (m (w / 32)))
-  taken-same f nil w same = elim (ℕ-discrete w 0) [
-    | yes zero-word ↦ rw (eq-eqb w 0 zero-word)
-    | no other ↦ ap (λ s. pick (eqb w 0) nil (f s)) (sym (same other))
-  ]
-
-  below-same : (w i : ℕ) → Same w → wordBelow m′ w i ≡ wordBelow m w i
-  unfolding wordBelow
-  below-same w i = taken-same (λ s. tableWord s i) 0 w
-
   copy-same : (w : ℕ) → Same w → tableCopy m′ w ≡ tableCopy m w
   unfolding tableCopy
-  copy-same w = taken-same (λ s. s) blank w
+  copy-same w same = elim (ℕ-discrete w 0) [
+    | yes zero-word ↦ rw (eq-eqb w 0 zero-word)
+    | no other ↦ ap (λ s. pick (eqb w 0) blank s) (sym (same other))
+  ]
 
   module _ (number : ℕ → ℕ) (x : ℕ) (near : x < 256) (b : Built) where
     -- a split copied
@@ -91,12 +67,12 @@ module _ (layout : Layout) (m m′ : Memory) where
         let agree-end : Agree m m′ (r .0) = agree-less m m′ (p .0) (r .0) (λ d h. omega (arith, r .2 d)) agree-mid in
         let cell : m′ c ≡ m c = sym (agree-head m m′ c cs agree) in
         let head : headWord (m′ c) (x / 64) ≡ w = ap (λ s. headWord s (x / 64)) cell in
-        let mid : Same w = mid-same w (p .0) (p .1) agree-mid in
+        let mid : Same w = mid-agree layout m m′ w (p .0) (p .1) agree-mid in
         let below : wordBelow m′ (headWord (m′ c) (x / 64)) (x / 8 % 8) ≡ v =
-        ap (λ u. wordBelow m′ u (x / 8 % 8)) head ∙ below-same w (x / 8 % 8) mid in
+        ap (λ u. wordBelow m′ u (x / 8 % 8)) head ∙ sym (below-same layout m m′ w (x / 8 % 8) mid) in
         let mids : tableCopy m′ (headWord (m′ c) (x / 64)) ≡ tableCopy m w = ap (tableCopy m′) head ∙ copy-same w mid in
         let ends : tableCopy m′ (wordBelow m′ (headWord (m′ c) (x / 64)) (x / 8 % 8)) ≡ tableCopy m v =
-        ap (tableCopy m′) below ∙ copy-same v (end-same v (r .0) (r .1) agree-end) in
+        ap (tableCopy m′) below ∙ copy-same v (end-agree layout m m′ v (r .0) (r .1) agree-end) in
         ap (λ s. copied number x b s (tableCopy m′ (headWord (m′ c) (x / 64))) (tableCopy m′ (wordBelow m′ (headWord (m′ c) (x / 64)) (x / 8 % 8)))) cell
         ∙ ap (λ s. copied number x b (m c) s (tableCopy m′ (wordBelow m′ (headWord (m′ c) (x / 64)) (x / 8 % 8)))) mids
         ∙ ap (copied number x b (m c) (tableCopy m w)) ends
@@ -183,11 +159,11 @@ module _ (layout : Layout) (small : layout .cells ≤ 2048) (m : Memory) (bytes 
       let f = node-frame layout small m bytes m′ (suc d) w cs (q .0) found agree (q .2) in
       let l = tree-below layout m d w x cs (q .0) near found (q .2) in
       let u : ℕ = childOf (read layout m w) x in
-      let old : u ≡ q .0 .child x = child-read (read layout m w) (q .0) x (q .2) in
+      let old : u ≡ q .0 .child x = child-of (read layout m w) (q .0) x (q .2) in
       let child : childOf (read layout m′ w) x ≡ u =
-      child-read (read layout m′ w) (f .0) x (f .1) ∙ sym (f .2 .child x near) ∙ sym old in
+      child-of (read layout m′ w) (f .0) x (f .1) ∙ sym (f .2 .child x near) ∙ sym old in
       let later =
-      build-frame number value key (record { below = λ i. is-bytes .below (suc i) }) d u (l .0) (omega arith) (ap (tree layout m d) old ∙ l .1)
+      build-frame number value key (bytes-tail x key is-bytes) d u (l .0) (omega arith) (ap (tree layout m d) old ∙ l .1)
       (agree-less m m′ cs (l .0) (λ c h. omega (arith, l .2 c)) agree) in
       ap (λ v. nodeSet layout number m′ w x (build layout number m′ v key value)) child
       ∙ ap (nodeSet layout number m′ w x) later

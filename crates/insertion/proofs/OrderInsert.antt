@@ -11,13 +11,14 @@ use lib.ListN.{length}
 use borrow.Author.Tests.{ne-eqb}
 use Rattle.cells.specs.Choice.{pick}
 use Rattle.cells.specs.Occurrences.{occurrences}
+use Rattle.cells.proofs.Occurrences.{occurrences-cons}
 use Rattle.order_words.specs.Digits.{digits, encode, orderDigits}
 use Rattle.order_words.specs.Extended.{withDigit, extendedOrder}
-use Rattle.order_words.proofs.Inserted.{goes-below, goes-above, goes-alone, occurrences-cons, occurrences-withDigit, length-withDigit}
+use Rattle.order_words.proofs.Inserted.{goes-below, goes-above, goes-alone, occurrences-withDigit, length-withDigit}
 use Rattle.order_words.proofs.Steps.{one-left}
 use Rattle.order_words.proofs.Coding.{power, encode-cons, encode-below, length-digits, digits-below-six, extended-order-bound}
 use Rattle.nodes.specs.Sparse.{sparseCharacter, sparseOrder, sparseDigits, sparseCount, validSparse}
-use Rattle.insertion.proofs.SparseChildren.{sparse-parts}
+use Rattle.nodes.proofs.SparseChildren.{sparse-parts}
 
 -- one place less, where there is one
 pub left-one : (left : ℕ) → left ≢ 0 → left ≡ left - 1 + 1

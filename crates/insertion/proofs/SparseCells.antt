@@ -22,7 +22,7 @@ use Rattle.nodes.specs.Sparse.{sparseWord, sparseCharacter, sparseOrder, sparse
 use Rattle.insertion.specs.NewCells.{withoutCharacters, sparseCopy, replacedCell, withOrder, appendedCell}
 use Rattle.insertion.specs.SetChild.{withChild}
 use Rattle.insertion.proofs.SplitWords.{table-set}
-use Rattle.insertion.proofs.SparseChildren.{Sparse, position-has, position-first, child-found, child-alike, child-last}
+use Rattle.nodes.proofs.SparseChildren.{Sparse, position-has, position-first, child-at, child-alike, child-last}
 
 -- characters set to zero
 without-length : (count from : ℕ) (bytes : List ℕ) → length (withoutCharacters count from bytes) ≡ length bytes
@@ -135,7 +135,7 @@ module _ (bytes : List ℕ) (whole : length bytes ≡ 32) (cell : Sparse bytes (
         ∙ elim (ℕ-discrete y x) [
           | yes same ↦
               rw (eq-eqb y x same)
-              (child-found (replacedCell bytes p w) y (sparseCount bytes) 0 p (omega arith) (omega arith)
+              (child-at (replacedCell bytes p w) y (sparseCount bytes) 0 p (omega arith) (omega arith)
               (character p inside ∙ has ∙ sym same)
               (λ r _ before e. first r before (sym (character r (omega arith)) ∙ e ∙ same))
               ∙ word-there p within refl)
@@ -225,7 +225,7 @@ module _ (bytes : List ℕ) (whole : length bytes ≡ 32) (cell : Sparse bytes (
           ∙ elim (ℕ-discrete y x) [
             | yes same ↦
                 rw (eq-eqb y x same)
-                (child-found (appendedCell bytes x w) y (suc (sparseCount bytes)) 0 (sparseCount bytes) (omega arith) (omega arith)
+                (child-at (appendedCell bytes x w) y (suc (sparseCount bytes)) 0 (sparseCount bytes) (omega arith) (omega arith)
                 (appended-new ∙ sym same) (λ r _ before e. new r before (sym (appended-character r before) ∙ e ∙ same))
                 ∙ word-new (sparseCount bytes) room refl)
             | no other ↦

@@ -26,7 +26,7 @@ use Rattle.insertion.proofs.Rooms.{allocate-before}
 use Rattle.insertion.proofs.Pairs.{sparse-allocated}
 use Rattle.insertion.proofs.SplitWords.{sparseChild-bounded}
 use Rattle.insertion.proofs.SplitOf.{splitOf-held, splitOf-with}
-use Rattle.insertion.proofs.SparseChildren.{Sparse, sparse-parts, sparse-valid, position-first}
+use Rattle.nodes.proofs.SparseChildren.{Sparse, sparse-parts, sparse-valid, position-first}
 use Rattle.insertion.proofs.SparseCells.{replaced-sparse, replaced-child, appended-sparse, appended-child}
 
 -- where a sparse cell has a character among its children; past them where it has none

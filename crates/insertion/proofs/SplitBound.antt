@@ -2,7 +2,7 @@
 use mathlib.Core.Path.{_≡_, refl, ap}
 use mathlib.Core.Logic.{_≢_}
 use mathlib.Core.Bool.{Bool, true, false}
-use mathlib.Core.List.{List, [], _∷_}
+use mathlib.Core.List.{List, _∷_}
 use native.Mathlib.Omega.{arith}
 use native.Mathlib.Decide.{ℕ-discrete}
 use Prim.Native.Nat.{ℕ, zero, suc, _+_, _*_, _≤_, _<_}
@@ -11,9 +11,9 @@ use lib.ListN.{length}
 use borrow.Author.Tests.{eq-eqb, ne-eqb}
 use Rattle.cells.specs.Choice.{pick}
 use Rattle.cells.proofs.Choice.{absurd-false}
-use Rattle.order_words.proofs.Coding.{length-digits}
 use Rattle.nodes.specs.Pointer.{wordTo}
-use Rattle.nodes.specs.Sparse.{someWord, sparseCharacter, sparseWord, sparseOrder, sparseDigits, sparseCount, childFrom, sparseChild}
+use Rattle.nodes.specs.Sparse.{someWord, sparseCharacter, sparseWord, sparseCount, childFrom, sparseChild}
+use Rattle.nodes.proofs.SparseSteps.{count-small}
 use Rattle.insertion.specs.NewCells.{blank, withWords}
 use Rattle.insertion.specs.Built.{allocate}
 use Rattle.insertion.specs.SplitBuild.{Row, tableRow, rows, endRow, midRow, splitOf}
@@ -88,10 +88,6 @@ pointers-sparse bytes (suc positions) from count x =
     let later = pointers-sparse bytes positions (from + 1) count x in
     omega (arith, first, later)
 
-pub count-most : (bytes : List ℕ) → sparseCount bytes ≤ 7
-unfolding sparseDigits
-count-most bytes = length-digits 7 (sparseOrder bytes)
-
 -- a split: an end for each child at most, and five cells more
 module _ (number : ℕ → ℕ) where
   table-most : (words : ℕ → ℕ) (cells : List (List ℕ)) → length (tableRow number words cells .cells) ≤ length cells + pointers words 8 0
@@ -163,5 +159,5 @@ module _ (number : ℕ → ℕ) where
         splitOf-most (withChild (sparseChild bytes) x word) cells,
         pointers-with (sparseChild bytes) x word 256 0,
         pointers-sparse bytes (sparseCount bytes) 0 256 0,
-        count-most bytes,
+        count-small bytes,
       )

@@ -18,8 +18,8 @@ use Rattle.nodes.proofs.Pointers.{usable-low, usable-inside, made-split}
 use Rattle.nodes.proofs.Frame.{below-split, end-join, mid-join, head-is, split-join}
 use Rattle.insertion.specs.Built.{Built, allocate}
 use Rattle.insertion.specs.SetChild.{withChild}
-use Rattle.insertion.proofs.Claims.{Stands, Holds, Held, numbers, numbers-more, Placed}
-use Rattle.insertion.proofs.Rooms.{allocate-room, allocate-names, allocate-fine, allocate-stands}
+use Rattle.insertion.proofs.Claims.{Stands, Holds, Held, numbers, Placed}
+use Rattle.insertion.proofs.Rooms.{allocate-numbers, allocate-room, allocate-names, allocate-fine, allocate-stands}
 
 -- the word of kind 1C to a usable cell
 module _ (layout : Layout) (c : ℕ) (free : usable layout c ≡ true) where
@@ -70,11 +70,6 @@ module _ (layout : Layout) (small : layout .cells ≤ 2048) (number : ℕ → �
     unfolding splitChild
     head-child y = ap (λ (l : List ℕ). wordBelow m′ (wordBelow m′ (headWord l (y / 64)) (y / 8 % 8)) (y % 8)) (head-stands .bytes)
 
-    allocated : (c : ℕ) → occurrences c (numbers number (allocate number 0x1C bytes cells .cells))
-        ≡ occurrences c (number (length cells) ∷ []) + occurrences c (numbers number cells)
-    unfolding allocate
-    allocated c = numbers-more number c bytes cells
-
     -- its children are those that its words give, and it visits its own cell and those below
     pub head-placed : (Y : Node) (x : ℕ) (b : Built) (below : List ℕ) → validHead bytes ≡ true
         → gather (λ i. under (midCells layout m′) (headWord bytes i)) 4 0 ≡ some below
@@ -88,7 +83,7 @@ module _ (layout : Layout) (small : layout .cells ≤ 2048) (number : ℕ → �
           reads = head-reads below valid found;
           value = refl;
           child = λ y character. head-child y ∙ children y character;
-          most = λ c. omega (arith, occurrences-append c (number (length cells) ∷ []) below, allocated c, most c);
-          least = λ c. omega (arith, occurrences-append c (number (length cells) ∷ []) below, allocated c, least c);
+          most = λ c. omega (arith, occurrences-append c (number (length cells) ∷ []) below, allocate-numbers number c 0x1C bytes cells, most c);
+          least = λ c. omega (arith, occurrences-append c (number (length cells) ∷ []) below, allocate-numbers number c 0x1C bytes cells, least c);
           fine = allocate-fine layout small number cells (head-stands .free) 0x1C bytes (omega arith) (omega arith);
         }

@@ -30,7 +30,8 @@ use Rattle.insertion.specs.SplitBuild.{splitCopied}
 use Rattle.insertion.specs.SetChild.{withChild}
 use Rattle.insertion.proofs.Claims.{Stands, Holds, Held, holds-from, numbers-more, Fine, Placed}
 use Rattle.insertion.proofs.CellBytes.{headCopy-cell}
-use Rattle.insertion.proofs.SplitWords.{some-word-is, table-set, head-set, headCopy-word, tableCopy-length, tableCopy-word, bits-same}
+use Rattle.nodes.proofs.WordRows.{some-word-is}
+use Rattle.insertion.proofs.SplitWords.{table-set, head-set, headCopy-word, tableCopy-length, tableCopy-word, bits-same}
 use Rattle.insertion.proofs.SplitCells.{made-nonzero, made-bounded, made-below, made-end, made-mid, allocate-older, head-placed}
 
 -- words with one of them replaced by a pointer: some word is a pointer, and what is gathered under them

@@ -19,7 +19,8 @@ use Rattle.insertion.specs.Built.{Built, allocate}
 use Rattle.insertion.specs.SplitBuild.{Row, rows, endRow, midRow, splitOf}
 use Rattle.insertion.specs.SetChild.{withChild}
 use Rattle.insertion.proofs.Claims.{Holds, Held, holds-from, Fine, Placed}
-use Rattle.insertion.proofs.SplitWords.{pick-bounded, some-word-is, head-words, bits-join}
+use Rattle.nodes.proofs.WordRows.{some-word-is}
+use Rattle.insertion.proofs.SplitWords.{pick-bounded, head-words, bits-join}
 use Rattle.insertion.proofs.SplitCells.{allocate-older, head-placed, made-below, made-end, made-mid}
 use Rattle.insertion.proofs.SplitRows.{Made, table-holds, rows-holds, rows-made, table-made}
 

@@ -22,7 +22,8 @@ use Rattle.nodes.proofs.Gather.{gather-join, gather-same, under-zero, under-wor
 use Rattle.insertion.specs.NewCells.{blank, withWords}
 use Rattle.insertion.specs.SplitBuild.{Row, tableRow, rows}
 use Rattle.insertion.proofs.Claims.{Holds, numbers, numbers-more}
-use Rattle.insertion.proofs.SplitWords.{pick-bounded, some-word-is, some-word-at, some-word-not, table-words}
+use Rattle.nodes.proofs.WordRows.{some-word-is, some-word-at, some-word-not}
+use Rattle.insertion.proofs.SplitWords.{pick-bounded, table-words}
 use Rattle.insertion.proofs.SplitCells.{made-nonzero, made-bounded}
 
 -- a table's row, by whether some word of it is a pointer

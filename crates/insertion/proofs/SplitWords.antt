@@ -9,51 +9,16 @@ use native.Mathlib.Omega.{arith}
 use Prim.Native.Nat.{ℕ, zero, suc, _+_, _*_, _/_, _%_, _≤_, _<_}
 use lib.Dec.{eqb}
 use lib.ListN.{length}
-use borrow.Author.Tests.{eqb-false, eq-eqb, ne-eqb}
+use borrow.Author.Tests.{eq-eqb, ne-eqb}
 use Rattle.cells.specs.Choice.{pick}
 use Rattle.cells.specs.Bytes.{IsBytes}
 use Rattle.cells.specs.Word.{wordAt, withWord}
 use Rattle.cells.specs.Memory.{Memory}
-use Rattle.cells.proofs.Choice.{absurd-bool, absurd-false}
 use Rattle.cells.proofs.Words.{zeros-byte, length-withWord, word-bound, word-same, word-other}
-use Rattle.nodes.specs.Sparse.{someWord, sparseCharacter, sparseCount, childFrom, sparseChild}
+use Rattle.nodes.specs.Sparse.{sparseCharacter, sparseCount, childFrom, sparseChild}
 use Rattle.nodes.specs.Split.{headWord, tableWord, wordBelow}
 use Rattle.insertion.specs.NewCells.{blank, tableCopy, headCopy, withWords}
 use Rattle.insertion.proofs.CellBytes.{blank-cell}
-
--- some word is a pointer just where one at a position is
-pub some-word-is : (words : ℕ → ℕ) (count from q : ℕ) → from ≤ q → q < from + count → words q ≢ 0 → someWord words count from ≡ true
-unfolding someWord
-some-word-is words zero from q low high other = absurd (omega arith)
-some-word-is words (suc count) from q low high other = elim (ℕ-discrete from q) [
-  | yes here ↦
-      let first : words from ≢ 0 = λ e. other (ap words (sym here) ∙ e) in
-      rw (ne-eqb (words from) 0 first)
-  | no later ↦ go (eqb (words from) 0) (some-word-is words count (from + 1) q (omega arith) (omega arith) other)
-]
-  where
-    go : (t : Bool) → someWord words count (from + 1) ≡ true → pick t (someWord words count (from + 1)) true ≡ true
-    go true e = e
-    go false e = refl
-
-pub some-word-at : (words : ℕ → ℕ) (count from : ℕ) → someWord words count from ≡ true
-    → (q : ℕ) × (from ≤ q) × (q < from + count) × (words q ≢ 0)
-unfolding someWord
-some-word-at words zero from e = absurd-false e
-some-word-at words (suc count) from e = go (eqb (words from) 0) refl e (some-word-at words count (from + 1))
-  where
-    go : (t : Bool) → eqb (words from) 0 ≡ t → pick t (someWord words count (from + 1)) true ≡ true
-        → (someWord words count (from + 1) ≡ true → (q : ℕ) × (from + 1 ≤ q) × (q < from + 1 + count) × (words q ≢ 0))
-        → (q : ℕ) × (from ≤ q) × (q < from + suc count) × (words q ≢ 0)
-    go true none e later = let r = later e in (r .0, omega (arith, r .1), omega (arith, r .2), r .3)
-    go false here e later = (from, omega arith, omega arith, eqb-false (words from) 0 here)
-
-pub some-word-not : (words : ℕ → ℕ) (count from : ℕ) → someWord words count from ≡ false
-    → (q : ℕ) → from ≤ q → q < from + count → words q ≡ 0
-some-word-not words count from e q low high = elim (ℕ-discrete (words q) 0) [
-  | yes none ↦ none
-  | no other ↦ absurd-bool (sym (some-word-is words count from q low high other) ∙ e)
-]
 
 -- the chosen of two words is a word
 pub pick-bounded : (t : Bool) {a b : ℕ} → a < 4294967296 → b < 4294967296 → pick t a b < 4294967296

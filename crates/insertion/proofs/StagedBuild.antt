@@ -1,18 +1,15 @@
 -- One character of the build: the child of a node, its word without its value, and its child set.
 use mathlib.Core.Path.{_≡_, refl, sym, ap, _∙_, subst}
 use mathlib.Core.List.{List, [], _∷_}
-use mathlib.Core.Option.{Option, some}
-use native.Mathlib.Decide.{ℕ-discrete}
-use native.Mathlib.Omega.{arith}
+use mathlib.Core.Option.{some}
 use Prim.Native.Nat.{ℕ, _<_}
-use types.Run.{miss}
-use borrow.Author.Tests.{eq-eqb, ne-eqb}
+use types.Run.{hit, miss}
 use Rattle.cells.specs.Word.{wordAt}
 use Rattle.cells.specs.Memory.{Memory}
 use Rattle.nodes.specs.Layout.{Layout}
 use Rattle.nodes.specs.Pointer.{Pointer, pointer}
 use Rattle.nodes.specs.Prefix.{prefixLink}
-use Rattle.nodes.specs.Step.{found, missing, broken, wordStep, childStep}
+use Rattle.nodes.specs.Step.{wordStep, childStep}
 use Rattle.nodes.specs.Node.{Node, read}
 use Rattle.nodes.specs.Coded.{pointerOf, stepOf}
 use Rattle.nodes.specs.declared.pointer.Pointer.{Pointer as CodedPointer}
@@ -21,61 +18,28 @@ use Rattle.nodes.specs.declared.step.ChildStep.{ChildStep}
 use Rattle.nodes.specs.declared.step.ChildStep.the-variants.{Found, Missing, Broken}
 use Rattle.nodes.proofs.Rest.{Among}
 use Rattle.nodes.proofs.StepRead.{step-read}
+use Rattle.trees.proofs.LookSteps.{found-word, stopped-word}
 use Rattle.insertion.specs.Built.{Built, chainOver}
 use Rattle.insertion.specs.SplitBuild.{splitCopied}
 use Rattle.insertion.specs.SetChild.{chainSet, sparseSet, setChild}
 use Rattle.insertion.specs.Build.{wordAside, childOf}
 use Rattle.insertion.specs.Staged.{Fitting}
+use Rattle.insertion.proofs.Aside.{child-of}
 
--- what a step says of the child word
-step-some : (w v : ℕ) → found v ≡ wordStep w → v ≡ w
-unfolding wordStep
-step-some w v e = elim (ℕ-discrete w 0) [
-  | yes none-there ↦
-      let is : found v ≡ missing = rw (eq-eqb w 0 none-there) at e in
-      let clash : _≡_ {A = ℕ} 0 1 = cc in
-      absurd (omega arith)
-  | no other ↦ let is : found v ≡ found w = rw (ne-eqb w 0 other) at e in cc
-]
-
-step-none : (w : ℕ) → missing ≡ wordStep w → 0 ≡ w
-unfolding wordStep
-step-none w e = elim (ℕ-discrete w 0) [
-  | yes none-there ↦ sym none-there
-  | no other ↦
-      let is : missing ≡ found w = rw (ne-eqb w 0 other) at e in
-      let clash : _≡_ {A = ℕ} 0 1 = cc in
-      absurd (omega arith)
-]
-
-step-whole : (w : ℕ) → broken ≡ wordStep w → 0 ≡ w
-unfolding wordStep
-step-whole w e = elim (ℕ-discrete w 0) [
-  | yes none-there ↦ sym none-there
-  | no other ↦
-      let is : broken ≡ found w = rw (ne-eqb w 0 other) at e in
-      let clash : _≡_ {A = ℕ} 0 1 = cc in
-      absurd (omega arith)
-]
-
--- the child of a node that is read
-pub child-is : (o : Option Node) (X : Node) (x : ℕ) → o ≡ some X → X .child x ≡ childOf o x
-unfolding childOf
-child-is o X x e = rw e
-
+-- what a step says of the child of a node that is read
 module _ (layout : Layout) (m : Memory) (word x : ℕ) (X : Node) (node : read layout m word ≡ some X) (step : ChildStep)
     (told : stepOf step ≡ childStep layout m word x) (near : x < 256) where
   told-step : stepOf step ≡ wordStep (X .child x)
   told-step = told ∙ step-read layout m word X x node near
 
   pub child-found : (child : ℕ) → step ≡ Found child → child ≡ childOf (read layout m word) x
-  child-found child case = step-some (X .child x) child (ap stepOf (sym case) ∙ told-step) ∙ child-is (read layout m word) X x node
+  child-found child case = found-word (X .child x) child (ap stepOf (sym case) ∙ told-step) .1 ∙ sym (child-of (read layout m word) X x node)
 
   pub child-missing : step ≡ Missing → 0 ≡ childOf (read layout m word) x
-  child-missing case = step-none (X .child x) (ap stepOf (sym case) ∙ told-step) ∙ child-is (read layout m word) X x node
+  child-missing case = sym (child-of (read layout m word) X x node ∙ stopped-word (X .child x) Missing (hit (1 ∷ 2 ∷ []) 1 tt) (ap stepOf (sym case) ∙ told-step))
 
   pub child-broken : step ≡ Broken → 0 ≡ childOf (read layout m word) x
-  child-broken case = step-whole (X .child x) (ap stepOf (sym case) ∙ told-step) ∙ child-is (read layout m word) X x node
+  child-broken case = sym (child-of (read layout m word) X x node ∙ stopped-word (X .child x) Broken (hit (1 ∷ 2 ∷ []) 2 tt) (ap stepOf (sym case) ∙ told-step))
 
 -- the word without the value
 module _ (layout : Layout) (m : Memory) (word : ℕ) (p : CodedPointer) (coded : pointerOf p ≡ pointer layout word) where

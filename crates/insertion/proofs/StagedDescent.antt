@@ -4,7 +4,7 @@ use mathlib.Core.List.{List, _∷_}
 use mathlib.Core.Option.{Option, none, some}
 use native.Mathlib.Omega.{arith}
 use native.Mathlib.Numerals.{add-one}
-use Prim.Native.Nat.{ℕ, zero, suc, _+_, _-_, _≤_, _<_}
+use Prim.Native.Nat.{ℕ, zero, suc, _+_, _≤_, _<_}
 use lib.ListN.{length, getD, drop, length-drop, drop-of-length-le}
 use lib.Seq.{drop-cons}
 use Rattle.cells.specs.Memory.{Memory}
@@ -21,7 +21,7 @@ use Rattle.insertion.specs.Build.{wordAside, valueAside, putBack, childO
 use Rattle.insertion.specs.Staged.{Fitting, HasTree}
 use Rattle.insertion.proofs.Bound.{build-bound}
 use Rattle.insertion.proofs.Aside.{aside}
-use Rattle.insertion.proofs.StagedBuild.{child-is}
+use Rattle.insertion.proofs.Aside.{child-of}
 
 -- the value of a node is the one set aside
 value-aside : (layout : Layout) (m : Memory) (p : Pointer) → pointerValue m p ≡ valueAside layout m p
@@ -58,7 +58,7 @@ module _ (layout : Layout) (m : Memory) (word left : ℕ) (has : HasTree layout 
       go (suc d) deep valid =
           let q = tree-cut layout m (suc d) word (has .cells) valid in
           let t = tree-below layout m d word x (has .cells) (q .0) near valid (q .2) in
-          let same : child ≡ q .0 .child x = is ∙ sym (child-is (read layout m word) (q .0) x (q .2)) in
+          let same : child ≡ q .0 .child x = is ∙ child-of (read layout m word) (q .0) x (q .2) in
           record { depth = d; deep = omega arith; cells = t .0; valid = ap (tree layout m d) same ∙ t .1 }
 
 module _ (layout : Layout) (number : ℕ → ℕ) (m : Memory) where
@@ -82,7 +82,7 @@ module _ (layout : Layout) (number : ℕ → ℕ) (m : Memory) where
 
   -- one character of the key, with what the parts are
   module _ (word value i : ℕ) (key : List ℕ) (child bare : ℕ) (below : Built) (inside : i < length key)
-      (child-of : child ≡ childOf (read layout m word) (getD key i 0)) (below-is : below ≡ build layout number m child (drop (i + 1) key) value)
+      (child-told : child ≡ childOf (read layout m word) (getD key i 0)) (below-is : below ≡ build layout number m child (drop (i + 1) key) value)
       (bare-is : bare ≡ wordAside layout m (pointer layout word) word) where
     rest : drop i key ≡ getD key i 0 ∷ drop (i + 1) key
     rest = drop-cons key i 0 inside ∙ ap (λ (n : ℕ). getD key i 0 ∷ drop n key) (sym (add-one i))
@@ -93,7 +93,7 @@ module _ (layout : Layout) (number : ℕ → ℕ) (m : Memory) where
     set-is =
         ap (λ (w : ℕ). setChild layout number m (pointer layout w) (getD key i 0) below) bare-is
         ∙ ap (setChild layout number m (pointer layout (wordAside layout m (pointer layout word) word)) (getD key i 0))
-        (below-is ∙ ap (λ (w : ℕ). build layout number m w (drop (i + 1) key) value) child-of)
+        (below-is ∙ ap (λ (w : ℕ). build layout number m w (drop (i + 1) key) value) child-told)
 
     whole : putBack layout number (valueOf layout m word) (setChild layout number m (pointer layout bare) (getD key i 0) below)
         ≡ build layout number m word (drop i key) value

@@ -1,7 +1,7 @@
 -- What a build has made so far.
 use mathlib.Core.Bool.{Bool, true, false, _&&_}
 use mathlib.Core.List.{List, [], _∷_}
-use Prim.Native.Nat.{ℕ, zero, suc, _+_, _*_, _%_}
+use Prim.Native.Nat.{ℕ, zero, suc, _%_}
 use lib.Dec.{ltb}
 use lib.ListN.{length, set}
 use Rattle.cells.specs.Choice.{pick}

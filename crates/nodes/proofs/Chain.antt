@@ -2,6 +2,7 @@
 use mathlib.Core.Path.{_≡_, refl, _∙_}
 use mathlib.Core.Logic.{_≢_}
 use mathlib.Core.List.{List, [], _∷_}
+use mathlib.Core.Option.{none}
 use Prim.Native.Nat.{ℕ, _+_}
 use borrow.Author.Tests.{eq-eqb, ne-eqb}
 use Rattle.nodes.specs.Pointer.{wordTo}
@@ -25,6 +26,10 @@ unfolding chainChild
 chain-child-end bytes c = refl
 
 -- the parts of a node of a chain; the cell is visited at the last place only
+pub chain-value : (bytes : List ℕ) (c k : ℕ) → chainNode bytes c k .value ≡ none
+unfolding chainNode
+chain-value bytes c k = refl
+
 pub chain-child : (bytes : List ℕ) (c k x : ℕ) → chainNode bytes c k .child x ≡ oneChild (chainCharacter bytes k) (chainChild bytes c k) x
 unfolding chainNode
 chain-child bytes c k x = refl

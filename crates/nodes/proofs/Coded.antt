@@ -8,7 +8,7 @@ use Rattle.nodes.specs.Pointer.Pointer.{nothing, leaf, chain, split, spa
 use Rattle.nodes.specs.Coded.{pointerOf}
 use Rattle.nodes.specs.declared.pointer.Pointer.{Pointer as CodedPointer}
 use Rattle.nodes.specs.declared.pointer.Pointer.the-variants.{Nothing, Leaf, Chain, Split, Sparse, Prefix, Invalid}
-use Rattle.nodes.proofs.Pointers.{names, usable-inside, pointer-zero, leaf-value}
+use Rattle.nodes.proofs.Pointers.{names, usable-inside, leaf-value}
 
 module _ (layout : Layout) (p : CodedPointer) (w : ℕ) (coded : pointerOf p ≡ pointer layout w) where
   -- what the word names

@@ -1,8 +1,8 @@
 -- The first character whose step is not missing.
-use mathlib.Core.Path.{_≡_, refl, ap, sym, _∙_}
-use mathlib.Core.Option.{none, some}
+use mathlib.Core.Path.{_≡_, refl, ap, _∙_}
+use mathlib.Core.Option.{some}
 use Prim.Native.Nat.{ℕ, zero, suc, _+_, _-_, _≤_, _<_}
-use native.Mathlib.Decide.{decLt, ℕ-discrete}
+use native.Mathlib.Decide.{ℕ-discrete}
 use native.Mathlib.Omega.{arith}
 use borrow.Author.Tests.{eq-eqb, ne-eqb}
 use Rattle.cells.specs.Memory.{Memory}
@@ -10,7 +10,7 @@ use Rattle.nodes.specs.Layout.{Layout}
 use Rattle.nodes.specs.Node.{Node, read}
 use Rattle.nodes.specs.Step.{Step, found, missing, broken, wordStep, childStep}
 use Rattle.nodes.specs.Least.{leastFrom}
-use Rattle.nodes.specs.LeastChild.{LeastChild, least, absent, unreadable, earlier, firstStep, leastStep, withChild}
+use Rattle.nodes.specs.LeastChild.{least, absent, unreadable, earlier, firstStep, leastStep, withChild}
 use Rattle.nodes.proofs.StepWays.{word-missing, word-found}
 use Rattle.nodes.proofs.StepRead.{step-read}
 

@@ -60,8 +60,8 @@ unfolding wordBelow
 below-word m w i other = rw (ne-eqb w 0 other)
 
 -- a cell is visited no more often than it is read: what this asks of lists
-occurrences-cons : (c x : ℕ) (xs ys : List ℕ) → occurrences c xs ≤ occurrences c ys → occurrences c (x ∷ xs) ≤ occurrences c (x ∷ ys)
-occurrences-cons c x xs ys h = elim (ℕ-discrete c x) [
+cons-most : (c x : ℕ) (xs ys : List ℕ) → occurrences c xs ≤ occurrences c ys → occurrences c (x ∷ xs) ≤ occurrences c (x ∷ ys)
+cons-most c x xs ys h = elim (ℕ-discrete c x) [
   | yes e ↦ omega (arith, occurrences-same c x xs e, occurrences-same c x ys e)
   | no n ↦ omega (arith, occurrences-cons-other c x xs n, occurrences-cons-other c x ys n)
 ]
@@ -206,7 +206,7 @@ module _ (layout : Layout) where
   prefix-cells m c X e x =
       let p = prefix-cut m c X e in
       let linked : Within x (p .0) = plain-cells m (pointer layout (prefixLink (m c))) (p .0) (p .2) x in
-      subst (Within x) (p .3) (occurrences-cons x c (p .0 .cells) (p .0 .footprint) linked)
+      subst (Within x) (p .3) (cons-most x c (p .0 .cells) (p .0 .footprint) linked)
 
   readAt-cells : (m : Memory) (p : Pointer) (X : Node) → readAt layout m p ≡ some X → (x : ℕ) → Within x X
   unfolding readAt
@@ -268,17 +268,17 @@ module _ (layout : Layout) where
         (λ y h. ap (λ s. headWord s y) (agree-head m m′ c cs agree)) (sym (head-is m c) ∙ e) (agree-tail m m′ c cs agree)
 
     -- the cell that the word of an end or mid names is alike
-    end-agree : (w : ℕ) (a : List ℕ) → under (endCells layout m) w ≡ some a → Agree m m′ a → w ≢ 0 → m (w / 32) ≡ m′ (w / 32)
+    pub end-agree : (w : ℕ) (a : List ℕ) → under (endCells layout m) w ≡ some a → Agree m m′ a → w ≢ 0 → m (w / 32) ≡ m′ (w / 32)
     end-agree w a e agree other =
         let p = end-cut m w a (sym (under-word (endCells layout m) w other) ∙ e) in
         subst (λ d. m d ≡ m′ d) (sym (split-word-cell w (p .0) (p .1))) (agree-head m m′ (p .0) [] (subst (Agree m m′) (sym (p .3)) agree))
 
-    mid-agree : (w : ℕ) (a : List ℕ) → under (midCells layout m) w ≡ some a → Agree m m′ a → w ≢ 0 → m (w / 32) ≡ m′ (w / 32)
+    pub mid-agree : (w : ℕ) (a : List ℕ) → under (midCells layout m) w ≡ some a → Agree m m′ a → w ≢ 0 → m (w / 32) ≡ m′ (w / 32)
     mid-agree w a e agree other =
         let p = mid-cut m w a (sym (under-word (midCells layout m) w other) ∙ e) in
         subst (λ d. m d ≡ m′ d) (sym (split-word-cell w (p .0) (p .2))) (agree-head m m′ (p .0) (p .1) (subst (Agree m m′) (sym (p .5)) agree))
 
-    below-same : (w i : ℕ) → (w ≢ 0 → m (w / 32) ≡ m′ (w / 32)) → wordBelow m w i ≡ wordBelow m′ w i
+    pub below-same : (w i : ℕ) → (w ≢ 0 → m (w / 32) ≡ m′ (w / 32)) → wordBelow m w i ≡ wordBelow m′ w i
     below-same w i same = elim (ℕ-discrete w 0) [
       | yes zero-word ↦
           ap (λ v. wordBelow m v i) zero-word ∙ below-zero m i ∙ sym (below-zero m′ i) ∙ ap (λ v. wordBelow m′ v i) (sym zero-word)

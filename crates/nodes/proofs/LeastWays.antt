@@ -12,7 +12,7 @@ use Rattle.nodes.specs.Chain.{chainCharacter, chainChild}
 use Rattle.nodes.specs.Sparse.{validSparse}
 use Rattle.nodes.specs.Split.{headWord, validHead}
 use Rattle.nodes.specs.Prefix.{prefixLink, validPrefix}
-use Rattle.nodes.specs.Step.{Step, found, missing, broken, onward, chainStep, sparseStep, tableStep, splitStep, plainStep, prefixStep, stepAt, childStep}
+use Rattle.nodes.specs.Step.{Step, missing, onward, chainStep, sparseStep, tableStep, splitStep, plainStep, prefixStep, childStep}
 use Rattle.nodes.specs.LeastChild.{LeastChild, least, absent, unreadable, firstStep, leastStep}
 use Rattle.nodes.specs.Coded.{pointerOf, stepOf}
 use Rattle.nodes.specs.declared.pointer.Pointer.{Pointer as CodedPointer}

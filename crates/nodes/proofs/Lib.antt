@@ -15,6 +15,7 @@ pub mod StepWays
 pub mod ValueWays
 pub mod StepRead
 pub mod FirstStep
+pub mod SparseChildren
 pub mod SparseLeast
 pub mod LeastWays
 pub mod Meaning

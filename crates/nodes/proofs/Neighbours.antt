@@ -1,25 +1,24 @@
 -- A list rises just where each number is below the next.
 use mathlib.Core.Path.{_≡_, refl}
-use mathlib.Core.Bool.{Bool, true, false, _&&_}
+use mathlib.Core.Bool.{Bool, true, false, _&&_, and-false}
 use mathlib.Core.List.{List, [], _∷_, map}
-use Prim.Native.Nat.{ℕ, zero, suc, _≤_, _<_}
+use Prim.Native.Nat.{ℕ, zero, suc, _+_, _≤_, _<_}
+use native.Mathlib.Numerals.{add-one}
 use native.Mathlib.Omega.{arith}
 use lib.Dec.{ltb}
-use lib.ListN.{length, getD}
+use lib.ListN.{length, getD, drop}
+use lib.Seq.{drop-cons}
 use borrow.Author.Tests.{lt-ltb, le-ltb, ltb-true}
 use Rattle.cells.specs.Occurrences.{all}
+use Rattle.cells.proofs.Choice.{both-left, both-right, all-weaker}
+use Rattle.cells.proofs.Occurrences.{occurrences-at, all-at}
 use Rattle.order_words.specs.Order.{rising}
-use Rattle.order_words.proofs.Rising.{all-weaker}
 
 -- two neighbours
 next-decides : (y : ℕ) (zs : List ℕ) (x : ℕ) → x < y → (t : Bool) → all (ltb y) zs ≡ t → all (ltb x) zs && (t && rising zs) ≡ t && rising zs
 next-decides y zs x less true e =
-    rw (all-weaker (ltb y) (ltb x) (λ z above. lt-ltb x z (omega (arith, ltb-true y z above))) zs e)
-next-decides y zs x less false e = fails (all (ltb x) zs)
-  where
-    fails : (t : Bool) → t && false ≡ false
-    fails true = refl
-    fails false = refl
+    rw (all-weaker (ltb y) (ltb x) zs (λ z above. lt-ltb x z (omega (arith, ltb-true y z above))) e)
+next-decides y zs x less false e = and-false (all (ltb x) zs)
 
 pub rising-next : (x y : ℕ) (zs : List ℕ) → x < y → rising (x ∷ y ∷ zs) ≡ rising (y ∷ zs)
 unfolding rising all
@@ -29,11 +28,25 @@ pub rising-falls : (x y : ℕ) (zs : List ℕ) → y ≤ x → rising (x ∷ y �
 unfolding rising all
 rising-falls x y zs most = rw (le-ltb x y most)
 
+-- from an index on: the element there, then the rest from the next one on
+pub rest-more : (l : List ℕ) (i : ℕ) → i < length l → drop i l ≡ getD l i 0 ∷ drop (i + 1) l
+rest-more l i inside = rw (add-one i) (drop-cons l i 0 inside)
+
 pub rising-short : (l : List ℕ) → length l ≤ 1 → rising l ≡ true
 unfolding rising all
 rising-short [] short = refl
 rising-short (x ∷ []) short = refl
 rising-short (x ∷ y ∷ zs) short = absurd (omega arith)
+
+-- a rising list rises between any two of its places
+pub rising-at : (l : List ℕ) → rising l ≡ true → (i j : ℕ) → i < j → j < length l → getD l i 0 < getD l j 0
+unfolding rising
+rising-at [] e i j order inside = absurd (omega arith)
+rising-at (x ∷ xs) e i zero order inside = absurd (omega arith)
+rising-at (x ∷ xs) e zero (suc j) order inside =
+    ltb-true x (getD xs j 0) (all-at (ltb x) xs (both-left (all (ltb x) xs) (rising xs) e) (getD xs j 0) (occurrences-at xs j 0 (omega arith)))
+rising-at (x ∷ xs) e (suc i) (suc j) order inside =
+    rising-at xs (both-right (all (ltb x) xs) (rising xs) e) i j (omega arith) (omega arith)
 
 -- an element of a list mapped
 pub map-at : (f : ℕ → ℕ) (l : List ℕ) (i : ℕ) → i < length l → getD (map f l) i 0 ≡ f (getD l i 0)

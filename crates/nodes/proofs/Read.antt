@@ -1,20 +1,33 @@
 -- The node that a word names, by the kind of its pointer.
-use mathlib.Core.Path.{_≡_, refl, sym, _∙_}
+use mathlib.Core.Path.{_≡_, refl, sym, ap, _∙_}
 use mathlib.Core.Logic.{_≢_}
 use mathlib.Core.Bool.{true}
 use mathlib.Core.List.{List}
-use mathlib.Core.Option.{some}
+use mathlib.Core.Option.{none, some}
 use Prim.Native.Nat.{ℕ}
 use Rattle.cells.specs.Memory.{Memory}
+use Rattle.cells.proofs.Choice.{never}
 use Rattle.nodes.specs.Layout.{Layout}
-use Rattle.nodes.specs.Pointer.{pointer}
-use Rattle.nodes.specs.Pointer.Pointer.{leaf, chain, split, sparse, prefix}
+use Rattle.nodes.specs.Pointer.{Pointer, pointer}
+use Rattle.nodes.specs.Pointer.Pointer.{nothing, leaf, chain, split, sparse, prefix, invalid}
 use Rattle.nodes.specs.Chain.{chainChild}
 use Rattle.nodes.specs.Sparse.{validSparse}
 use Rattle.nodes.specs.Split.{validHead, headCells}
 use Rattle.nodes.specs.Prefix.{prefixValue, prefixLink, validPrefix}
 use Rattle.nodes.specs.Node.{Node, childless, chainNode, sparseNode, splitNode, prefixed, plain, readAt, read}
 use Rattle.nodes.proofs.Frame.{chain-cut, split-cut, sparse-cut, prefix-cut, read-is, plain-read}
+use Rattle.nodes.proofs.Chain.{chain-value}
+
+-- a chain, sparse or split has no value
+pub plain-value : (layout : Layout) (m : Memory) (p : Pointer) (X : Node) → plain layout m p ≡ some X → X .value ≡ none
+unfolding plain
+plain-value layout m nothing X e = never e
+plain-value layout m (leaf v) X e = never e
+plain-value layout m (chain c k) X e = ap (λ (Z : Node). Z .value) (sym (chain-cut layout m c k X e .1)) ∙ chain-value (m c) c k
+plain-value layout m (split c) X e = ap (λ (Z : Node). Z .value) (sym (split-cut layout m c X e .3))
+plain-value layout m (sparse c) X e = ap (λ (Z : Node). Z .value) (sym (sparse-cut layout m c X e .1))
+plain-value layout m (prefix c) X e = never e
+plain-value layout m invalid X e = never e
 
 module _ (layout : Layout) (m : Memory) (w : ℕ) where
   -- a plain node is the node of its word

@@ -8,7 +8,7 @@ use denote.Enum.Declared.{tagOf}
 use Rattle.cells.specs.Memory.{Memory}
 use Rattle.nodes.specs.Layout.{Layout}
 use Rattle.nodes.specs.Split.{splitCell}
-use Rattle.nodes.specs.Step.{Step, found, missing, broken, onward, plainStep, stepAt}
+use Rattle.nodes.specs.Step.{Step, broken, onward, plainStep, stepAt}
 use Rattle.nodes.specs.Value.{pointerValue}
 use Rattle.nodes.specs.Coded.{pointerOf, stepOf}
 use Rattle.nodes.specs.declared.pointer.Pointer.{Pointer as CodedPointer}

@@ -7,14 +7,13 @@ use mathlib.Core.Option.{Option, none, some}
 use Prim.Native.Nat.{ℕ, _/_, _%_, _<_}
 use native.Mathlib.Decide.{ℕ-discrete}
 use native.Mathlib.Omega.{arith}
-use borrow.Author.Tests.{eq-eqb, ne-eqb}
 use Rattle.cells.specs.Memory.{Memory}
 use Rattle.cells.proofs.Choice.{never}
 use Rattle.nodes.specs.Layout.{Layout}
 use Rattle.nodes.specs.Pointer.{Pointer, pointer}
 use Rattle.nodes.specs.Pointer.Pointer.{nothing, leaf, chain, split, sparse, prefix, invalid}
 use Rattle.nodes.specs.Chain.{chainCharacter, chainChild}
-use Rattle.nodes.specs.Split.{headWord, tableWord, validTable, under, endCells, midCells, wordBelow, splitChild}
+use Rattle.nodes.specs.Split.{headWord, validTable, under, endCells, midCells, wordBelow, splitChild}
 use Rattle.nodes.specs.Prefix.{prefixLink}
 use Rattle.nodes.specs.Node.{Node, oneChild, chainNode, plain, readAt, read}
 use Rattle.nodes.specs.Step.{Step, found, missing, broken, wordStep, onward, chainStep, sparseStep, tableIn, tableStep, splitStep, plainStep, prefixStep, stepAt, childStep}

@@ -1,22 +1,20 @@
 -- Each way through a step: the tests on it, and the step that they tell.
-use mathlib.Core.Path.{_≡_, refl, ap, sym, _∙_}
+use mathlib.Core.Path.{_≡_, ap, sym, _∙_}
 use mathlib.Core.Logic.{_≢_}
 use mathlib.Core.Bool.{Bool, true, false}
 use mathlib.Core.List.{List, [], _∷_}
-use mathlib.Core.Option.{none, some}
-use Prim.Native.Nat.{ℕ, _+_, _*_, _/_, _%_}
+use mathlib.Core.Option.{some}
+use Prim.Native.Nat.{ℕ, _/_, _%_}
 use lib.ListN.{length}
 use borrow.Author.Tests.{eq-eqb, ne-eqb}
-use Rattle.cells.specs.Word.{wordAt}
 use Rattle.cells.specs.Memory.{Memory, memoryOf}
 use Rattle.cells.proofs.Memory.{memory-length}
 use Rattle.nodes.specs.Layout.{Layout}
-use Rattle.nodes.specs.Pointer.{Pointer, pointer}
-use Rattle.nodes.specs.Pointer.Pointer.{split}
+use Rattle.nodes.specs.Pointer.{pointer}
 use Rattle.nodes.specs.Chain.{chainCharacter, chainChild}
 use Rattle.nodes.specs.Sparse.{validSparse, sparseChild}
-use Rattle.nodes.specs.Split.{headWord, tableWord, validHead, validTable, splitCell}
-use Rattle.nodes.specs.Prefix.{prefixValue, prefixLink, validPrefix}
+use Rattle.nodes.specs.Split.{headWord, tableWord, validHead, validTable}
+use Rattle.nodes.specs.Prefix.{prefixLink, validPrefix}
 use Rattle.nodes.specs.Step.{Step, found, missing, broken, wordStep, onward, chainStep, sparseStep, tableIn, tableStep, splitStep, plainStep, prefixStep, stepAt, childStep}
 use Rattle.nodes.specs.Coded.{pointerOf, stepOf}
 use Rattle.nodes.specs.declared.pointer.Pointer.{Pointer as CodedPointer}

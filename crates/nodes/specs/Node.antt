@@ -1,5 +1,4 @@
 -- One node, read from its cells: every kind becomes one shape.
-use mathlib.Core.Bool.{Bool}
 use mathlib.Core.List.{List, [], _∷_}
 use mathlib.Core.Option.{Option, none, some}
 use Prim.Native.Nat.{ℕ}
@@ -9,7 +8,7 @@ use Rattle.cells.specs.Memory.{Memory}
 use Rattle.nodes.specs.Layout.{Layout}
 use Rattle.nodes.specs.Pointer.{Pointer, pointer}
 use Rattle.nodes.specs.Pointer.Pointer.{nothing, leaf, chain, split, sparse, prefix, invalid}
-use Rattle.nodes.specs.Chain.{chainCharacter, chainEnd, chainChild}
+use Rattle.nodes.specs.Chain.{chainCharacter, chainChild}
 use Rattle.nodes.specs.Sparse.{validSparse, sparseChild}
 use Rattle.nodes.specs.Split.{validHead, headCells, splitChild}
 use Rattle.nodes.specs.Prefix.{prefixValue, prefixLink, validPrefix}

@@ -1,5 +1,4 @@
 -- 01, "How a pointer reads".
-use mathlib.Core.Bool.{Bool}
 use Prim.Native.Nat.{ℕ, _-_, _*_, _+_, _/_, _%_}
 use lib.Dec.{leb, ltb, eqb}
 use Rattle.cells.specs.Choice.{pick}

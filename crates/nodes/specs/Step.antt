@@ -1,5 +1,4 @@
 -- One step down by a character, read from the cells on its way alone, so that it has an answer in any memory.
-use mathlib.Core.Bool.{Bool}
 use mathlib.Core.List.{List}
 use mathlib.Core.Option.{Option, none, some}
 use Prim.Native.Nat.{ℕ, _/_, _%_}

@@ -11,10 +11,10 @@ use lib.ListN.{length}
 use borrow.Author.Tests.{eq-eqb, ne-eqb}
 use Rattle.cells.specs.Choice.{pick}
 use Rattle.cells.specs.Occurrences.{occurrences}
+use Rattle.cells.proofs.Occurrences.{occurrences-none, occurrences-cons, occurrences-here}
 use Rattle.order_words.specs.Digits.{digits, encode, orderDigits}
 use Rattle.order_words.specs.Order.{place, validDigits, validOrder}
 use Rattle.order_words.specs.Extended.{extendedDigits, extendedOrder}
-use Rattle.order_words.proofs.Inserted.{occurrences-none, occurrences-cons, occurs-here}
 use Rattle.order_words.proofs.Valid.{at-least-two, at-most-six, digit-once, zero-before-one, digit-below, place-here, place-later, extended-valid}
 
 -- the digits of zero and of any other number, and the number of some digits
@@ -94,7 +94,7 @@ pub digits-encode-most : (most : ℕ) (ds : List ℕ) → length ds ≤ most →
 digits-encode-most most [] l b n = unfold encode in digits-zero most
 digits-encode-most zero (d ∷ ds) l b n = absurd (omega arith)
 digits-encode-most (suc most) (d ∷ ds) l b n =
-    let low = b d (occurs-here d ds) in
+    let low = b d (occurrences-here d ds) in
     let i = digits-encode-most most ds (omega arith) (below-later d ds b) (n .1) in
     let e = encode-cons d ds in
     let q : encode (d ∷ ds) % 6 ≡ d = omega arith in
@@ -107,13 +107,13 @@ encode-below zero [] l b = omega arith
 encode-below zero (d ∷ ds) l b = absurd (omega arith)
 encode-below (suc most) [] l b = omega (arith, encode-below most [] (omega arith) b)
 encode-below (suc most) (d ∷ ds) l b =
-    omega (arith, b d (occurs-here d ds), encode-below most ds (omega arith) (below-later d ds b))
+    omega (arith, b d (occurrences-here d ds), encode-below most ds (omega arith) (below-later d ds b))
 
 -- digits with no zero, and digits with one zero that stands below a one
 nonzero-lead : (ds : List ℕ) → occurrences 0 ds ≡ 0 → NoLeadingZero ds
 nonzero-lead [] z = tt
 nonzero-lead (d ∷ ds) z = elim (ℕ-discrete 0 d) [
-  | yes e ↦ absurd (omega (arith, occurs-here d ds, ap (λ n. occurrences n (d ∷ ds)) e))
+  | yes e ↦ absurd (omega (arith, occurrences-here d ds, ap (λ n. occurrences n (d ∷ ds)) e))
   | no n ↦
       ((λ q. n (omega (arith, q, encode-cons d ds))), nonzero-lead ds (omega (arith, z, occurrences-cons 0 d ds)))
 ]

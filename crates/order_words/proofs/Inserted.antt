@@ -4,29 +4,11 @@ use mathlib.Core.List.{List, [], _∷_}
 use native.Mathlib.Omega.{arith}
 use native.Mathlib.Decide.{decLt}
 use Prim.Native.Nat.{ℕ, _+_, _≤_, _<_}
-use lib.Dec.{eqb}
 use lib.ListN.{length}
-use borrow.Author.Tests.{eq-eqb, lt-ltb, le-ltb}
-use Rattle.cells.specs.Choice.{pick}
+use borrow.Author.Tests.{lt-ltb, le-ltb}
 use Rattle.cells.specs.Occurrences.{occurrences}
+use Rattle.cells.proofs.Occurrences.{occurrences-cons}
 use Rattle.order_words.specs.Extended.{withDigit}
-
--- nothing stands in the empty list
-pub occurrences-none : (d : ℕ) → occurrences d [] ≡ 0
-unfolding occurrences
-occurrences-none d = refl
-
--- the first digit of a list counts once where it is the one asked for
-pub occurrences-cons : (d x : ℕ) (xs : List ℕ) → occurrences d (x ∷ xs) ≡ pick (eqb d x) 1 0 + occurrences d xs
-unfolding occurrences
-occurrences-cons d x xs = refl
-
-pub occurs-here : (d : ℕ) (ds : List ℕ) → 1 ≤ occurrences d (d ∷ ds)
-unfolding occurrences
-occurs-here d ds = rw (eq-eqb d d refl) (omega arith)
-
-pub occurs-later : (d x : ℕ) (xs : List ℕ) → 1 ≤ occurrences d xs → 1 ≤ occurrences d (x ∷ xs)
-occurs-later d x xs o = omega (arith, occurrences-cons d x xs)
 
 module _ (character : ℕ → ℕ) (x k : ℕ) where
   -- where the new digit goes: below a digit whose character is greater, and above any other

@@ -1,4 +1,3 @@
-pub mod Both
 pub mod Inserted
 pub mod Room
 pub mod Valid

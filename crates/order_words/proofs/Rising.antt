@@ -10,23 +10,17 @@ use lib.Dec.{eqb, ltb}
 use borrow.Author.Tests.{lt-ltb, ne-eqb, ltb-true}
 use Rattle.cells.specs.Choice.{pick}
 use Rattle.cells.specs.Occurrences.{occurrences, all}
+use Rattle.cells.proofs.Choice.{both, both-left, both-right, all-weaker}
+use Rattle.cells.proofs.Occurrences.{occurrences-none, occurrences-cons, occurrences-here, occurrences-later}
 use Rattle.order_words.specs.Order.{rising}
 use Rattle.order_words.specs.Extended.{withDigit}
-use Rattle.order_words.proofs.Both.{both, first, second}
-use Rattle.order_words.proofs.Inserted.{occurrences-none, occurrences-cons, occurs-here, occurs-later, goes-below, goes-above, goes-alone, occurrences-withDigit}
+use Rattle.order_words.proofs.Inserted.{goes-below, goes-above, goes-alone, occurrences-withDigit}
 
 -- a number put into a rising list
 abbrev pub withNumber : ℕ → List ℕ → List ℕ
 withNumber x ys = withDigit (λ y. y) x x ys
 
--- a test of every element follows from a stronger one, and holds with one more that it holds of
-pub all-weaker : (strong weak : ℕ → Bool) → ((y : ℕ) → strong y ≡ true → weak y ≡ true) → (ys : List ℕ) → all strong ys ≡ true
-    → all weak ys ≡ true
-unfolding all
-all-weaker strong weak h [] a = refl
-all-weaker strong weak h (y ∷ ys) a =
-    both (h y (first (strong y) (all strong ys) a)) (all-weaker strong weak h ys (second (strong y) (all strong ys) a))
-
+-- a test of every element holds with one more that it holds of
 pub all-withDigit : (character : ℕ → ℕ) (x k : ℕ) (test : ℕ → Bool) → test k ≡ true → (ds : List ℕ) → all test ds ≡ true
     → all test (withDigit character x k ds) ≡ true
 unfolding all
@@ -35,7 +29,7 @@ all-withDigit character x k test t (d ∷ ds) a = elim (decLt x (character d)) [
   | yes l ↦ rw (goes-below character x k d ds l) (both t a)
   | no g ↦
       rw (goes-above character x k d ds (omega arith))
-      (both (first (test d) (all test ds) a) (all-withDigit character x k test t ds (second (test d) (all test ds) a)))
+      (both (both-left (test d) (all test ds) a) (all-withDigit character x k test t ds (both-right (test d) (all test ds) a)))
 ]
 
 -- a rising list with a new number put in rises
@@ -45,30 +39,30 @@ rising-withNumber x [] absent r = rw (goes-alone (λ y. y) x x)
 rising-withNumber x (y ∷ ys) absent r = elim (decLt x y) [
   | yes l ↦
       let weaker : (z : ℕ) → ltb y z ≡ true → ltb x z ≡ true = λ z g. lt-ltb x z (omega (arith, l, ltb-true y z g)) in
-      rw (goes-below (λ y. y) x x y ys l) (both (both (lt-ltb x y l) (all-weaker (ltb y) (ltb x) weaker ys above)) r)
+      rw (goes-below (λ y. y) x x y ys l) (both (both (lt-ltb x y l) (all-weaker (ltb y) (ltb x) ys weaker above)) r)
   | no g ↦
-      let i = rising-withNumber x ys (omega (arith, absent, occurrences-cons x y ys)) (second (all (ltb y) ys) (rising ys) r) in
+      let i = rising-withNumber x ys (omega (arith, absent, occurrences-cons x y ys)) (both-right (all (ltb y) ys) (rising ys) r) in
       let l : ltb y x ≡ true = lt-ltb y x (omega (arith, other)) in
       rw (goes-above (λ y. y) x x y ys (omega arith)) (both (all-withDigit (λ y. y) x x (ltb y) l ys above) i)
 ]
   where
     above : all (ltb y) ys ≡ true
-    above = first (all (ltb y) ys) (rising ys) r
+    above = both-left (all (ltb y) ys) (rising ys) r
 
     other : x ≢ y
-    other e = absurd (omega (arith, absent, occurs-here x ys, ap (λ n. occurrences x (n ∷ ys)) e))
+    other e = absurd (omega (arith, absent, occurrences-here x ys, ap (λ n. occurrences x (n ∷ ys)) e))
 
 -- digits with the same characters, and digits that have not a given one
 pub map-same : (f g : ℕ → ℕ) (ds : List ℕ) → ((d : ℕ) → 1 ≤ occurrences d ds → f d ≡ g d) → map f ds ≡ map g ds
 map-same f g [] same = refl
-map-same f g (d ∷ ds) same = rw (same d (occurs-here d ds), map-same f g ds (λ e o. same e (occurs-later e d ds o)))
+map-same f g (d ∷ ds) same = rw (same d (occurrences-here d ds), map-same f g ds (λ e o. same e (omega (arith, occurrences-later e d ds))))
 
 pub absent-map : (f : ℕ → ℕ) (x : ℕ) (ds : List ℕ) → ((d : ℕ) → 1 ≤ occurrences d ds → f d ≢ x) → occurrences x (map f ds) ≡ 0
 absent-map f x [] other = occurrences-none x
 absent-map f x (d ∷ ds) other =
-    let n : x ≢ f d = λ e. other d (occurs-here d ds) (sym e) in
+    let n : x ≢ f d = λ e. other d (occurrences-here d ds) (sym e) in
     let p : _≡_ {A = ℕ} (pick (eqb x (f d)) 1 0) 0 = rw (ne-eqb x (f d) n) in
-    let i = absent-map f x ds (λ e o. other e (occurs-later e d ds o)) in
+    let i = absent-map f x ds (λ e o. other e (omega (arith, occurrences-later e d ds))) in
     omega (arith, i, occurrences-cons x (f d) (map f ds))
 
 -- the characters of the digits with one more are those of before and the new one, put in
@@ -87,10 +81,10 @@ module _ (character character′ : ℕ → ℕ) (x k : ℕ) (new : character′ 
   ]
     where
       here : character′ d ≡ character d
-      here = same d (occurs-here d ds)
+      here = same d (occurrences-here d ds)
 
       later : (e : ℕ) → 1 ≤ occurrences e ds → character′ e ≡ character e
-      later e o = same e (occurs-later e d ds o)
+      later e o = same e (omega (arith, occurrences-later e d ds))
 
   module _ (ds : List ℕ) (same : (d : ℕ) → 1 ≤ occurrences d ds → character′ d ≡ character d) where
     -- the characters are those of before and the new one

@@ -11,16 +11,16 @@ use lib.ListN.{length}
 use borrow.Author.Tests.{lt-ltb, le-ltb, eq-eqb, ne-eqb, eqb-true}
 use Rattle.cells.specs.Choice.{pick}
 use Rattle.cells.specs.Occurrences.{occurrences}
+use Rattle.cells.proofs.Choice.{both, both-left, both-right}
 use Rattle.order_words.specs.Order.{eachOnce}
-use Rattle.order_words.proofs.Both.{both, first, second}
 
 -- what the test says of each number, and back
 pub each-once : (k : ℕ) (ds : List ℕ) → eachOnce k ds ≡ true → (d : ℕ) → d < k → occurrences d ds ≡ 1
 unfolding eachOnce
 each-once zero ds e d l = absurd (omega arith)
 each-once (suc k) ds e d l = elim (ℕ-discrete d k) [
-  | yes s ↦ ap (λ n. occurrences n ds) s ∙ eqb-true _ 1 (first (eqb (occurrences k ds) 1) (eachOnce k ds) e)
-  | no s ↦ each-once k ds (second (eqb (occurrences k ds) 1) (eachOnce k ds) e) d (omega arith)
+  | yes s ↦ ap (λ n. occurrences n ds) s ∙ eqb-true _ 1 (both-left (eqb (occurrences k ds) 1) (eachOnce k ds) e)
+  | no s ↦ each-once k ds (both-right (eqb (occurrences k ds) 1) (eachOnce k ds) e) d (omega arith)
 ]
 
 pub once-each : (k : ℕ) (ds : List ℕ) → ((d : ℕ) → d < k → occurrences d ds ≡ 1) → eachOnce k ds ≡ true

@@ -11,10 +11,11 @@ use lib.ListN.{length}
 use borrow.Author.Tests.{lt-ltb, le-leb, eq-eqb, ne-eqb, ltb-true, leb-true}
 use Rattle.cells.specs.Choice.{pick}
 use Rattle.cells.specs.Occurrences.{occurrences}
+use Rattle.cells.proofs.Choice.{both, each-of-four}
+use Rattle.cells.proofs.Occurrences.{occurrences-cons}
 use Rattle.order_words.specs.Order.{eachOnce, place, validDigits}
 use Rattle.order_words.specs.Extended.{withDigit, extendedDigits}
-use Rattle.order_words.proofs.Both.{both, each-of-four}
-use Rattle.order_words.proofs.Inserted.{occurrences-cons, goes-below, goes-above, occurrences-withDigit, length-withDigit}
+use Rattle.order_words.proofs.Inserted.{goes-below, goes-above, occurrences-withDigit, length-withDigit}
 use Rattle.order_words.proofs.Room.{each-once, once-each, no-room}
 
 -- the parts of the rule

@@ -1,5 +1,5 @@
 -- 01: "A lawful order word has k digits, 2 to 6, each of 0 to k-1 once, with digit 1 above digit 0."
-use mathlib.Core.Bool.{Bool, true, false, _&&_}
+use mathlib.Core.Bool.{Bool, true, _&&_}
 use mathlib.Core.List.{List, [], _∷_}
 use Prim.Native.Nat.{ℕ, zero, suc, _+_}
 use lib.Dec.{leb, ltb, eqb}

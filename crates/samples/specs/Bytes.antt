@@ -1,5 +1,5 @@
 -- Blocks and cells that samples of 01 give, as written there.
-use mathlib.Core.List.{List, [], _∷_, _++_}
+use mathlib.Core.List.{List, _∷_, _++_}
 use Prim.Native.Nat.{ℕ}
 use Rattle.cells.specs.Bytes.{zeros}
 use Rattle.samples.specs.Line.{word}

@@ -4,38 +4,11 @@ use mathlib.Core.Path.{_≡_, refl}
 use mathlib.Core.List.{List, [], _∷_, _++_}
 use Prim.Native.Nat.{ℕ}
 use lib.ListN.{replicate}
-use Rattle.cells.specs.Choice.{bind}
 use Rattle.cells.specs.Bytes.{zeros}
-use Rattle.cells.specs.Word.{wordAt, withWord}
 use Rattle.cells.specs.Memory.{memoryOf}
-use Rattle.cells.specs.Writes.{written, wordWrites}
-use Rattle.cells.specs.Occurrences.{occurrences, all, distinct, select}
-use Rattle.order_words.specs.Digits.{digits, encode}
-use Rattle.order_words.specs.Order.{eachOnce, place, validDigits, rising}
-use Rattle.order_words.specs.Extended.{withDigit, extendedOrder}
-use Rattle.nodes.specs.Layout.{trailerCells, usable, keyLimit}
-use Rattle.nodes.specs.Pointer.{byKind, pointer, leafWord}
-use Rattle.nodes.specs.Chain.{chainChild}
-use Rattle.nodes.specs.Sparse.{someWord, everyWord, sparseDigits, validSparse, positionOf, childFrom}
-use Rattle.nodes.specs.Split.{gather, under, splitCell, endCells, midCells, headCells, wordBelow, splitChild}
-use Rattle.nodes.specs.Prefix.{validPrefix}
-use Rattle.nodes.specs.Node.{chainNode, plain, readAt, read}
-use Rattle.trees.specs.Tree.{spread, step, tree}
-use Rattle.trees.specs.Lookup.{lookup}
-use Rattle.trees.specs.Root.{isRoot, rootTree, onceVisited, cellsOf}
-use Rattle.insertion.specs.NewCells.{blank, chainCell, prefixCell, pairCell, sparsePair, withoutCharacters, sparseCopy, withOrder, appendedCell, tableCopy, headCopy, withWords}
-use Rattle.insertion.specs.Built.{allocate, room, characterBefore, chainWith, chainOver}
-use Rattle.insertion.specs.SplitBuild.{tableRow, rows, endRow, midRow, splitOf, splitCopied}
-use Rattle.insertion.specs.SetChild.{chainSet, sparseSet, setChild}
-use Rattle.insertion.specs.Build.{wordAside, valueAside, putBack, childOf, pathCopy, valueAt, build, cellsNeeded}
-use Rattle.insertion.specs.Commit.{numberFrom, buildWrites}
-use Rattle.store.specs.Trailer.{badSize, layoutOf, rootWord, slots, validSlot, slotAt, inUse, everySlot, validTrailer}
-use Rattle.store.specs.Sound.{slotRoots, roots, soundWith, reachedFrom}
-use Rattle.store.specs.Free.{countUp, allocationOrder, free}
-use Rattle.store.specs.Refusal.{firstRefusal, overLong, badKey, badNewKey, badValue}
-use Rattle.store.specs.Format.{formatted, format}
-use Rattle.store.specs.Read.{Found, missing, valueOr, validate, get}
-use Rattle.store.specs.Insert.{Inserted, blockBuild, insertWrites, insert}
+use Rattle.store.specs.Read.{validate, get}
+use Rattle.store.specs.Insert.{Inserted, insert}
+use Rattle.store.specs.Computing.{callsOpen}
 use Rattle.samples.specs.Line.{word}
 use Rattle.samples.specs.Calls.{rootOf}
 
@@ -93,5 +66,5 @@ pub foreign-block :
     ∷ (zeros 20 ++ word 0x0000017C ++ zeros 8)
     ∷ (word 0x000000BF ++ word 0xFFFFFFF8 ++ zeros 16 ++ (0x41 ∷ 0x43 ∷ junk 4) ++ (0x00 ∷ 0x06 ∷ []))
     ∷ [])
-unfolding bind zeros wordAt withWord memoryOf written wordWrites occurrences all distinct select digits encode eachOnce place validDigits rising withDigit extendedOrder trailerCells usable keyLimit byKind pointer leafWord chainChild someWord everyWord sparseDigits validSparse positionOf childFrom gather under splitCell endCells midCells headCells wordBelow splitChild validPrefix chainNode plain readAt read spread step tree isRoot rootTree onceVisited cellsOf blank chainCell prefixCell pairCell sparsePair withoutCharacters sparseCopy withOrder appendedCell tableCopy headCopy withWords allocate room characterBefore chainWith chainOver tableRow rows endRow midRow splitOf splitCopied chainSet sparseSet setChild wordAside valueAside putBack childOf pathCopy valueAt build cellsNeeded numberFrom buildWrites badSize layoutOf rootWord slots validSlot slotAt inUse everySlot validTrailer slotRoots roots soundWith reachedFrom countUp allocationOrder free firstRefusal overLong badKey badNewKey badValue formatted format blockBuild insertWrites insert lookup missing valueOr validate get foreign added
+unfolding callsOpen foreign added
 foreign-block = refl

@@ -2,40 +2,15 @@
 -- limits of keys, values and sizes, and blocks that are not sound.
 use mathlib.Core.Path.{_≡_, refl}
 use mathlib.Core.List.{List, [], _∷_, _++_}
-use Prim.Native.Nat.{ℕ, _+_, _*_}
+use Prim.Native.Nat.{ℕ, _+_}
 use lib.ListN.{replicate, set}
-use Rattle.cells.specs.Choice.{bind}
 use Rattle.cells.specs.Bytes.{zeros}
-use Rattle.cells.specs.Word.{wordAt, withWord}
+use Rattle.cells.specs.Word.{withWord}
 use Rattle.cells.specs.Memory.{memoryOf}
-use Rattle.cells.specs.Writes.{written, wordWrites}
-use Rattle.cells.specs.Occurrences.{occurrences, all, distinct, select}
-use Rattle.order_words.specs.Digits.{digits, encode}
-use Rattle.order_words.specs.Order.{eachOnce, place, validDigits, rising}
-use Rattle.order_words.specs.Extended.{withDigit, extendedOrder}
-use Rattle.nodes.specs.Layout.{trailerCells, usable, keyLimit}
-use Rattle.nodes.specs.Pointer.{byKind, pointer, leafWord}
-use Rattle.nodes.specs.Chain.{chainChild}
-use Rattle.nodes.specs.Sparse.{someWord, everyWord, sparseDigits, validSparse, positionOf, childFrom}
-use Rattle.nodes.specs.Split.{gather, under, splitCell, endCells, midCells, headCells, wordBelow, splitChild}
-use Rattle.nodes.specs.Prefix.{validPrefix}
-use Rattle.nodes.specs.Node.{chainNode, plain, readAt, read}
-use Rattle.trees.specs.Tree.{spread, step, tree}
-use Rattle.trees.specs.Root.{isRoot, rootTree, onceVisited, cellsOf}
-use Rattle.insertion.specs.NewCells.{blank, chainCell, prefixCell, pairCell, sparsePair, withoutCharacters, sparseCopy, withOrder, appendedCell, tableCopy, headCopy, withWords}
-use Rattle.insertion.specs.Built.{allocate, room, characterBefore, chainWith, chainOver}
-use Rattle.insertion.specs.SplitBuild.{tableRow, rows, endRow, midRow, splitOf, splitCopied}
-use Rattle.insertion.specs.SetChild.{chainSet, sparseSet, setChild}
-use Rattle.insertion.specs.Build.{wordAside, valueAside, putBack, childOf, pathCopy, valueAt, build, cellsNeeded}
-use Rattle.insertion.specs.Commit.{numberFrom, buildWrites}
-use Rattle.store.specs.Trailer.{badSize, layoutOf, rootWord, slots, validSlot, slotAt, inUse, everySlot, validTrailer}
-use Rattle.store.specs.Sound.{slotRoots, roots, soundWith, reachedFrom}
-use Rattle.store.specs.Free.{countUp, allocationOrder, free}
-use Rattle.store.specs.Refusal.{firstRefusal, overLong, badKey, badNewKey, badValue}
-use Rattle.store.specs.Format.{formatted, format}
 use Rattle.store.specs.Read.{validate}
-use Rattle.store.specs.Insert.{Inserted, blockBuild, insertWrites, insert}
-use Rattle.store.specs.Snapshots.{withBit, snapshotBlock, snapshot}
+use Rattle.store.specs.Insert.{Inserted, insert}
+use Rattle.store.specs.Snapshots.{snapshot}
+use Rattle.store.specs.Computing.{callsOpen}
 use Rattle.samples.specs.Line.{word}
 use Rattle.samples.specs.Calls.{fresh, rootOf, sampleA, sampleE, sampleH}
 
@@ -66,7 +41,7 @@ pub split-of-seven :
     ∷ (word 0x0000009C ++ zeros 4 ++ word 0x000000BC ++ zeros 20)
     ∷ (zeros 24 ++ word 0x0000003C ++ zeros 4)
     ∷ [])
-unfolding bind zeros wordAt withWord memoryOf written wordWrites occurrences all distinct select digits encode eachOnce place validDigits rising withDigit extendedOrder trailerCells usable keyLimit byKind pointer leafWord chainChild someWord everyWord sparseDigits validSparse positionOf childFrom gather under splitCell endCells midCells headCells wordBelow splitChild validPrefix chainNode plain readAt read spread step tree isRoot rootTree onceVisited cellsOf blank chainCell prefixCell pairCell sparsePair withoutCharacters sparseCopy withOrder appendedCell tableCopy headCopy withWords allocate room characterBefore chainWith chainOver tableRow rows endRow midRow splitOf splitCopied chainSet sparseSet setChild wordAside valueAside putBack childOf pathCopy valueAt build cellsNeeded numberFrom buildWrites badSize layoutOf rootWord slots validSlot slotAt inUse everySlot validTrailer slotRoots roots soundWith reachedFrom countUp allocationOrder free firstRefusal overLong badKey badNewKey badValue formatted format blockBuild insertWrites insert fresh entered sixth seventh
+unfolding callsOpen fresh entered sixth seventh
 split-of-seven = refl
 
 -- H's prefix cell, the trailer after a second slot's snapshot of A
@@ -76,7 +51,7 @@ pub prefix-and-slot-bytes :
     ((word 0x00000005 ++ word 0xFF000000 ++ zeros 20 ++ word 0x0000003A)
     ∷ (word 0x0000003B ++ zeros 4 ++ word 0x0000003B ++ zeros 4 ++ word 0x02000000 ++ word 0x00000004 ++ zeros 4 ++ word 0x00000001)
     ∷ [])
-unfolding bind zeros wordAt withWord memoryOf written wordWrites occurrences all distinct select digits encode eachOnce place validDigits rising withDigit extendedOrder trailerCells usable keyLimit byKind pointer leafWord chainChild someWord everyWord sparseDigits validSparse positionOf childFrom gather under splitCell endCells midCells headCells wordBelow splitChild validPrefix chainNode plain readAt read spread step tree isRoot rootTree onceVisited cellsOf blank chainCell prefixCell pairCell sparsePair withoutCharacters sparseCopy withOrder appendedCell tableCopy headCopy withWords allocate room characterBefore chainWith chainOver tableRow rows endRow midRow splitOf splitCopied chainSet sparseSet setChild wordAside valueAside putBack childOf pathCopy valueAt build cellsNeeded numberFrom buildWrites badSize layoutOf rootWord slots validSlot slotAt inUse everySlot validTrailer slotRoots roots soundWith reachedFrom countUp allocationOrder free firstRefusal overLong badKey badNewKey badValue formatted format blockBuild insertWrites insert withBit snapshotBlock snapshot fresh sampleA sampleE sampleH
+unfolding callsOpen fresh sampleA sampleE sampleH
 prefix-and-slot-bytes = refl
 
 -- a label of so many bytes 41
@@ -94,7 +69,7 @@ pub limits :
     ∷ insert (fresh 4) (label 1) 2147483648 .answer
     ∷ [])
     (0x20 ∷ 0x5B ∷ 0x48 ∷ 3 ∷ 3 ∷ 4 ∷ [])
-unfolding bind zeros wordAt withWord memoryOf written wordWrites occurrences all distinct select trailerCells usable keyLimit byKind pointer leafWord chainChild gather under chainNode plain readAt read spread step tree isRoot rootTree onceVisited cellsOf blank chainCell prefixCell allocate room characterBefore chainWith chainOver chainSet setChild wordAside valueAside putBack childOf pathCopy valueAt build cellsNeeded numberFrom buildWrites badSize layoutOf rootWord slots validSlot slotAt inUse everySlot validTrailer slotRoots roots soundWith reachedFrom countUp allocationOrder free firstRefusal overLong badKey badNewKey badValue formatted format blockBuild insertWrites insert fresh
+unfolding callsOpen fresh
 limits = refl
 
 -- sizes of 3 and 4 cells and 31 bytes more, then sample A with one byte of its trailer or of its chain altered
@@ -114,5 +89,5 @@ pub refused-blocks :
     ∷ validate (set (sampleA .block) 40 0x99)
     ∷ [])
     (1 ∷ 1 ∷ 0 ∷ 0 ∷ 2 ∷ 2 ∷ 2 ∷ 2 ∷ 2 ∷ 2 ∷ 2 ∷ 0 ∷ [])
-unfolding bind zeros wordAt withWord memoryOf written wordWrites occurrences all distinct select trailerCells usable keyLimit byKind pointer leafWord chainChild gather under chainNode plain readAt read spread step tree isRoot rootTree onceVisited cellsOf blank chainCell prefixCell allocate room characterBefore chainWith chainOver chainSet setChild wordAside valueAside putBack childOf pathCopy valueAt build cellsNeeded numberFrom buildWrites badSize layoutOf rootWord slots validSlot slotAt inUse everySlot validTrailer slotRoots roots soundWith reachedFrom countUp allocationOrder free firstRefusal overLong badKey badNewKey badValue formatted format validate blockBuild insertWrites insert fresh sampleA
+unfolding callsOpen fresh sampleA
 refused-blocks = refl

@@ -1,11 +1,8 @@
 -- The writes of an insertion before its last, the root word, touch only cells that were free.
-use mathlib.Core.Path.{_≡_, refl}
-use mathlib.Core.Bool.{true, false}
 use mathlib.Core.List.{List, [], _∷_, _++_}
-use Prim.Native.Nat.{ℕ, zero, suc, _+_, _*_, _/_, _≤_, _<_}
+use Prim.Native.Nat.{ℕ, zero, suc, _+_, _*_, _/_, _≤_}
 use native.Mathlib.Omega.{arith}
 use lib.ListN.{length}
-use Rattle.cells.specs.Memory.{memoryOf}
 use Rattle.cells.specs.Occurrences.{occurrences}
 use Rattle.cells.specs.Writes.{Write, wordWrites}
 use Rattle.cells.proofs.Occurrences.{occurrences-here, occurrences-later}

@@ -1,18 +1,18 @@
 -- The ways through the code of a valid insertion: what is listed as free, built in the stage and committed is what the
 -- definition of an insertion says.
-use mathlib.Core.Path.{_≡_, refl, sym, ap, _∙_, subst}
+use mathlib.Core.Path.{_≡_, sym, ap, _∙_, subst}
 use mathlib.Core.List.{List, [], _∷_, _++_}
 use mathlib.Core.Bool.{true}
-use Prim.Native.Nat.{ℕ, zero, suc, _-_, _*_, _≤_, _<_}
+use Prim.Native.Nat.{ℕ, _-_, _*_, _≤_, _<_}
 use native.Mathlib.Omega.{arith}
 use lib.ListN.{length, getD, take, length-take}
 use Rattle.cells.specs.Memory.{memoryOf}
 use Rattle.cells.specs.Writes.{written}
-use Rattle.cells.specs.Occurrences.{occurrences}
-use Rattle.cells.proofs.Occurrences.{occurrences-here, occurrences-later}
+use Rattle.cells.proofs.Occurrences.{occurrences-at}
 use Rattle.nodes.specs.Layout.{Layout, keyLimit}
 use Rattle.nodes.proofs.Pointers.{usable-inside}
 use Rattle.trees.specs.Tree.{tree}
+use Rattle.trees.proofs.RootCheck.{key-limit}
 use Rattle.insertion.specs.Built.{Built}
 use Rattle.insertion.specs.Build.{build, cellsNeeded}
 use Rattle.insertion.specs.Commit.{numberFrom, buildWrites}
@@ -39,23 +39,12 @@ use Rattle.store.proofs.CommitSteps.{writes-same}
 use Rattle.store.proofs.InsertCall.{key-fits, value-fits, insert-number, insert-done, insert-zero, insert-seven}
 use Rattle.store.proofs.InsertRefused.{refusedInsert, refused-as}
 
--- an element of a list stands in it
-element-stands : (xs : List ℕ) (i past : ℕ) → i < length xs → 1 ≤ occurrences (getD xs i past) xs
-element-stands [] i past inside = absurd (omega arith)
-element-stands (x ∷ xs) zero past inside = occurrences-here x xs
-element-stands (x ∷ xs) (suc i) past inside =
-    omega (arith, element-stands xs i past (omega arith), occurrences-later (getD xs i past) x xs)
-
-limit-48 : keyLimit ≡ 48
-unfolding keyLimit
-limit-48 = refl
-
 module _ (layout : Layout) (b stamps key : List ℕ) (value : ℕ) (p : Insertable layout b stamps key value) where
   pub insertable-fits : Fits layout (length b)
   insertable-fits = layout-fits b layout (p .size) (p .stated)
 
   pub insertable-key : length key ≤ 48
-  insertable-key = omega (arith, key-fits key (p .good-key), limit-48)
+  insertable-key = omega (arith, key-fits key (p .good-key), key-limit)
 
   module _ (root : ℕ) (numbers : List ℕ) (count : ℕ) (root-is : root ≡ rootWord layout b) (listed : Listed numbers count (unstamped layout root stamps)) where
     -- the numbers listed are the free cells
@@ -138,7 +127,7 @@ module _ (layout : Layout) (b stamps key : List ℕ) (value : ℕ) (p : Insertab
         taken-inside i below =
             let s = sized b (p .size) in
             let u = usable-inside (layoutOf b) (numbering b i)
-            (free-usable (layoutOf b) b (numbering b i) (unfold numberFrom in element-stands (free (layoutOf b) b) i _ (omega (arith, below, enough, listed-free .many)))) in
+            (free-usable (layoutOf b) b (numbering b i) (unfold numberFrom in occurrences-at (free (layoutOf b) b) i _ (omega (arith, below, enough, listed-free .many)))) in
             omega (arith, number-is i (omega arith), u, s .whole)
 
         committed-as : commitWrites layout (λ i. getD numbers i 0) (builtOf made stage) ≡ insertWrites b (blockBuild b key value)

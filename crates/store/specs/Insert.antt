@@ -7,7 +7,6 @@ use lib.ListN.{length}
 use Rattle.cells.specs.Choice.{pick}
 use Rattle.cells.specs.Memory.{memoryOf}
 use Rattle.cells.specs.Writes.{Write, written}
-use Rattle.nodes.specs.Layout.{Layout}
 use Rattle.insertion.specs.Built.{Built}
 use Rattle.insertion.specs.Build.{build, cellsNeeded}
 use Rattle.insertion.specs.Commit.{numberFrom, buildWrites}

@@ -6,6 +6,7 @@ pub mod Format
 pub mod Read
 pub mod Insert
 pub mod Snapshots
+pub mod Computing
 pub mod Examples
 pub mod Fits
 pub mod Answers

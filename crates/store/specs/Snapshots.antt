@@ -1,6 +1,6 @@
 -- Snapshots. 01: "Marking sets a slot to the present root (a held slot is overwritten). Going back sets the root to a held
 -- mark, which stays held. Dropping clears the slot."
-use mathlib.Core.Bool.{Bool, not}
+use mathlib.Core.Bool.{not}
 use mathlib.Core.List.{List, [], _∷_, _++_}
 use Prim.Native.Nat.{ℕ, _+_, _-_}
 use lib.ListN.{getD, set}

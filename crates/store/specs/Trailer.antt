@@ -1,10 +1,9 @@
 -- The trailer. 01: "Cell n-1 is the trailer and points back."
-use mathlib.Core.Bool.{Bool, true, false, _&&_, _||_, not}
-use mathlib.Core.List.{List, [], _∷_}
+use mathlib.Core.Bool.{Bool, true, _&&_, _||_, not}
+use mathlib.Core.List.{List}
 use Prim.Native.Nat.{ℕ, zero, suc, _+_, _-_, _*_, _/_, _%_, _^_}
 use lib.Dec.{leb, ltb, eqb}
 use lib.ListN.{length, getD}
-use Rattle.cells.specs.Choice.{pick}
 use Rattle.cells.specs.Word.{wordAt}
 use Rattle.nodes.specs.Layout.{Layout}
 

@@ -3,59 +3,36 @@ use mathlib.Core.Path.{_≡_, refl, sym, ap, _∙_, subst}
 use mathlib.Core.Logic.{_≢_, _⊎_, inl, inr}
 use mathlib.Core.Bool.{true}
 use mathlib.Core.List.{List}
-use mathlib.Core.Option.{none, some}
-use Prim.Native.Nat.{ℕ, zero, suc, _+_, _*_, _/_, _%_, _≤_, _<_}
-use native.Mathlib.Decide.{ℕ-discrete}
+use mathlib.Core.Option.{some}
+use Prim.Native.Nat.{ℕ, _+_, _*_, _/_, _%_, _≤_, _<_}
 use native.Mathlib.Omega.{arith}
-use borrow.Author.Tests.{eq-eqb}
 use Rattle.cells.specs.Bytes.{IsBytes}
 use Rattle.cells.specs.Memory.{Memory}
-use Rattle.cells.proofs.Choice.{never, absurd-false}
-use Rattle.order_words.proofs.Both.{each-of-four}
+use Rattle.cells.proofs.Choice.{never}
 use Rattle.order_words.proofs.Valid.{at-least-two}
 use Rattle.nodes.specs.Layout.{Layout}
 use Rattle.nodes.specs.Pointer.{Pointer, pointer}
 use Rattle.nodes.specs.Pointer.Pointer.{nothing, leaf, chain, split, sparse, prefix, invalid}
 use Rattle.nodes.specs.Chain.{chainCharacter, chainChild}
-use Rattle.nodes.specs.Sparse.{someWord, everyWord, sparseWord, sparseCharacter, sparseDigits, sparseCount, validSparse, childFrom, sparseChild}
+use Rattle.nodes.specs.Sparse.{sparseWord, sparseCharacter, sparseDigits, sparseCount, validSparse, sparseChild}
 use Rattle.nodes.specs.Split.{headWord, tableWord, validHead, under, endCells, midCells, headCells, wordBelow, splitChild}
 use Rattle.nodes.specs.Prefix.{prefixValue}
 use Rattle.nodes.specs.Node.{Node, childless, chainNode, sparseNode, splitNode, plain, readAt, read}
 use Rattle.nodes.proofs.Pointers.{names}
 use Rattle.nodes.proofs.Gather.{gather-at, under-word}
 use Rattle.nodes.proofs.Chain.{one-child-here, chain-child}
+use Rattle.nodes.proofs.WordRows.{some-word-at}
+use Rattle.nodes.proofs.SparseChildren.{sparse-parts, child-at}
 use Rattle.nodes.proofs.Frame.{head-is, below-split, end-cut, mid-cut, split-cut, chain-cut, sparse-cut, prefix-cut, read-is}
 
--- a pointer among words
-pub some-word : (words : ℕ → ℕ) (count from : ℕ) → someWord words count from ≡ true
-    → (i : ℕ) × (from ≤ i) × (i < from + count) × (words i ≢ 0)
-unfolding someWord
-some-word words zero from e = absurd-false e
-some-word words (suc count) from e = elim (ℕ-discrete (words from) 0) [
-  | yes zero-word ↦
-      let r = some-word words count (from + 1) (rw (eq-eqb (words from) 0 zero-word) at e) in
-      (r .0, omega (arith, r .1), omega (arith, r .2), r .3)
-  | no other ↦ (from, omega arith, omega arith, other)
-]
-
-pub first-word : (words : ℕ → ℕ) (count from : ℕ) → 1 ≤ count → everyWord words count from ≡ true → words from ≢ 0
-unfolding everyWord
-first-word words zero from more e zero-word = absurd (omega arith)
-first-word words (suc count) from more e zero-word = absurd (absurd-false (rw (eq-eqb (words from) 0 zero-word) at e))
-
 -- the first child of a sparse cell
-pub first-child : (bytes : List ℕ) (count : ℕ) → 1 ≤ count → childFrom bytes count 0 (sparseCharacter bytes 0) ≡ sparseWord bytes 0
-unfolding childFrom
-first-child bytes zero more = absurd (omega arith)
-first-child bytes (suc count) more = rw (eq-eqb (sparseCharacter bytes 0) (sparseCharacter bytes 0) refl)
-
 pub sparse-child : (bytes : List ℕ) → validSparse bytes ≡ true → sparseChild bytes (sparseCharacter bytes 0) ≢ 0
-unfolding validSparse
 sparse-child bytes valid =
-    let parts = each-of-four _ _ _ _ valid in
-    let two : 2 ≤ sparseCount bytes = at-least-two (sparseDigits bytes) (parts .0) in
-    λ zero-word.
-    first-word (sparseWord bytes) (sparseCount bytes) 0 (omega arith) (parts .1) (sym (first-child bytes (sparseCount bytes) (omega arith)) ∙ zero-word)
+    let parts = sparse-parts bytes valid in
+    let two : 2 ≤ sparseCount bytes = at-least-two (sparseDigits bytes) (parts .order) in
+    let first : sparseChild bytes (sparseCharacter bytes 0) ≡ sparseWord bytes 0 =
+    child-at bytes (sparseCharacter bytes 0) (sparseCount bytes) 0 0 (omega arith) (omega arith) refl (λ r low before. absurd (omega arith)) in
+    λ zero-word. parts .words 0 (omega arith) (sym first ∙ zero-word)
 
 -- a node has a child
 abbrev pub Parent : Node → Type 0
@@ -89,7 +66,7 @@ module _ (layout : Layout) (m : Memory) where
       → (end : ℕ) × (l : ℕ) × (pointer layout w ≡ split end) × (l < 8) × (tableWord (m end) l ≢ 0)
   end-pointer w a other e =
       let r = end-cut layout m w a (sym (under-word (endCells layout m) w other) ∙ e) in
-      let l = some-word (tableWord (m (r .0))) 8 0 (r .2) in
+      let l = some-word-at (tableWord (m (r .0))) 8 0 (r .2) in
       (r .0, l .0, r .1, l .2, l .3)
 
   mid-pointer : (w : ℕ) (a : List ℕ) → w ≢ 0 → under (midCells layout m) w ≡ some a
@@ -97,14 +74,14 @@ module _ (layout : Layout) (m : Memory) where
       × (under (endCells layout m) (tableWord (m mid) j) ≡ some b)
   mid-pointer w a other e =
       let r = mid-cut layout m w a (sym (under-word (midCells layout m) w other) ∙ e) in
-      let j = some-word (tableWord (m (r .0))) 8 0 (r .3) in
+      let j = some-word-at (tableWord (m (r .0))) 8 0 (r .3) in
       let at = gather-at (λ l. under (endCells layout m) (tableWord (m (r .0)) l)) 8 0 (j .0) (r .1) (j .1) (j .2) (r .4) in
       (r .0, j .0, at .0, r .2, j .2, j .3, at .1)
 
   head-pointer : (c : ℕ) (cs : List ℕ) → validHead (m c) ≡ true → headCells layout m c ≡ some cs
       → (i : ℕ) × (a : List ℕ) × (i < 4) × (headWord (m c) i ≢ 0) × (under (midCells layout m) (headWord (m c) i) ≡ some a)
   head-pointer c cs valid found =
-      let i = some-word (headWord (m c)) 4 0 valid in
+      let i = some-word-at (headWord (m c)) 4 0 valid in
       let at = gather-at (λ j. under (midCells layout m) (headWord (m c) j)) 4 0 (i .0) cs (i .1) (i .2) (sym (head-is layout m c) ∙ found) in
       (i .0, at .0, i .2, i .3, at .1)
 
@@ -128,17 +105,6 @@ module _ (layout : Layout) (m : Memory) where
   split-parent c cs valid found =
       let r = head-pointer c cs valid found in
       mid-parent c (r .0) (r .1) cs (r .2) (r .3) (r .4)
-
-  -- a plain node has no value
-  pub plain-value : (p : Pointer) (X : Node) → plain layout m p ≡ some X → X .value ≡ none
-  unfolding plain chainNode
-  plain-value nothing X e = never e
-  plain-value (leaf v) X e = never e
-  plain-value (chain c k) X e = ap (λ (Z : Node). Z .value) (sym (chain-cut layout m c k X e .1))
-  plain-value (split c) X e = ap (λ (Z : Node). Z .value) (sym (split-cut layout m c X e .3))
-  plain-value (sparse c) X e = ap (λ (Z : Node). Z .value) (sym (sparse-cut layout m c X e .1))
-  plain-value (prefix c) X e = never e
-  plain-value invalid X e = never e
 
   module _ (bytes : (c : ℕ) → IsBytes (m c)) where
     pub plain-parent : (p : Pointer) (X : Node) → plain layout m p ≡ some X → Parent X

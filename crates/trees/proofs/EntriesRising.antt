@@ -12,14 +12,14 @@ use borrow.Author.Tests.{lt-ltb, le-leb, ltb-true, leb-true}
 use Rattle.cells.specs.Bytes.{IsBytes}
 use Rattle.cells.specs.Memory.{Memory}
 use Rattle.cells.specs.Occurrences.{all}
-use Rattle.cells.proofs.Choice.{both, both-left, both-right, all-join, all-head, all-tail}
+use Rattle.cells.proofs.Choice.{both, both-left, both-right, all-none, all-join, all-head, all-tail, all-weaker}
 use Rattle.nodes.specs.Layout.{Layout}
 use Rattle.nodes.specs.Node.{Node, read}
 use Rattle.trees.specs.Entries.{Entry, below, ownEntry, childEntries, entriesUnder, nodeEntries, entries, keyBefore}
 use Rattle.trees.specs.EntryAt.{risingKeys}
 use Rattle.trees.proofs.Keys.{nil-before, before-less, before-same}
 use Rattle.trees.proofs.EntriesLookup.{entriesUnder-zero, entriesUnder-word}
-use Rattle.trees.proofs.EveryPair.{all-none, all-always, all-weaker, all-map, all-append, all-children, all-entries}
+use Rattle.trees.proofs.EveryPair.{all-always, all-map, all-append, all-children, all-entries}
 
 -- a key is before the keys of all these pairs
 abbrev pub beforeAll : List ℕ → List Entry → Bool

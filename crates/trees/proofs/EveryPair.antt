@@ -1,5 +1,5 @@
 -- Tests that hold of every pair of a tree.
-use mathlib.Core.Path.{_≡_, refl, ap, _∙_}
+use mathlib.Core.Path.{_≡_, ap, _∙_}
 use mathlib.Core.Bool.{Bool, true}
 use mathlib.Core.List.{List, [], _∷_, _++_, map}
 use mathlib.Core.Option.{Option, none, some}
@@ -8,28 +8,18 @@ use native.Mathlib.Decide.{ℕ-discrete}
 use native.Mathlib.Omega.{arith}
 use Rattle.cells.specs.Memory.{Memory}
 use Rattle.cells.specs.Occurrences.{all}
-use Rattle.cells.proofs.Choice.{all-join, all-head, all-tail}
+use Rattle.cells.proofs.Choice.{all-none, all-join, all-head, all-tail, all-weaker}
 use Rattle.nodes.specs.Layout.{Layout}
 use Rattle.nodes.specs.Node.{Node, read}
 use Rattle.trees.specs.Entries.{Entry, below, ownEntry, childEntries, entriesUnder, nodeEntries, entries}
 use Rattle.trees.proofs.EntriesLookup.{entriesUnder-zero, entriesUnder-word}
 
--- a test of every element of a list
-pub all-none : {A : Type 0} (test : A → Bool) → all test [] ≡ true
-unfolding all
-all-none test = refl
-
+-- a test that holds of anything holds of every element
 pub all-always : {A : Type 0} (test : A → Bool) (l : List A) → ((a : A) → test a ≡ true) → all test l ≡ true
 all-always test [] holds = all-none test
 all-always test (a ∷ l) holds = all-join test a l (holds a) (all-always test l holds)
 
--- a weaker test, and one of the elements mapped
-pub all-weaker : {A : Type 0} (strong weak : A → Bool) (l : List A) → ((a : A) → strong a ≡ true → weak a ≡ true)
-    → all strong l ≡ true → all weak l ≡ true
-all-weaker strong weak [] more holds = all-none weak
-all-weaker strong weak (a ∷ l) more holds =
-    all-join weak a l (more a (all-head strong a l holds)) (all-weaker strong weak l more (all-tail strong a l holds))
-
+-- a test of the elements mapped, and of two lists joined
 pub all-map : {A B : Type 0} (test : B → Bool) (f : A → B) (l : List A) → all (λ a. test (f a)) l ≡ true → all test (map f l) ≡ true
 all-map test f [] holds = all-none test
 all-map test f (a ∷ l) holds =

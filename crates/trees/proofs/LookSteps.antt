@@ -5,10 +5,8 @@ use mathlib.Core.List.{List, [], _∷_}
 use mathlib.Core.Option.{Option, none, some}
 use Prim.Native.Nat.{ℕ, suc, _+_, _≤_, _<_}
 use native.Mathlib.Decide.{ℕ-discrete}
-use native.Mathlib.Numerals.{add-one}
 use native.Mathlib.Omega.{arith}
 use lib.ListN.{length, getD, drop, drop-of-length-le}
-use lib.Seq.{drop-cons}
 use Rattle.cells.specs.Memory.{Memory}
 use Rattle.nodes.specs.Layout.{Layout}
 use Rattle.nodes.specs.Node.{Node, read}
@@ -17,6 +15,7 @@ use Rattle.nodes.specs.Value.{valueOf}
 use Rattle.nodes.specs.Coded.{stepOf}
 use Rattle.nodes.specs.declared.step.ChildStep.{ChildStep}
 use Rattle.nodes.specs.declared.step.ChildStep.the-variants.{Found}
+use Rattle.nodes.proofs.Neighbours.{rest-more}
 use Rattle.nodes.proofs.Rest.{AmongSteps, rest-of-found}
 use Rattle.nodes.proofs.StepWays.{word-missing, word-found}
 use Rattle.nodes.proofs.StepRead.{step-read, value-read}
@@ -25,10 +24,7 @@ use Rattle.trees.specs.Lookup.{lookup}
 use Rattle.trees.specs.Coded.{Grown}
 use Rattle.trees.proofs.Tree.{tree-cut, child-tree, lookup-nil, lookup-cons, lookup-zero}
 
--- the rest of a key from a position on: its character there, then the rest from the next one on, or nothing
-pub rest-more : (key : List ℕ) (i : ℕ) → i < length key → drop i key ≡ getD key i 0 ∷ drop (i + 1) key
-rest-more key i inside = rw (add-one, drop-cons key i 0)
-
+-- the rest of a key past its end is nothing
 pub rest-none : (key : List ℕ) (i : ℕ) → length key ≤ i → drop i key ≡ []
 rest-none key i past = drop-of-length-le key past
 

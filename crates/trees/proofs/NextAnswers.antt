@@ -16,6 +16,7 @@ use Rattle.nodes.specs.Value.{valueOf}
 use Rattle.nodes.specs.Coded.{stepOf, leastOf}
 use Rattle.nodes.specs.declared.step.ChildStep.{ChildStep}
 use Rattle.nodes.specs.declared.least.Least.{Least}
+use Rattle.nodes.proofs.Neighbours.{rest-more}
 use Rattle.nodes.proofs.Rest.{AmongSteps}
 use Rattle.nodes.proofs.StepRead.{value-read}
 use Rattle.nodes.proofs.FirstStep.{least-read}
@@ -23,7 +24,7 @@ use Rattle.trees.specs.Tree.{tree}
 use Rattle.trees.specs.NextWalk.{behind, firstKey, nextFrom}
 use Rattle.trees.specs.Coded.{Grown, keyBelow, Told}
 use Rattle.trees.specs.declared.next_key.NextStep.{NextStep}
-use Rattle.trees.proofs.LookSteps.{grown-read, child-grown, rest-more, rest-none}
+use Rattle.trees.proofs.LookSteps.{grown-read, child-grown, rest-none}
 use Rattle.trees.proofs.NextSteps.{AmongLeast, least-held, told-least, told-no-least, below-none, below-some, first-own-key, first-below-key, next-at-end, next-stops, next-grown, next-inside, next-outside}
 use Rattle.trees.proofs.NextTold.{told-same, noKey, keyOfSize, told-none, no-key-told, key-told, told-one, told-more}
 

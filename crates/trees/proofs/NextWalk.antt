@@ -9,6 +9,7 @@ use Rattle.cells.specs.Bytes.{IsBytes}
 use Rattle.cells.specs.Choice.{bind}
 use Rattle.cells.specs.Memory.{Memory}
 use Rattle.cells.proofs.Choice.{never}
+use Rattle.cells.proofs.Words.{bytes-tail}
 use Rattle.nodes.specs.Layout.{Layout}
 use Rattle.nodes.specs.Node.{Node, read}
 use Rattle.trees.specs.Tree.{tree}
@@ -26,10 +27,6 @@ pub entry-first : (l : List Entry) (k : List ℕ) → entryAt l k ≢ none → (
 unfolding first
 entry-first [] k there = absurd (there (entry-none k))
 entry-first (e ∷ l) k there = (e, refl)
-
--- the rest of a key of bytes
-bytes-rest : (x : ℕ) (l : List ℕ) → IsBytes (x ∷ l) → IsBytes l
-bytes-rest x l each = record { below = λ i. each .below (suc i) }
 
 module _ (layout : Layout) (m : Memory) where
   -- the walks at a node that is known
@@ -118,7 +115,7 @@ module _ (layout : Layout) (m : Memory) where
         let t = tree-below layout m d w x cs X near found (q .2) in
         let later : List Entry = childEntries f (256 - (x + 1)) (x + 1) in
         next-from-cons d w x rest X (q .2)
-        ∙ ap (λ o. orElse (behind x o) (firstBelow (firstKey layout m d) X (x + 1))) (next-key d (X .child x) (t .0) (t .1) rest (bytes-rest x rest each))
+        ∙ ap (λ o. orElse (behind x o) (firstBelow (firstKey layout m d) X (x + 1))) (next-key d (X .child x) (t .0) (t .1) rest (bytes-tail x rest each))
         ∙ ap (orElse (behind x (keyOf (nextEntry rest (f x))))) (sym (first-below-node d w (x + 1) cs X (omega arith) found (q .2) (first-key d)))
         ∙ sym (next-children f 256 0 x (256 - (x + 1)) rest (omega arith) (omega arith))
         ∙ ap keyOf (sym (ap (nextEntry (x ∷ rest)) (entries-more layout m d w X (q .2)) ∙ next-own (x ∷ rest) (X .value) (childEntries f 256 0)))

@@ -5,24 +5,20 @@ use mathlib.Core.List.{List, []}
 use mathlib.Core.Option.{Option, some}
 use Prim.Native.Nat.{ℕ, _+_, _*_}
 use native.Mathlib.Omega.{arith}
-use lib.ListN.{length, getD}
+use lib.ListN.{getD}
 use mir.Syntax.{w8}
 use mir.Val.{Fits}
 use borrow.Author.Tests.{not-true, not-false}
 use Rattle.cells.specs.Bytes.{IsBytes}
 use Rattle.cells.specs.Word.{wordAt}
 use Rattle.cells.specs.Memory.{memoryOf}
-use Rattle.cells.proofs.Memory.{memory-length, memory-bytes, memory-word}
+use Rattle.cells.proofs.Memory.{memory-bytes, memory-word}
 use Rattle.nodes.specs.Split.{under}
 use Rattle.nodes.proofs.Gather.{under-zero}
 
 -- NONE has nothing below
 pub under-none : (f : ℕ → Option (List ℕ)) (w : ℕ) → w ≡ 0 → under f w ≡ some []
 under-none f w z = ap (under f) z ∙ under-zero f
-
--- a cell that was read is 32 bytes
-pub cell-length : (bytes block : List ℕ) (number : ℕ) → bytes ≡ memoryOf block number → length bytes ≡ 32
-cell-length bytes block number same = ap length same ∙ memory-length block number
 
 -- the cells of a block of bytes are bytes
 pub cell-bytes : (block : List ℕ) → ((i : ℕ) → Fits w8 (getD block i 0)) → (number : ℕ) → IsBytes (memoryOf block number)

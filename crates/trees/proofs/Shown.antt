@@ -16,11 +16,12 @@ use Rattle.nodes.specs.Pointer.{Pointer, pointer}
 use Rattle.nodes.specs.Pointer.Pointer.{nothing, leaf, chain, split, sparse, prefix, invalid}
 use Rattle.nodes.specs.Node.{Node, childless, readAt}
 use Rattle.nodes.proofs.Frame.{read-is}
+use Rattle.nodes.proofs.Read.{plain-value}
 use Rattle.trees.specs.Tree.{tree}
 use Rattle.trees.specs.Root.{isRoot}
 use Rattle.trees.specs.Lookup.{lookup}
 use Rattle.trees.proofs.Tree.{tree-cut, child-tree, lookup-nil, lookup-cons, lookup-other, lookup-zero}
-use Rattle.trees.proofs.Children.{plain-value, read-parent}
+use Rattle.trees.proofs.Children.{read-parent}
 
 module _ (layout : Layout) (m : Memory) where
   -- no key longer than the depth is shown

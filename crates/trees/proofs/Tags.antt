@@ -3,37 +3,23 @@ use mathlib.Core.Path.{_≡_, refl, sym, _∙_}
 use mathlib.Core.Logic.{_≢_}
 use mathlib.Core.Bool.{false}
 use mathlib.Core.List.{[], _∷_}
-use mathlib.Core.Option.{none}
 use Prim.Native.Nat.{ℕ}
-use types.Run.{OneOf, miss}
-use denote.Enum.Declared.{tagOf}
+use types.Run.{miss}
 use Rattle.cells.specs.Memory.{Memory}
-use Rattle.nodes.proofs.pointer.Pointer.{the-type}
 use Rattle.nodes.specs.Layout.{Layout}
 use Rattle.nodes.specs.Pointer.{pointer}
 use Rattle.nodes.specs.Pointer.Pointer.{nothing, chain, split, sparse, invalid}
-use Rattle.nodes.specs.Split.{splitCell}
 use Rattle.nodes.specs.Coded.{pointerOf}
 use Rattle.nodes.specs.declared.pointer.Pointer.{Pointer as CodedPointer}
 use Rattle.nodes.specs.declared.pointer.Pointer.the-variants.{Nothing, Leaf, Chain, Split, Sparse, Prefix, Invalid}
 use Rattle.nodes.proofs.Pointers.{names}
+use Rattle.nodes.proofs.Rest.{Among}
 use Rattle.trees.specs.Tree.{tree}
 use Rattle.trees.specs.Parts.{isPlain, plainTree}
 use Rattle.trees.proofs.ChildTrees.{plain-is, plain-not, tree-invalid}
 
--- any but a split
-pub not-split : (p : CodedPointer) → OneOf (0 ∷ 1 ∷ 2 ∷ 4 ∷ 5 ∷ 6 ∷ []) (tagOf the-type p) → splitCell (pointerOf p) ≡ none
-unfolding splitCell
-not-split Nothing t = refl
-not-split (Leaf v) t = refl
-not-split (Chain c k) t = refl
-not-split (Split c) t = absurd (miss (0 ∷ 1 ∷ 2 ∷ 4 ∷ 5 ∷ 6 ∷ []) 3 tt t)
-not-split (Sparse c) t = refl
-not-split (Prefix c) t = refl
-not-split Invalid t = refl
-
 -- any but a chain, sparse or split
-pub not-plain : (p : CodedPointer) → OneOf (0 ∷ 1 ∷ 5 ∷ 6 ∷ []) (tagOf the-type p) → isPlain (pointerOf p) ≡ false
+pub not-plain : (p : CodedPointer) → Among (0 ∷ 1 ∷ 5 ∷ 6 ∷ []) p → isPlain (pointerOf p) ≡ false
 unfolding isPlain
 not-plain Nothing t = refl
 not-plain (Leaf v) t = refl
@@ -44,7 +30,7 @@ not-plain (Prefix c) t = refl
 not-plain Invalid t = refl
 
 -- any but a leaf or a prefix: what is not NONE is judged as a plain node
-pub other-plain : (layout : Layout) (m : Memory) (d w : ℕ) (p : CodedPointer) → OneOf (0 ∷ 2 ∷ 3 ∷ 4 ∷ 6 ∷ []) (tagOf the-type p)
+pub other-plain : (layout : Layout) (m : Memory) (d w : ℕ) (p : CodedPointer) → Among (0 ∷ 2 ∷ 3 ∷ 4 ∷ 6 ∷ []) p
     → pointerOf p ≡ pointer layout w → w ≢ 0 → tree layout m d w ≡ plainTree layout m d w
 unfolding isPlain
 other-plain layout m d w Nothing t coded other = absurd (other (names layout w nothing (sym coded)))

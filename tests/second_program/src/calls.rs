@@ -2,7 +2,7 @@
 
 use crate::coverage::Coverage;
 use crate::encode::{entered, fresh_cells, Cases, Layer};
-use crate::model::{put_word, word_at, Book, CELL, LONGEST_KEY};
+use crate::model::{put_word, word_at, Store, CELL, LONGEST_KEY};
 use crate::verdict::{verdict, Question};
 use std::ops::Bound;
 
@@ -73,23 +73,23 @@ fn answer(block: &mut [u8], call: &Call, coverage: &mut Coverage) -> Outcome {
     if let Call::Format = call {
         return format(block);
     }
-    let book = match Book::decode(block) {
-        Ok(book) => book,
+    let store = match Store::decode(block) {
+        Ok(store) => store,
         Err(flaw) => {
             coverage.flaw(flaw);
             return Outcome::bare(2);
         }
     };
-    coverage.meet(&book.met);
+    coverage.meet(&store.met);
     match call {
         Call::Format | Call::Validate => Outcome::bare(0),
-        Call::Insert { key, value } => insert(block, book, key, *value, coverage),
-        Call::Get { key } => get(&book, key),
-        Call::NextKey { key } => next_key(&book, key),
+        Call::Insert { key, value } => insert(block, store, key, *value, coverage),
+        Call::Get { key } => get(&store, key),
+        Call::NextKey { key } => next_key(&store, key),
         Call::Snapshot { slot } => snapshot(block, *slot),
         Call::Restore { slot } => restore(block, *slot),
         Call::Release { slot } => release(block, *slot),
-        Call::Verdict(question) => verdict(&book, question),
+        Call::Verdict(question) => verdict(&store, question),
     }
 }
 
@@ -113,16 +113,16 @@ fn format(block: &mut [u8]) -> Outcome {
 }
 
 /// Puts one pair into the root's table; the number is the count of cells taken.
-fn insert(block: &mut [u8], book: Book, key: &[u8], value: u32, coverage: &mut Coverage) -> Outcome {
+fn insert(block: &mut [u8], store: Store, key: &[u8], value: u32, coverage: &mut Coverage) -> Outcome {
     if !valid_key(key) {
         return Outcome::bare(3);
     }
     if value > 0x7FFF_FFFF {
         return Outcome::bare(4);
     }
-    let free = book.free_cells();
+    let free = store.free_cells();
     let mut cases = Cases::new();
-    let tree = entered(book.root.top, key, value, &mut cases);
+    let tree = entered(store.root.top, key, value, &mut cases);
     let count = fresh_cells(&tree);
     coverage.room(count, free.len());
     if count > free.len() {
@@ -137,22 +137,22 @@ fn insert(block: &mut [u8], book: Book, key: &[u8], value: u32, coverage: &mut C
 }
 
 /// The value of a key that the root shows.
-fn get(book: &Book, key: &[u8]) -> Outcome {
+fn get(store: &Store, key: &[u8]) -> Outcome {
     if !valid_key(key) {
         return Outcome::bare(3);
     }
-    match book.root.table().get(key) {
+    match store.root.table().get(key) {
         Some(value) => Outcome::done(*value),
         None => Outcome::bare(11),
     }
 }
 
 /// The least key shown that is greater than the given one; the number is its size.
-fn next_key(book: &Book, key: &[u8]) -> Outcome {
+fn next_key(store: &Store, key: &[u8]) -> Outcome {
     if key.len() > LONGEST_KEY {
         return Outcome::bare(3);
     }
-    let table = book.root.table();
+    let table = store.root.table();
     let mut greater = table.range::<[u8], _>((Bound::Excluded(key), Bound::Unbounded));
     let Some((next, _)) = greater.next() else {
         return Outcome::bare(11);

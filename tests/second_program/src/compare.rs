@@ -3,7 +3,7 @@
 use crate::calls::{perform, Call, Outcome};
 use crate::coverage::Coverage;
 use crate::ledger::Ledger;
-use crate::model::{Book, CELL};
+use crate::model::{Store, CELL};
 
 /// The other program's way to make a call.
 pub type Other = fn(&mut [u8], &Call) -> Outcome;
@@ -59,7 +59,7 @@ impl Comparison {
         if expected != outcome.answer {
             self.note(call, &before, &format!("the ledger says {expected}, the model {}", outcome.answer));
         }
-        let shown = Book::decode(block).is_ok_and(|book| ledger.shown_by(&book));
+        let shown = Store::decode(block).is_ok_and(|store| ledger.shown_by(&store));
         if !shown {
             self.note(call, &before, "the block does not show the ledger's tables");
         }

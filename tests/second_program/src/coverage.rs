@@ -35,9 +35,9 @@ macro_rules! counted {
 
 counted! {
     /// The rules of soundness, one for each way to break them.
-    Flaw: HeldBits, StrayBytes, CellCount, Edition, OpenMarkWord, RootLeaf, RootPrefix, MarkLeaf, MarkPrefix, CellZero,
-    TrailerCell, BeyondTrailer, NoKind, EnteredTwice, ChainWithoutChild, DeepChain, DeepSparse, DeepSplit, SparseGap,
-    SparseOfFew, Characters, OrderWord, PartWord, EmptyHead, EmptyMid, EmptyEnd, PrefixValue, PrefixFlag,
+    Flaw: HeldBits, StrayBytes, CellCount, Edition, OpenSlotWord, RootLeaf, RootPrefix, SnapshotLeaf, SnapshotPrefix,
+    CellZero, TrailerCell, BeyondTrailer, NoKind, EnteredTwice, ChainWithoutChild, DeepChain, DeepSparse, DeepSplit,
+    SparseGap, SparseOfFew, Characters, OrderWord, PartWord, EmptyHead, EmptyMid, EmptyEnd, PrefixValue, PrefixFlag,
     PrefixOverNone, PrefixOverLeaf, PrefixOverPrefix,
 }
 

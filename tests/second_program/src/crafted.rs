@@ -20,7 +20,7 @@ const TRAPS: [(usize, Trap); 9] = [
     (1, single_chain),
 ];
 
-/// A block with one trap, reached from the root or from a mark.
+/// A block with one trap, reached from the root or from a snapshot.
 pub fn crafted_block(cells: usize, random: &mut Random) -> Vec<u8> {
     let mut block = junk(cells.max(8), random);
     let (_, trap) = TRAPS[random.weighted(&TRAPS.map(|(weight, _)| weight))];

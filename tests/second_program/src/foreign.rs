@@ -2,7 +2,7 @@
 
 use crate::calls::valid_length;
 use crate::generate::Scene;
-use crate::model::{pointer, put_word, Book, CELL, LONGEST_KEY};
+use crate::model::{pointer, put_word, Store, CELL, LONGEST_KEY};
 use crate::random::Random;
 use std::collections::{BTreeMap, BTreeSet};
 
@@ -45,12 +45,12 @@ pub fn foreign_block(cells: usize, limit: usize, scene: &Scene, random: &mut Ran
     let (entered, planted) = (BTreeSet::new(), Vec::new());
     let mut planter = Planter { random, scene, block, unused, entered, planted, weights, limit };
     let root = if planter.random.chance(92) { planter.tree() } else { 0 };
-    let mut marks = [None; 3];
-    for mark in &mut marks {
-        *mark = planter.mark(root);
+    let mut snapshots = [None; 3];
+    for snapshot in &mut snapshots {
+        *snapshot = planter.snapshot(root);
     }
     let mut block = planter.block;
-    write_trailer(&mut block, root, &marks);
+    write_trailer(&mut block, root, &snapshots);
     if limit == LONGEST_KEY && random.chance(25) {
         cross_read(&mut block, random);
     }
@@ -73,21 +73,21 @@ pub fn junk(cells: usize, random: &mut Random) -> Vec<u8> {
     block
 }
 
-/// Writes a valid trailer with a root and marks.
-pub fn write_trailer(block: &mut [u8], root: u32, marks: &[Option<u32>; 3]) {
+/// Writes a valid trailer with a root and snapshots.
+pub fn write_trailer(block: &mut [u8], root: u32, snapshots: &[Option<u32>; 3]) {
     let cells = block.len() / CELL;
     let trailer = &mut block[(cells - 1) * CELL..];
     trailer.fill(0);
     put_word(trailer, 0, root);
-    for (slot, mark) in marks.iter().enumerate() {
-        put_word(trailer, 4 + 4 * slot, mark.unwrap_or(0));
-        trailer[0x10] |= u8::from(mark.is_some()) << slot;
+    for (slot, snapshot) in snapshots.iter().enumerate() {
+        put_word(trailer, 4 + 4 * slot, snapshot.unwrap_or(0));
+        trailer[0x10] |= u8::from(snapshot.is_some()) << slot;
     }
     put_word(trailer, 0x14, cells as u32);
     put_word(trailer, 0x1C, 1);
 }
 
-/// Aims marks at cells that other trees use, at any kind, and keeps those that leave the block sound.
+/// Aims snapshots at cells that other trees use, at any kind, and keeps those that leave the block sound.
 fn cross_read(block: &mut Vec<u8>, random: &mut Random) {
     let cells = block.len() / CELL;
     let trailer = block.len() - CELL;
@@ -96,7 +96,7 @@ fn cross_read(block: &mut Vec<u8>, random: &mut Random) {
         let slot = random.below(3);
         put_word(&mut aimed, trailer + 4 + 4 * slot, pointer(random.between(1, cells - 2), random.below(32)));
         aimed[trailer + 0x10] |= 1 << slot;
-        if Book::decode(&aimed).is_ok() {
+        if Store::decode(&aimed).is_ok() {
             *block = aimed;
         }
     }
@@ -131,8 +131,8 @@ impl Planter<'_> {
         self.node(0).map_or(0, |planted| planted.word)
     }
 
-    /// A mark: open, empty, the root, any planted node (a run's middle too), or a tree of its own that may share.
-    fn mark(&mut self, root: u32) -> Option<u32> {
+    /// A snapshot: open, empty, the root, any planted node (a run's middle too), or a tree of its own that may share.
+    fn snapshot(&mut self, root: u32) -> Option<u32> {
         match self.random.below(6) {
             0 => None,
             1 => Some(0),

@@ -1,7 +1,7 @@
 //! Hostile and damaged blocks: sound ones with one rule broken, noise, bad lengths.
 
 use crate::foreign::{junk, write_trailer};
-use crate::model::{pointer, put_word, split_children, word_at, Book, Node, Place, CELL};
+use crate::model::{pointer, put_word, split_children, word_at, Node, Place, Store, CELL};
 use crate::random::Random;
 
 /// What stands at an offset that has a meaning.
@@ -86,17 +86,17 @@ fn find_spots(node: &Node, spots: &mut Vec<Spot>) {
 
 /// Breaks a sound block in one place.
 pub fn damage(block: &mut [u8], random: &mut Random) {
-    let Ok(book) = Book::decode(block) else {
+    let Ok(store) = Store::decode(block) else {
         return flip(block, 0..block.len(), random);
     };
     let trailer = block.len() - CELL;
     let mut spots = vec![(trailer, Role::Child)];
-    for (slot, mark) in book.marks.iter().enumerate() {
-        if mark.is_some() {
+    for (slot, snapshot) in store.snapshots.iter().enumerate() {
+        if snapshot.is_some() {
             spots.push((trailer + 4 + 4 * slot, Role::Child));
         }
     }
-    for tree in book.trees() {
+    for tree in store.trees() {
         tree.top.iter().for_each(|top| find_spots(top, &mut spots));
     }
     match random.weighted(&[8, 10, 6, 12, 50, 4, 4]) {

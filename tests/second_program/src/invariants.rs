@@ -4,7 +4,7 @@ use crate::calls::{perform, Call, Outcome};
 use crate::coverage::Coverage;
 use crate::encode::Layer;
 use crate::ledger::Ledger;
-use crate::model::{put_word, word_at, Book, Node, Place, CELL};
+use crate::model::{put_word, word_at, Node, Place, Store, CELL};
 
 /// The first promise that a call broke, in words.
 type Verdict = Result<(), String>;
@@ -32,23 +32,23 @@ pub fn check(before: &[u8], after: &[u8], call: &Call, outcome: &Outcome) -> Ver
         demand(*outcome == Outcome::bare(outcome.answer), "a refusal gives zeros")?;
         return check_no_room(before, call, outcome);
     }
-    let book = Book::decode(after).map_err(|flaw| format!("broken: the block is sound after the call ({flaw:?})"))?;
+    let store = Store::decode(after).map_err(|flaw| format!("broken: the block is sound after the call ({flaw:?})"))?;
     match call {
         Call::Format => demand(is_fresh(after), "a fresh block is zero but for its size and edition"),
         Call::Validate | Call::Get { .. } | Call::NextKey { .. } | Call::Verdict(_) => {
             demand(before == after, "a reading call leaves the block")
         }
         _ => {
-            let old = Book::decode(before).expect("an accepted call had a sound block");
+            let old = Store::decode(before).expect("an accepted call had a sound block");
             let mut ledger = Ledger::of(&old);
             demand(ledger.feed(call, false) == Some(0), "the ledger accepts too")?;
-            demand(ledger.shown_by(&book), "the tables are those of the ledger")?;
-            check_bytes(before, after, call, &old, &book, outcome)
+            demand(ledger.shown_by(&store), "the tables are those of the ledger")?;
+            check_bytes(before, after, call, &old, &store, outcome)
         }
     }
 }
 
-/// Whether a block is that of a fresh book.
+/// Whether a block is a fresh one.
 fn is_fresh(block: &[u8]) -> bool {
     let trailer = block.len() - CELL;
     let numbers = [trailer + 0x16, trailer + 0x17, trailer + 0x1F];
@@ -58,7 +58,7 @@ fn is_fresh(block: &[u8]) -> bool {
 
 /// The next key is shown, is greater, and no shown key lies between.
 fn check_next(block: &[u8], key: &[u8], outcome: &Outcome) -> Verdict {
-    let shown: Vec<Vec<u8>> = Book::decode(block).expect("sound").root.table().into_keys().collect();
+    let shown: Vec<Vec<u8>> = Store::decode(block).expect("sound").root.table().into_keys().collect();
     let greater = shown.iter().filter(|candidate| candidate.as_slice() > key).min();
     let size = outcome.number as usize;
     let expected = greater.map(|next| next.as_slice());
@@ -67,10 +67,10 @@ fn check_next(block: &[u8], key: &[u8], outcome: &Outcome) -> Verdict {
 }
 
 /// Which bytes a mutating call may write.
-fn check_bytes(before: &[u8], after: &[u8], call: &Call, old: &Book, new: &Book, outcome: &Outcome) -> Verdict {
+fn check_bytes(before: &[u8], after: &[u8], call: &Call, old: &Store, new: &Store, outcome: &Outcome) -> Verdict {
     let trailer = before.len() - CELL;
     let Call::Insert { key, value } = call else {
-        return demand(before[..trailer] == after[..trailer], "a mark's call writes the trailer alone");
+        return demand(before[..trailer] == after[..trailer], "a snapshot's call writes the trailer alone");
     };
     let count = outcome.number as usize;
     let free = old.free_cells();
@@ -83,7 +83,7 @@ fn check_bytes(before: &[u8], after: &[u8], call: &Call, old: &Book, new: &Book,
     for cell in &taken {
         rebuilt[cell * CELL..][..CELL].fill(0);
     }
-    let top = Book::decode(after).expect("sound").root.top.expect("an insertion leaves a root");
+    let top = Store::decode(after).expect("sound").root.top.expect("an insertion leaves a root");
     let top = as_new(top, &taken);
     let root = Layer { block: &mut rebuilt, free: taken.clone().into_iter() }.lay(&top);
     demand(root == word_at(after, trailer), "the decoded tree encodes to the same root")?;
@@ -110,7 +110,7 @@ fn check_no_room(before: &[u8], call: &Call, outcome: &Outcome) -> Verdict {
     let Some(mut enlarged) = larger else {
         return Ok(());
     };
-    let free = Book::decode(before).expect("sound").free_cells().len();
+    let free = Store::decode(before).expect("sound").free_cells().len();
     let outcome = perform(&mut enlarged, call, &mut Coverage::new());
     demand(outcome.answer == 0, "a larger block has room")?;
     demand(outcome.number as usize > free, "more cells are taken than were free")

@@ -1,7 +1,7 @@
 //! The ledger beside a history: it never looks into the block, and says what each call must answer.
 
 use crate::calls::{valid_key, Call};
-use crate::model::{Book, Table};
+use crate::model::{Store, Table};
 
 /// The present table, and for each slot a table or nothing.
 #[derive(Default)]
@@ -26,21 +26,21 @@ impl Ledger {
         }
     }
 
-    /// The ledger of a sound block that no history made: what its root and marks show.
+    /// The ledger of a sound block that no history made: what its root and snapshots show.
     #[cfg(alone)]
-    pub fn of(book: &Book) -> Ledger {
-        let slots = [0, 1, 2].map(|place: usize| book.marks[place].as_ref().map(|tree| tree.table()));
-        Ledger { present: book.root.table(), slots }
+    pub fn of(store: &Store) -> Ledger {
+        let slots = [0, 1, 2].map(|place: usize| store.snapshots[place].as_ref().map(|tree| tree.table()));
+        Ledger { present: store.root.table(), slots }
     }
 
-    /// Whether a block shows the present table, and its marks exactly the tables of the slots.
-    pub fn shown_by(&self, book: &Book) -> bool {
-        let mut slots = self.slots.iter().zip(&book.marks);
-        let same = slots.all(|(slot, mark)| *slot == mark.as_ref().map(|tree| tree.table()));
-        same && book.root.table() == self.present
+    /// Whether a block shows the present table, and its snapshots exactly the tables of the slots.
+    pub fn shown_by(&self, store: &Store) -> bool {
+        let mut slots = self.slots.iter().zip(&store.snapshots);
+        let same = slots.all(|(slot, snapshot)| *slot == snapshot.as_ref().map(|tree| tree.table()));
+        same && store.root.table() == self.present
     }
 
-    /// Entering: 3 or 4 by the arguments, 7 if that was fed, else the key has this value.
+    /// Insert: 3 or 4 by the arguments, 7 if that was fed, else the key has this value.
     fn insert(&mut self, key: &[u8], value: u32, no_room: bool) -> u8 {
         if !valid_key(key) {
             return 3;
@@ -60,7 +60,7 @@ impl Ledger {
         [1, 2, 3].iter().position(|valid| *valid == slot)
     }
 
-    /// Marking: the slot holds the present table.
+    /// Snapshot: the slot holds the present table.
     fn snapshot(&mut self, slot: u32) -> u8 {
         let Some(place) = Ledger::place(slot) else {
             return 5;
@@ -69,7 +69,7 @@ impl Ledger {
         0
     }
 
-    /// Going back: the present table is the slot's, which the slot keeps.
+    /// Restore: the present table is the slot's, which the slot keeps.
     fn restore(&mut self, slot: u32) -> u8 {
         let Some(place) = Ledger::place(slot) else {
             return 5;
@@ -81,7 +81,7 @@ impl Ledger {
         0
     }
 
-    /// Dropping: the slot has nothing.
+    /// Release: the slot has nothing.
     fn release(&mut self, slot: u32) -> u8 {
         let Some(place) = Ledger::place(slot) else {
             return 5;

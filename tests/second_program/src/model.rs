@@ -47,9 +47,9 @@ pub struct Tree {
 }
 
 /// A sound block, decoded.
-pub struct Book {
+pub struct Store {
     pub root: Tree,
-    pub marks: [Option<Tree>; 3],
+    pub snapshots: [Option<Tree>; 3],
     pub met: Met,
 }
 
@@ -77,36 +77,36 @@ pub fn order_word(characters: &[u8]) -> Option<u16> {
     Some(by_character.values().rev().fold(0, |word, position| word * 6 + *position as u16))
 }
 
-impl Book {
+impl Store {
     /// Decodes a block of valid length, or names the first rule that it breaks.
-    pub fn decode(block: &[u8]) -> Result<Book, Flaw> {
+    pub fn decode(block: &[u8]) -> Result<Store, Flaw> {
         let cells = block.len() / CELL;
         let trailer = (cells - 1) * CELL;
         judge_trailer(&block[trailer..], cells)?;
         let mut met = Met::default();
         let root = decode_tree(block, word_at(block, trailer), [Flaw::RootLeaf, Flaw::RootPrefix], &mut met)?;
-        let mut marks = [None, None, None];
-        for (slot, mark) in marks.iter_mut().enumerate() {
+        let mut snapshots = [None, None, None];
+        for (slot, snapshot) in snapshots.iter_mut().enumerate() {
             if block[trailer + 0x10] >> slot & 1 == 1 {
                 let word = word_at(block, trailer + 4 + 4 * slot);
-                *mark = Some(decode_tree(block, word, [Flaw::MarkLeaf, Flaw::MarkPrefix], &mut met)?);
+                *snapshot = Some(decode_tree(block, word, [Flaw::SnapshotLeaf, Flaw::SnapshotPrefix], &mut met)?);
             }
         }
-        let mut book = Book { root, marks, met };
-        book.meet_sharing();
-        Ok(book)
+        let mut store = Store { root, snapshots, met };
+        store.meet_sharing();
+        Ok(store)
     }
 
-    /// The usable cells that neither the root nor a held mark reaches, lowest first.
+    /// The usable cells that neither the root nor a held snapshot reaches, lowest first.
     pub fn free_cells(&self) -> Vec<usize> {
         let usable = 1..self.root.entered.len() - 1;
         let reached = |cell: usize| self.trees().any(|tree| tree.entered[cell].is_some());
         usable.filter(|cell| !reached(*cell)).collect()
     }
 
-    /// The root's tree and each held mark's.
+    /// The root's tree and each held snapshot's.
     pub fn trees(&self) -> impl Iterator<Item = &Tree> {
-        std::iter::once(&self.root).chain(self.marks.iter().flatten())
+        std::iter::once(&self.root).chain(self.snapshots.iter().flatten())
     }
 
     /// Notes whether roots share cells, and whether one enters a cell at another kind than the next.
@@ -122,7 +122,7 @@ impl Book {
     }
 }
 
-/// Judges all of the trailer but the root and mark pointers themselves.
+/// Judges all of the trailer but the root and snapshot pointers themselves.
 fn judge_trailer(trailer: &[u8], cells: usize) -> Result<(), Flaw> {
     if trailer[0x10] > 7 {
         return Err(Flaw::HeldBits);
@@ -138,7 +138,7 @@ fn judge_trailer(trailer: &[u8], cells: usize) -> Result<(), Flaw> {
     }
     let open = |slot: &usize| trailer[0x10] >> *slot & 1 == 0;
     if (0..3).filter(open).any(|slot| word_at(trailer, 4 + 4 * slot) != 0) {
-        return Err(Flaw::OpenMarkWord);
+        return Err(Flaw::OpenSlotWord);
     }
     Ok(())
 }

@@ -7,7 +7,7 @@ use crate::foreign::{foreign_block, junk};
 use crate::generate::{Scene, Weights, BAD_LENGTH, FOREIGN, HISTORY, HOSTILE};
 use crate::hostile::{bad_length_block, damage, noise_block};
 use crate::ledger::Ledger;
-use crate::model::{Book, LONGEST_KEY};
+use crate::model::{Store, LONGEST_KEY};
 use crate::random::Random;
 
 /// Scenes of random calls until the target is reached; each scene has its own seed, so that it can be met again.
@@ -41,8 +41,8 @@ fn draw_cells(comparison: &Comparison, random: &mut Random) -> usize {
 
 /// Lets a scene draw its keys from those that a sound block shows.
 pub fn remember_shown(scene: &mut Scene, block: &[u8]) {
-    if let Ok(book) = Book::decode(block) {
-        scene.remember(book.root.table().into_keys());
+    if let Ok(store) = Store::decode(block) {
+        scene.remember(store.root.table().into_keys());
     }
 }
 

@@ -4,7 +4,7 @@ use crate::calls::{perform, Call, Outcome};
 use crate::coverage::Coverage;
 use crate::foreign::order_word_block;
 use crate::generate::Scene;
-use crate::model::{put_word, word_at, Book, CELL};
+use crate::model::{put_word, word_at, Store, CELL};
 use crate::random::Random;
 use crate::verdict::{
     celsius, day_number, rounded, Question, CELSIUS, FAHRENHEIT, GATE_ANY, GATE_AT_LEAST, GATE_BETWEEN,
@@ -117,7 +117,7 @@ fn sample_i_order_words() {
     assert_eq!((0..=u16::MAX).filter(|order| valid_order(*order)).count(), 436);
     let mut random = Random::seeded(436);
     for order in 0..=u16::MAX {
-        let sound = Book::decode(&order_word_block(order, &mut random)).is_ok();
+        let sound = Store::decode(&order_word_block(order, &mut random)).is_ok();
         assert_eq!(sound, valid_order(order), "order word {order:04X}");
     }
 }
@@ -248,11 +248,11 @@ fn foreign_tables_rebuilt() {
         let scene = Scene::drawn(&mut random);
         let cells = random.between(4, 63);
         let block = crate::foreign::foreign_block(cells, 48, &scene, &mut random);
-        let table = Book::decode(&block).expect("a foreign block is sound").root.table();
+        let table = Store::decode(&block).expect("a foreign block is sound").root.table();
         let mut rebuilt = fresh(2048);
         for (key, value) in &table {
             assert_eq!(insert(&mut rebuilt, key, *value).0, 0);
         }
-        assert_eq!(Book::decode(&rebuilt).expect("sound").root.table(), table);
+        assert_eq!(Store::decode(&rebuilt).expect("sound").root.table(), table);
     }
 }

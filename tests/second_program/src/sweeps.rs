@@ -39,10 +39,10 @@ fn insert(key: &[u8], value: u32) -> Call {
 /// The histories of samples A to H, the long labels, the seven children, and a split of all characters.
 fn samples() -> Vec<(usize, Vec<Call>)> {
     let (one, two, three) = (insert(b"A", 0), insert(b"A", 1), insert(b"A", 2));
-    let (mark, back) = (Call::Snapshot { slot: 1 }, Call::Restore { slot: 1 });
+    let (snapshot, restore) = (Call::Snapshot { slot: 1 }, Call::Restore { slot: 1 });
     let long = insert(b"CHA", 0);
     let mut histories = vec![
-        (4, vec![one, mark, two, three.clone(), back, three]),
+        (4, vec![one, snapshot, two, three.clone(), restore, three]),
         (8, vec![long.clone(), insert(b"A", 1), insert(b"5", 2)]),
         (8, vec![long, insert(b"C", 5)]),
         (32, b"35ABCPQ".iter().map(|character| insert(&[*character], 7)).collect()),

@@ -1,7 +1,7 @@
 //! The verdict: calendar, reading, sheet and gate, and whether a cartridge may be dosed now.
 
 use crate::calls::{valid_key, Outcome};
-use crate::model::Book;
+use crate::model::Store;
 
 /// What a verdict is asked on, in the numbers of the call for firmware.
 #[derive(Clone, Debug)]
@@ -29,7 +29,7 @@ pub const GATE_AT_LEAST: u32 = 2;
 pub const GATE_BETWEEN: u32 = 3;
 
 /// The verdict of a sound block; a dose goes with answer 0 alone.
-pub fn verdict(book: &Book, question: &Question) -> Outcome {
+pub fn verdict(store: &Store, question: &Question) -> Outcome {
     if !valid_key(&question.label) {
         return Outcome::bare(3);
     }
@@ -42,7 +42,7 @@ pub fn verdict(book: &Book, question: &Question) -> Outcome {
     let Some(today) = day_number(question.year, question.month, question.day) else {
         return Outcome::bare(10);
     };
-    let Some(value) = book.root.table().get(&question.label).copied() else {
+    let Some(value) = store.root.table().get(&question.label).copied() else {
         return Outcome::bare(11);
     };
     let Some(expiry) = day_number(value / 512, value / 32 % 16, value % 32) else {

@@ -5,7 +5,7 @@ use native.Mathlib.Omega.{arith}
 use Prim.Native.Nat.{_-_, _≤_}
 use borrow.Author.Needs.{needs}
 use Rattle.nodes.specs.Sparse.{positionOf}
-use Rattle.insertion.proofs.SplitBound.{count-most}
+use Rattle.nodes.proofs.SparseSteps.{count-small}
 use Rattle.insertion.proofs.StagedSparse.{position-here, position-later, position-among, position-past}
 use Rattle.insertion.proofs.sparse_set.position_of.Statement.{statement}
 use Rattle.insertion.proofs.sparse_set.position_of.Tie as tie
@@ -30,11 +30,11 @@ loop-holds c = (omega arith, rw sub-zero)
 
 -- src/sparse_set.rt:29:22
 add-if1 : tie.Need-add-if1 Inv-loop μ-loop
-add-if1 c = omega (arith, c .before .before .sparse-count .ensures, count-most (c .before .before .before .before .args .cell .now))
+add-if1 c = omega (arith, c .before .before .sparse-count .ensures, count-small (c .before .before .before .before .args .cell .now))
 
 -- src/sparse_set.rt:29:17
 shared-slice-read-if1 : tie.Need-shared-slice-read-if1 Inv-loop μ-loop
-shared-slice-read-if1 c = omega (arith, c .before .before .before .sparse-count .ensures, count-most (c .before .before .before .before .before .args .cell .now))
+shared-slice-read-if1 c = omega (arith, c .before .before .before .sparse-count .ensures, count-small (c .before .before .before .before .before .args .cell .now))
 
 -- src/sparse_set.rt:30:13
 returns : tie.Need-returns Inv-loop μ-loop

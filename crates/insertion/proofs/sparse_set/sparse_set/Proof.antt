@@ -3,7 +3,7 @@ use native.Mathlib.Omega.{arith}
 use lib.ListN.{length}
 use Rattle.cells.proofs.Memory.{memory-length}
 use Rattle.nodes.specs.Sparse.{sparseCount}
-use Rattle.insertion.proofs.SplitBound.{count-most}
+use Rattle.nodes.proofs.SparseSteps.{count-small}
 use Rattle.insertion.proofs.StagedSparse.{replaced-fits, replaced-is, appended-fits, appended-is, seventh-fits, seventh-is}
 use borrow.Author.Needs.{needs}
 use Rattle.insertion.proofs.sparse_set.sparse_set.Statement.{statement}
@@ -33,7 +33,7 @@ position-of-requires c κs = ap length (c .before .cell .ensures) ∙ memory-len
 
 -- src/sparse_set.rt:62:9
 put-replaced-requires : tie.Need-put-replaced-requires
-put-replaced-requires c κs = (replaced-fits _ _ _ _ _ _ _ _ _ (c .before .before .before .before .cell .ensures) (c .before .before .before .sparse-count .ensures) (c .before .before .position-of .ensures) (c .before .if1 .taken) (c .before .before .before .before .before .before .pre .3), search needs, omega (arith, c .before .before .before .sparse-count .ensures, count-most (c .before .before .before .before .cell .result .now)))
+put-replaced-requires c κs = (replaced-fits _ _ _ _ _ _ _ _ _ (c .before .before .before .before .cell .ensures) (c .before .before .before .sparse-count .ensures) (c .before .before .position-of .ensures) (c .before .if1 .taken) (c .before .before .before .before .before .before .pre .3), search needs, omega (arith, c .before .before .before .sparse-count .ensures, count-small (c .before .before .before .before .cell .result .now)))
 
 -- src/sparse_set.rt:63:9
 allocated-as-requires : tie.Need-allocated-as-requires

@@ -1,5 +1,4 @@
 use Rattle.nodes.proofs.Usable.{unusable-low, unusable-high, usable-behind}
-use native.Mathlib.Omega.{arith}
 use borrow.Author.Needs.{needs}
 use Rattle.nodes.proofs.layout.is_usable.Statement.{statement}
 use Rattle.nodes.proofs.layout.is_usable.Tie as tie

@@ -5,7 +5,8 @@ use native.Mathlib.Omega.{arith}
 use borrow.Author.Needs.{needs}
 use borrow.Author.Tests.{not-true, not-false}
 use Rattle.nodes.proofs.SparseSteps.{position-small}
-use Rattle.nodes.proofs.SparseLeast.{characterAt, sparse-least-read, sparse-least-past, sparse-passed}
+use Rattle.nodes.proofs.SparseChildren.{characterAt}
+use Rattle.nodes.proofs.SparseLeast.{sparse-least-read, sparse-least-past, sparse-passed}
 use Rattle.nodes.proofs.LeastWays.{sparse-least-broken}
 use Rattle.nodes.proofs.least.sparse_least.Statement.{statement}
 use Rattle.nodes.proofs.least.sparse_least.Tie as tie

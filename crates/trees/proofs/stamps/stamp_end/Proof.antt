@@ -8,7 +8,7 @@ use Rattle.nodes.proofs.Coded.{coded-split, split-facts}
 use Rattle.trees.proofs.Judging.{judged-empty, judged-none, judged-same}
 use Rattle.trees.proofs.Reading.{under-none, test-fails, test-holds}
 use Rattle.trees.proofs.SplitTrees.{end-other, end-broken, end-split}
-use Rattle.trees.proofs.Tags.{not-split}
+use Rattle.nodes.proofs.Rest.{rest-of-split}
 use borrow.Author.Needs.{needs}
 use Rattle.trees.proofs.stamps.stamp_end.Statement.{statement}
 use Rattle.trees.proofs.stamps.stamp_end.Tie as tie
@@ -23,7 +23,7 @@ enum-known-number : tie.Need-enum-known-number
 enum-known-number c = search needs
 
 returns-2 : tie.Need-returns-2
-returns-2 c = judged-none _ _ _ _ (end-other _ _ _ (c .before .before .if1 .left) (ap splitCell (sym (c .before .pointer-of .ensures)) ∙ not-split (c .before .pointer-of .result) (c .match .keys2)))
+returns-2 c = judged-none _ _ _ _ (end-other _ _ _ (c .before .before .if1 .left) (ap splitCell (sym (c .before .pointer-of .ensures)) ∙ rest-of-split (c .before .pointer-of .result) (c .match .keys2)))
 
 cell-requires : tie.Need-cell-requires
 cell-requires c κs = omega (arith, split-facts _ _ _ (c .before .before .before .pointer-of .ensures) _ (c .before .number .given .1) .2)

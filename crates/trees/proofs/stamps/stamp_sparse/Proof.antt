@@ -1,7 +1,8 @@
 -- `stamp_sparse` meets its contract: a sparse cell that breaks a rule is refused, and else visited.
 use Rattle.nodes.specs.Sparse.{validSparse}
 use Rattle.trees.proofs.Judging.{judged-none, judged-same}
-use Rattle.trees.proofs.Reading.{cell-length, test-fails, test-holds}
+use Rattle.nodes.proofs.StepWays.{cell-length}
+use Rattle.trees.proofs.Reading.{test-fails, test-holds}
 use Rattle.trees.proofs.SparseTrees.{own-sparse-broken, own-sparse}
 use borrow.Author.Needs.{needs}
 use Rattle.trees.proofs.stamps.stamp_sparse.Statement.{statement}

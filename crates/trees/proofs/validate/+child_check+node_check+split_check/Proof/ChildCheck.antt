@@ -7,7 +7,8 @@ use Rattle.nodes.specs.Prefix.{validPrefix}
 use Rattle.nodes.proofs.Coded.{coded-leaf, coded-prefix, prefix-facts}
 use Rattle.trees.specs.Parts.{plainTree}
 use Rattle.trees.proofs.Judging.{judged-empty, judged-none, judged-same, first-failed, then-second}
-use Rattle.trees.proofs.Reading.{cell-length, last-word, test-fails, test-holds}
+use Rattle.nodes.proofs.StepWays.{cell-length}
+use Rattle.trees.proofs.Reading.{last-word, test-fails, test-holds}
 use Rattle.trees.proofs.ChildTrees.{child-none, child-deep, child-below, tree-leaf, prefix-broken, prefix-tree}
 use Rattle.trees.proofs.Tags.{other-plain}
 use borrow.Author.Needs.{needs}

@@ -10,7 +10,8 @@ use Rattle.nodes.proofs.Coded.{coded-chain, coded-sparse, coded-split, chain-fa
 use Rattle.trees.specs.Visit.{visit}
 use Rattle.trees.specs.Parts.{childTree}
 use Rattle.trees.proofs.Judging.{judged-none, judged-same, first-failed, then-second, walk-starts, walk-ends, walk-fails, walk-goes-on}
-use Rattle.trees.proofs.Reading.{cell-length, cell-bytes, last-word}
+use Rattle.nodes.proofs.StepWays.{cell-length}
+use Rattle.trees.proofs.Reading.{cell-bytes, last-word}
 use Rattle.trees.proofs.ChildTrees.{plain-not}
 use Rattle.trees.proofs.ChainTrees.{chain-deep, chain-tree}
 use Rattle.trees.proofs.PlainTrees.{own-first}

@@ -11,7 +11,7 @@ use Rattle.trees.specs.Parts.{childTree, tables, foundAt, tablesFrom}
 use Rattle.trees.proofs.Judging.{judged-empty, judged-none, judged-same, judged-word, walk-starts, walk-ends, walk-fails, walk-goes-on}
 use Rattle.trees.proofs.ChildTrees.{child-none}
 use Rattle.trees.proofs.SplitTrees.{tables-last, tables-none, tables-other, tables-split-from, tables-from}
-use Rattle.trees.proofs.Tags.{not-split}
+use Rattle.nodes.proofs.Rest.{rest-of-split}
 use borrow.Author.Needs.{needs}
 use Rattle.trees.proofs.validate.split_check.Reads as reads
 use Rattle.trees.proofs.validate.+child_check+node_check+split_check.Lts-split_check as lts
@@ -67,7 +67,7 @@ module _ (t : ℕ) where
   enum-known-number c = search needs
 
   pub returns-2 : lts.Need-returns-2 (split-told t) (split-check-at t) reads.Post Inv-loop μ-loop
-  returns-2 c = walk-fails _ _ _ _ _ _ _ (c .before .before .before .before .before .before .loop .inv .1) (c .before .before .before .before .before .before .before .before .args .count - c .before .before .before .before .before .before .loop .i - 1) (c .before .before .before .before .before .before .loop .stamps) _ (judged-word _ _ _ _ _ _ _ _ _ (c .before .before .before .before .word-at .ensures) (judged-none _ _ _ _ (tables-other _ _ _ _ _ (c .before .before .if2 .left) (c .before .before .before .if1 .left) (ap splitCell (sym (c .before .pointer-of .ensures)) ∙ not-split (c .before .pointer-of .result) (c .match .keys2))))) (omega arith) _ refl
+  returns-2 c = walk-fails _ _ _ _ _ _ _ (c .before .before .before .before .before .before .loop .inv .1) (c .before .before .before .before .before .before .before .before .args .count - c .before .before .before .before .before .before .loop .i - 1) (c .before .before .before .before .before .before .loop .stamps) _ (judged-word _ _ _ _ _ _ _ _ _ (c .before .before .before .before .word-at .ensures) (judged-none _ _ _ _ (tables-other _ _ _ _ _ (c .before .before .if2 .left) (c .before .before .before .if1 .left) (ap splitCell (sym (c .before .pointer-of .ensures)) ∙ rest-of-split (c .before .pointer-of .result) (c .match .keys2))))) (omega arith) _ refl
 
   pub mul-start : lts.Need-mul-start (split-told t) (split-check-at t) reads.Post Inv-loop μ-loop
   mul-start c = omega (arith, split-facts _ _ _ (c .before .before .before .pointer-of .ensures) _ (c .before .number .given .1) .2)

@@ -1,51 +1,22 @@
--- What a sparse cell is, and which child it has for a character.
-use mathlib.Core.Path.{_≡_, refl, sym, ap, _∙_, subst}
+-- A sparse cell by its parts: which child it has for a character, and its children in the order of their characters.
+use mathlib.Core.Path.{_≡_, refl, sym, ap, _∙_}
 use mathlib.Core.Logic.{_≢_}
 use mathlib.Core.Bool.{Bool, true, false, not}
 use mathlib.Core.List.{List, map}
-use native.Mathlib.Decide.{ℕ-discrete}
+use native.Mathlib.Decide.{decLt, ℕ-discrete}
 use native.Mathlib.Omega.{arith}
 use Prim.Native.Nat.{ℕ, zero, suc, _+_, _-_, _≤_, _<_}
 use lib.Dec.{eqb}
-use lib.ListN.{length}
+use lib.ListN.{length, getD, length-map}
 use borrow.Author.Tests.{eqb-true, eqb-false, eq-eqb, ne-eqb, not-true}
 use Rattle.cells.specs.Choice.{pick}
-use Rattle.cells.proofs.Choice.{both, absurd-false}
+use Rattle.cells.proofs.Choice.{both, each-of-four}
+use Rattle.cells.proofs.Occurrences.{occurrences-at, occurrences-index}
 use Rattle.order_words.specs.Order.{validDigits, rising}
-use Rattle.order_words.proofs.Both.{each-of-four}
-use Rattle.order_words.proofs.Valid.{at-most-six}
-use Rattle.nodes.specs.Sparse.{someWord, everyWord, sparseWord, sparseCharacter, sparseDigits, sparseCount, validSparse, positionOf, childFrom}
-use Rattle.insertion.proofs.SplitWords.{some-word-at, some-word-not}
-
--- every word is a pointer just where each one is
-pub every-word-is : (words : ℕ → ℕ) (count from : ℕ) → ((q : ℕ) → from ≤ q → q < from + count → words q ≢ 0) → everyWord words count from ≡ true
-unfolding everyWord
-every-word-is words zero from each = refl
-every-word-is words (suc count) from each =
-    rw (ne-eqb (words from) 0 (each from (omega arith) (omega arith)))
-    (every-word-is words count (from + 1) (λ q low high. each q (omega arith) (omega arith)))
-
-pub every-word-at : (words : ℕ → ℕ) (count from : ℕ) → everyWord words count from ≡ true → (q : ℕ) → from ≤ q → q < from + count → words q ≢ 0
-unfolding everyWord
-every-word-at words zero from e q low high = absurd (omega arith)
-every-word-at words (suc count) from e q low high =
-    go (eqb (words from) 0) refl e (λ later after. every-word-at words count (from + 1) later q after (omega arith))
-  where
-    go : (t : Bool) → eqb (words from) 0 ≡ t → pick t false (everyWord words count (from + 1)) ≡ true
-        → (everyWord words count (from + 1) ≡ true → from + 1 ≤ q → words q ≢ 0) → words q ≢ 0
-    go true first e later = absurd-false e
-    go false first e later = elim (ℕ-discrete from q) [
-      | yes here ↦ subst (λ r. words r ≢ 0) here (eqb-false (words from) 0 first)
-      | no other ↦ later e (omega arith)
-    ]
-
--- no word is a pointer where each one is NONE
-pub no-word-is : (words : ℕ → ℕ) (count from : ℕ) → ((q : ℕ) → from ≤ q → q < from + count → words q ≡ 0) → someWord words count from ≡ false
-no-word-is words count from each = go (someWord words count from) refl
-  where
-    go : (t : Bool) → someWord words count from ≡ t → t ≡ false
-    go true e = let r = some-word-at words count from e in absurd (r .3 (each (r .0) (r .1) (r .2)))
-    go false e = refl
+use Rattle.order_words.proofs.Valid.{at-most-six, digit-once, digit-below}
+use Rattle.nodes.specs.Sparse.{someWord, everyWord, sparseWord, sparseCharacter, sparseDigits, sparseCount, validSparse, positionOf, childFrom, sparseChild}
+use Rattle.nodes.proofs.WordRows.{some-word-not, every-word-is, every-word-at, no-word-is}
+use Rattle.nodes.proofs.Neighbours.{rising-at, map-at}
 
 -- a cell whose order word has these digits, with a child at each position that they name and no other
 pub record Sparse (bytes ds : List ℕ) : Type 0 where
@@ -107,17 +78,25 @@ module _ (bytes : List ℕ) (x : ℕ) where
         | no other ↦ later (omega arith) before
       ]
 
--- the child of a character is the word at the first position that has it
-pub child-found : (bytes : List ℕ) (y count from q : ℕ) → from ≤ q → q < from + count → sparseCharacter bytes q ≡ y
+-- the child of a character that no position has, and else the word at the first position that has it
+pub child-absent : (bytes : List ℕ) (y count from : ℕ) → ((q : ℕ) → from ≤ q → q < from + count → sparseCharacter bytes q ≢ y)
+    → childFrom bytes count from y ≡ 0
+unfolding childFrom
+child-absent bytes y zero from each = refl
+child-absent bytes y (suc count) from each =
+    let other : y ≢ sparseCharacter bytes from = λ e. each from (omega arith) (omega arith) (sym e) in
+    rw (ne-eqb y (sparseCharacter bytes from) other) (child-absent bytes y count (from + 1) (λ q low high. each q (omega arith) (omega arith)))
+
+pub child-at : (bytes : List ℕ) (y count from q : ℕ) → from ≤ q → q < from + count → sparseCharacter bytes q ≡ y
     → ((r : ℕ) → from ≤ r → r < q → sparseCharacter bytes r ≢ y) → childFrom bytes count from y ≡ sparseWord bytes q
 unfolding childFrom
-child-found bytes y zero from q low high has first = absurd (omega arith)
-child-found bytes y (suc count) from q low high has first = elim (ℕ-discrete from q) [
+child-at bytes y zero from q low high has first = absurd (omega arith)
+child-at bytes y (suc count) from q low high has first = elim (ℕ-discrete from q) [
   | yes here ↦ rw (eq-eqb y (sparseCharacter bytes from) (sym has ∙ ap (sparseCharacter bytes) (sym here))) (ap (sparseWord bytes) here)
   | no other ↦
       let not-here : y ≢ sparseCharacter bytes from = λ e. first from (omega arith) (omega arith) (sym e) in
       rw (ne-eqb y (sparseCharacter bytes from) not-here)
-      (child-found bytes y count (from + 1) q (omega arith) (omega arith) has (λ r after before. first r (omega arith) before))
+      (child-at bytes y count (from + 1) q (omega arith) (omega arith) has (λ r after before. first r (omega arith) before))
 ]
 
 -- cells with the same characters, and the same words where the character is the one asked for, have the same child
@@ -150,3 +129,50 @@ child-last bytes y (suc count) from other =
     let there : from + 1 + count ≡ from + suc count = omega arith in
     ap (pick (eqb y (sparseCharacter bytes from)) (sparseWord bytes from))
     (child-last bytes y count (from + 1) (λ e. other (e ∙ ap (sparseCharacter bytes) there)))
+
+module _ (bytes : List ℕ) where
+  -- the position and the character of the i-th child
+  abbrev pub positionAt : ℕ → ℕ
+  positionAt i = getD (sparseDigits bytes) i 0
+
+  abbrev pub characterAt : ℕ → ℕ
+  characterAt i = sparseCharacter bytes (positionAt i)
+
+  -- the children of a valid cell, by rising character
+  module _ (valid : validSparse bytes ≡ true) where
+    parts : Sparse bytes (sparseDigits bytes)
+    parts = sparse-parts bytes valid
+
+    pub position-inside : (i : ℕ) → i < sparseCount bytes → positionAt i < sparseCount bytes
+    position-inside i inside = digit-below (sparseDigits bytes) (parts .order) (positionAt i) (occurrences-at (sparseDigits bytes) i 0 inside)
+
+    pub position-index : (q : ℕ) → q < sparseCount bytes → (j : ℕ) × (j < sparseCount bytes) × (positionAt j ≡ q)
+    position-index q inside = occurrences-index q (sparseDigits bytes) (omega (arith, digit-once (sparseDigits bytes) (parts .order) q inside))
+
+    pub characters-in-order : (i j : ℕ) → i < j → j < sparseCount bytes → characterAt i < characterAt j
+    characters-in-order i j order inside =
+        let whole = length-map (sparseDigits bytes) (sparseCharacter bytes) in
+        let p = map-at (sparseCharacter bytes) (sparseDigits bytes) i (omega arith) in
+        let q = map-at (sparseCharacter bytes) (sparseDigits bytes) j inside in
+        omega (arith, p, q, rising-at (map (sparseCharacter bytes) (sparseDigits bytes)) (parts .rises) i j order (omega arith))
+
+    pub sparse-has : (i : ℕ) → i < sparseCount bytes → sparseChild bytes (characterAt i) ≡ sparseWord bytes (positionAt i)
+    sparse-has i inside =
+        child-at bytes (characterAt i) (sparseCount bytes) 0 (positionAt i) (omega arith) (omega (arith, position-inside i inside)) refl earlier
+      where
+        earlier : (r : ℕ) → 0 ≤ r → r < positionAt i → sparseCharacter bytes r ≢ characterAt i
+        earlier r low before same =
+            let p = position-index r (omega (arith, position-inside i inside)) in
+            let at : characterAt (p .0) ≡ sparseCharacter bytes r = ap (sparseCharacter bytes) (p .2) in
+            elim (ℕ-discrete (p .0) i) [
+              | yes e ↦ omega (arith, p .2, ap positionAt e)
+              | no n ↦ elim (decLt (p .0) i) [
+                | yes below ↦ omega (arith, characters-in-order (p .0) i below inside, at, same)
+                | no above ↦ omega (arith, characters-in-order i (p .0) (omega arith) (p .1), at, same)
+              ]
+            ]
+
+    pub sparse-lacks : (y : ℕ) → ((j : ℕ) → j < sparseCount bytes → characterAt j ≢ y) → sparseChild bytes y ≡ 0
+    sparse-lacks y each =
+        child-absent bytes y (sparseCount bytes) 0
+        (λ q low high. let p = position-index q (omega arith) in λ same. each (p .0) (p .1) (ap (sparseCharacter bytes) (p .2) ∙ same))
