@@ -17,6 +17,7 @@ use Rattle.nodes.specs.declared.pointer.Pointer.the-variants.{Nothing, Leaf, Ch
 use Rattle.nodes.specs.declared.step.ChildStep.{ChildStep}
 use Rattle.nodes.specs.declared.step.ChildStep.the-variants.{Found, Missing, Broken}
 use Rattle.nodes.proofs.Rest.{Among}
+use Rattle.nodes.proofs.Frame.{read-zero}
 use Rattle.nodes.proofs.StepRead.{step-read}
 use Rattle.trees.proofs.LookSteps.{found-word, stopped-word}
 use Rattle.insertion.specs.Built.{Built, chainOver}
@@ -40,6 +41,11 @@ module _ (layout : Layout) (m : Memory) (word x : ℕ) (X : Node) (node : read l
 
   pub child-broken : step ≡ Broken → 0 ≡ childOf (read layout m word) x
   child-broken case = sym (child-of (read layout m word) X x node ∙ stopped-word (X .child x) Broken (hit (1 ∷ 2 ∷ []) 2 tt) (ap stepOf (sym case) ∙ told-step))
+
+-- NONE has no child
+pub none-childless : (layout : Layout) (m : Memory) (word x : ℕ) → word ≡ 0 → 0 ≡ childOf (read layout m word) x
+unfolding childOf
+none-childless layout m word x none-there = rw (none-there, read-zero layout m)
 
 -- the word without the value
 module _ (layout : Layout) (m : Memory) (word : ℕ) (p : CodedPointer) (coded : pointerOf p ≡ pointer layout word) where

@@ -26,11 +26,14 @@ use nodes::step::ChildStep;
 use nodes::step::child_step;
 use nodes::value::value_at;
 
-// The child word of a character of a node that is valid.
+// The child word of a character of a node that is valid; NONE, where the rest of a new key goes on, is known to have none.
 fn child_word(layout: Layout, block: &[u8], word: u32, x: u8) -> u32
     requires { ⌜ (layout .cells * 32 ≤ length (now block)) × (layout .cells ≤ 2048) × ((node : Node) × (read layout (memoryOf (now block)) word ≡ some node)) ⌝ }
     ensures { λ r. ⌜ r ≡ childOf (read layout (memoryOf (now (block .entry))) word) x ⌝ }
 {
+    if word == 0 {
+        return 0;
+    }
     let step = child_step(layout, block, word, x);
     match step {
         ChildStep::Found(child) => child,

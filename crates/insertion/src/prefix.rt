@@ -51,10 +51,11 @@ pub fn put_back(
     ensures { λ r. ⌜ builtOf r (now (stage .exit)) ≡ putBack layout (numberFrom layout (take free (now (numbers .entry)))) (heldOf held) (builtOf built (now (stage .entry))) ⌝ }
 {
     let word = built.word;
+    let own = built.own;
     let count = built.count;
     match held {
         Value::Held(value) => new_prefix(layout, numbers, free, stage, value, word, count),
-        Value::Empty => built,
+        Value::Empty => Made { word, own, count },
     }
 }
 

@@ -6,10 +6,10 @@ use native.Mathlib.Omega.{arith}
 use native.Mathlib.Decide.{ℕ-discrete}
 use native.Mathlib.Nat.{sub-zero}
 use native.Mathlib.Numerals.{add-one}
-use Prim.Native.Nat.{ℕ, zero, suc, _+_, _-_, _/_, _%_, _≤_}
+use Prim.Native.Nat.{ℕ, zero, suc, _+_, _-_, _/_, _%_, _≤_, _<_}
 use lib.ListN.{length, getD, List·getD-eq-default}
 use Rattle.order_words.specs.Digits.{digits}
-use Rattle.order_words.proofs.Coding.{digits-zero, digits-more, length-digits}
+use Rattle.order_words.proofs.Coding.{digits-zero, digits-more, power, length-digits}
 
 -- no digit is left, or one and the others
 pub none-left : (most number : ℕ) → number ≡ 0 → digits most number ≡ []
@@ -25,13 +25,21 @@ one-left (suc most) less number n e =
     let same : most ≡ less = omega arith in
     digits-more most number n ∙ ap (λ k. number % 6 ∷ digits k (number / 6)) same
 
--- the digits counted
-pub count-stop : (total count : ℕ) (ds : List ℕ) → ds ≡ [] → total ≡ count + length ds → count ≡ total
-count-stop total count ds none e = omega (arith, ap length none)
+-- a number from a power of 6 on and below the next has one digit more than the exponent
+pub count-none : (most number : ℕ) → number < 1 → 0 ≡ length (digits most number)
+count-none most number l = omega (arith, ap length (none-left most number (omega arith)))
 
-pub count-step : (total count most less number : ℕ) → number ≢ 0 → most ≡ less + 1 → total ≡ count + length (digits most number)
-    → total ≡ count + 1 + length (digits less (number / 6))
-count-step total count most less number n one e = omega (arith, ap length (one-left most less number n one))
+pub count-between : (k most number : ℕ) → power k ≤ number → number < power (suc k) → k < most → suc k ≡ length (digits most number)
+unfolding power
+count-between zero (suc most) number low high l =
+    omega (arith, ap length (one-left (suc most) most number (omega arith) (omega arith)), count-none most (number / 6) (omega arith))
+count-between (suc k) (suc most) number low high l =
+    omega (
+      arith,
+      ap length (one-left (suc most) most number (omega arith) (omega arith)),
+      count-between k most (number / 6) (omega arith) (omega arith) (omega arith),
+    )
+count-between k zero number low high l = absurd (omega arith)
 
 -- the digit at a place
 pub at-start : (most at number : ℕ) → getD (digits most number) at 0 ≡ getD (digits (most - 0) number) (at - 0) 0

@@ -5,20 +5,32 @@ ghost use lib.ListN.{length, getD};
 ghost use Rattle.order_words.specs.Digits.{orderDigits};
 ghost use Rattle.order_words.specs.Order.{validOrder};
 
-// How many digits an order word has.
+// How many digits an order word has: one for each power of 6 that it reaches.
 pub fn digit_count(word: u16) -> usize
     ensures { λ r. ⌜ r ≡ length (orderDigits word) ⌝ }
 {
-    let mut rest = word as usize;
-    let mut count: usize = 0;
-    while count < 7 {
-        if rest == 0 {
-            return count;
-        }
-        rest = rest / 6;
-        count += 1;
+    if word < 1 {
+        return 0;
     }
-    count
+    if word < 6 {
+        return 1;
+    }
+    if word < 36 {
+        return 2;
+    }
+    if word < 216 {
+        return 3;
+    }
+    if word < 1296 {
+        return 4;
+    }
+    if word < 7776 {
+        return 5;
+    }
+    if word < 46656 {
+        return 6;
+    }
+    7
 }
 
 // The digit at a place counted from the lowest; 0 above the highest.

@@ -1,48 +1,50 @@
--- The digits counted and the digits left make up all of them.
-use Prim.Native.Nat.{_+_, _-_, _≤_}
-use mathlib.Core.Path.{_≡_, sym}
+-- Each answer is one more than the greatest power of 6 that the word reaches.
 use native.Mathlib.Omega.{arith}
-use native.Mathlib.Nat.{zero-add}
-use borrow.Author.Needs.{needs}
-use lib.ListN.{length}
-use Rattle.order_words.specs.Digits.{digits}
-use Rattle.order_words.proofs.Steps.{none-left, none-asked, count-stop, count-step}
+use Rattle.order_words.proofs.Coding.{power}
+use Rattle.order_words.proofs.Steps.{count-none, count-between}
 use Rattle.order_words.proofs.digit_count.Statement.{statement}
 use Rattle.order_words.proofs.digit_count.Tie as tie
 use Rattle.order_words.proofs.digit_count.Reads as reads
 use Rattle.order_words.proofs.digit_count.Lts as lts
 
-abbrev Inv-loop : tie.InvT-loop
-Inv-loop word rest₀ count₀ rest count = (count ≤ 7) × (length (digits 7 word) ≡ count + length (digits (7 - count) rest))
+-- src/lib.rt:13:9
+returns : tie.Need-returns
+returns c = count-none 7 _ (c .if1 .taken)
 
-abbrev μ-loop : tie.MeasureT-loop
-μ-loop word rest₀ count₀ rest count = 7 - count
-
--- src/lib.rt:14:5
-loop-holds : tie.Need-loop-holds Inv-loop μ-loop
-loop-holds c = (omega arith, sym (zero-add _))
-
--- src/lib.rt:16:13
-returns : tie.Need-returns Inv-loop μ-loop
-returns c = count-stop _ _ _ (none-left _ _ (c .if1 .taken)) (c .before .before .loop .inv .1)
+-- src/lib.rt:16:9
+returns-2 : tie.Need-returns-2
+unfolding power
+returns-2 c = count-between 0 7 _ (omega arith) (omega arith) (omega arith)
 
 -- src/lib.rt:19:9
-add-count : tie.Need-add-count Inv-loop μ-loop
-add-count c = search needs
+returns-3 : tie.Need-returns-3
+unfolding power
+returns-3 c = count-between 1 7 _ (omega arith) (omega arith) (omega arith)
 
--- src/lib.rt:14:5
-loop-less : tie.Need-loop-less Inv-loop μ-loop
-loop-less c = search needs
+-- src/lib.rt:22:9
+returns-4 : tie.Need-returns-4
+unfolding power
+returns-4 c = count-between 2 7 _ (omega arith) (omega arith) (omega arith)
 
--- src/lib.rt:14:5
-loop-again : tie.Need-loop-again Inv-loop μ-loop
-loop-again c = (omega arith, count-step _ _ _ _ _ (c .if1 .left) (omega arith) (c .before .before .loop .inv .1))
+-- src/lib.rt:25:9
+returns-5 : tie.Need-returns-5
+unfolding power
+returns-5 c = count-between 3 7 _ (omega arith) (omega arith) (omega arith)
+
+-- src/lib.rt:28:9
+returns-6 : tie.Need-returns-6
+unfolding power
+returns-6 c = count-between 4 7 _ (omega arith) (omega arith) (omega arith)
+
+-- src/lib.rt:31:9
+returns-7 : tie.Need-returns-7
+unfolding power
+returns-7 c = count-between 5 7 _ (omega arith) (omega arith) (omega arith)
 
 -- src/lib.rt:9:1
-returns-2 : tie.Need-returns-2 Inv-loop μ-loop
-returns-2 c = count-stop _ _ _ (none-asked _ _ (omega arith)) (c .before .loop .inv .1)
+returns-8 : tie.Need-returns-8
+unfolding power
+returns-8 c = count-between 6 7 _ (omega arith) (omega arith) (omega arith)
 
 pub digit-count-spec : {M : Type 1} → statement M
-digit-count-spec =
-    tie.close
-    (tie.spec Inv-loop μ-loop loop-holds returns add-count loop-less loop-again returns-2)
+digit-count-spec = tie.close (tie.spec returns returns-2 returns-3 returns-4 returns-5 returns-6 returns-7 returns-8)
