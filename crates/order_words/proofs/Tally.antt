@@ -9,7 +9,7 @@ use Prim.Native.Nat.{ℕ, zero, suc, _+_, _*_, _%_, _^_, _≤_, _<_}
 use lib.Dec.{eqb, ltb}
 use Rattle.cells.specs.Choice.{pick}
 use Rattle.cells.specs.Occurrences.{occurrences}
-use Rattle.order_words.proofs.Inserted.{occurs-here}
+use Rattle.cells.proofs.Occurrences.{occurrences-here}
 use Rattle.order_words.proofs.Coding.{BelowSix, below-later}
 
 -- each digit adds its own power of 8
@@ -50,7 +50,7 @@ pub tallied : (ds : List ℕ) → BelowSix ds → tallyOf ds ≡ six (λ d. occu
 unfolding tallyOf occurrences
 tallied [] below = refl
 tallied (d ∷ ds) below =
-    omega (arith, one-digit d (below d (occurs-here d ds)), tallied ds (below-later d ds below))
+    omega (arith, one-digit d (below d (occurrences-here d ds)), tallied ds (below-later d ds below))
 
 -- each digit below k once and no other
 pub each-below : (k : ℕ) → k ≤ 6 → 7 * six (λ j. pick (ltb j k) 1 0) + 1 ≡ 8 ^ k
