@@ -5,8 +5,8 @@ use Prim.Native.Nat.{ℕ}
 use lib.Dec.{eqb}
 use lib.IntN.{pos}
 use Rattle.cells.specs.Choice.{pick}
-use Rattle.store.specs.Refusal.{Refusal, refusal}
-use Rattle.store.specs.Answers.{refusalNumber}
+use Rattle.blocks.specs.Refusal.{Refusal, refusal}
+use Rattle.blocks.specs.Answers.{refusalNumber}
 use Rattle.calendar.specs.declared.Date.{Date}
 use Rattle.calendar.specs.Date.{isDate, unpackedDate, isAfter}
 use Rattle.dosing.specs.declared.temperature.Reading.{Reading}

@@ -1,17 +1,17 @@
 // The calls that make, judge and change a block, and the next key.
 ghost use mathlib.Core.Path.{_≡_};
-ghost use Rattle.store.specs.Answers.{changeNumber};
+ghost use Rattle.blocks.specs.Answers.{changeNumber};
 ghost use Rattle.store.specs.Format.{format};
-ghost use Rattle.store.specs.Read.{nextKey, validate};
+ghost use Rattle.blocks.specs.Read.{nextKey, validate};
 ghost use Rattle.store.specs.Snapshots.{release, restore, snapshot};
-use store::answer::ChangeAnswer;
-use store::answer::number;
+use blocks::answer::ChangeAnswer;
+use blocks::answer::number;
+use blocks::next::next_key;
+use blocks::validate::validate;
 use store::formatting::format;
-use store::next::next_key;
 use store::snapshots::release;
 use store::snapshots::restore;
 use store::snapshots::snapshot;
-use store::validate::validate;
 
 // The answer number of a change.
 fn change_number(answer: ChangeAnswer) -> u8

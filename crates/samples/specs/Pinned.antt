@@ -28,13 +28,13 @@ use Rattle.insertion.specs.SplitBuild.{tableRow, rows, endRow, midRow, splitOf,
 use Rattle.insertion.specs.SetChild.{chainSet, sparseSet, setChild}
 use Rattle.insertion.specs.Build.{wordAside, valueAside, putBack, childOf, pathCopy, valueAt, build, cellsNeeded}
 use Rattle.insertion.specs.Commit.{numberFrom, buildWrites}
-use Rattle.store.specs.Trailer.{badSize, layoutOf, rootWord, slots, validSlot, slotAt, inUse, everySlot, validTrailer}
-use Rattle.store.specs.Sound.{slotRoots, roots, soundWith, reachedFrom}
+use Rattle.blocks.specs.Trailer.{badSize, layoutOf, rootWord, slots, validSlot, slotAt, inUse, everySlot, validTrailer}
+use Rattle.blocks.specs.Sound.{slotRoots, roots, soundWith, reachedFrom}
 use Rattle.store.specs.Free.{countUp, allocationOrder, free}
-use Rattle.store.specs.Refusal.{firstRefusal, overLong, badKey, badNewKey, badValue}
+use Rattle.blocks.specs.Refusal.{firstRefusal, overLong, badKey, badNewKey, badValue, Inserted}
 use Rattle.store.specs.Format.{formatted, format}
-use Rattle.store.specs.Read.{validate}
-use Rattle.store.specs.Insert.{Inserted, blockBuild, insertWrites, insert}
+use Rattle.blocks.specs.Read.{validate}
+use Rattle.store.specs.Insert.{blockBuild, insertWrites, insert}
 use Rattle.store.specs.Snapshots.{withBit, snapshotBlock, snapshot}
 use Rattle.samples.specs.Line.{word}
 use Rattle.samples.specs.Calls.{fresh, rootOf, sampleA, sampleE, sampleH}

@@ -12,16 +12,17 @@ use Rattle.cells.specs.Memory.{memoryOf}
 use Rattle.cells.specs.Occurrences.{occurrences, all, distinct}
 use Rattle.trees.specs.Lookup.{Table, update}
 use Rattle.insertion.specs.Build.{cellsNeeded}
-use Rattle.store.specs.Trailer.{badSize, layoutOf, rootWord, validSlot, inUse}
-use Rattle.store.specs.Sound.{sound}
+use Rattle.blocks.specs.Trailer.{badSize, layoutOf, rootWord, validSlot, inUse}
+use Rattle.blocks.specs.Sound.{sound}
 use Rattle.store.specs.Free.{free}
-use Rattle.store.specs.Refusal.{Refusal, refusal, firstRefusal, Changed, changedBy, badNewKey, badValue}
+use Rattle.blocks.specs.Refusal.{Refusal, refusal, firstRefusal, Changed, changedBy, badNewKey, badValue, Inserted}
 use Rattle.store.specs.Format.{formatRefusals, format}
-use Rattle.store.specs.Read.{validate, shown}
-use Rattle.store.specs.Insert.{Inserted, insert}
+use Rattle.blocks.specs.Read.{validate, shown}
+use Rattle.store.specs.Insert.{insert}
 use Rattle.store.specs.Snapshots.{slotRefusals, snapshotBlock, restoreBlock, releaseBlock, snapshot, restore, release}
-use Rattle.store.proofs.Refusals.{Exactly, Answers, answers, done-block, refused-block, block-answers, format-answers, insert-answers}
-use Rattle.store.proofs.ReadCalls.{Asked, asked, refusals-none, exactly}
+use Rattle.blocks.proofs.Refusals.{Exactly, Answers, answers, done-block, refused-block, block-answers}
+use Rattle.blocks.proofs.ReadCalls.{Asked, asked, refusals-none, exactly}
+use Rattle.store.proofs.CallAnswers.{format-answers, insert-answers}
 use Rattle.store.proofs.TrailerWrites.{replacedAt}
 use Rattle.store.proofs.After.{After, slotShown}
 use Rattle.store.proofs.Format.{Fresh, freshOf, format-law}
