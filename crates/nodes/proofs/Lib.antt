@@ -17,3 +17,5 @@ pub mod StepRead
 pub mod FirstStep
 pub mod SparseLeast
 pub mod LeastWays
+pub mod Meaning
+pub mod MeantNode

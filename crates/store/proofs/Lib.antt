@@ -16,3 +16,4 @@ pub mod InsertCode
 pub mod FreeWrites
 pub mod WriteCalls
 pub mod Determined
+pub mod MeantBlock

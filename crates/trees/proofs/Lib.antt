@@ -28,3 +28,4 @@ pub mod NextSteps
 pub mod NextTold
 pub mod NextAnswers
 pub mod Found
+pub mod MeantTree
