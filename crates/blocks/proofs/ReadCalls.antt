@@ -1,4 +1,5 @@
--- The laws of the calls that only read: of a look-up and of the next key each answer is given exactly under its condition.
+-- The laws of the calls that only read: of validation, of a look-up and of the next key each answer is given exactly under
+-- its condition.
 use mathlib.Core.Path.{_≡_, refl, sym, ap, _∙_, subst}
 use mathlib.Core.Logic.{_≢_, _⊎_, ⊎-elim, _↔_}
 use mathlib.Core.Bool.{Bool, true, false, not}
@@ -21,8 +22,8 @@ use Rattle.trees.proofs.Next.{next-above, next-short, next-shown, next-shown-le
 use Rattle.blocks.specs.Trailer.{badSize, layoutOf, rootWord}
 use Rattle.blocks.specs.Sound.{sound}
 use Rattle.blocks.specs.Refusal.{firstRefusal, badKey, overLong}
-use Rattle.blocks.specs.Read.{missing, shown, Found, valueOr, getRefusals, get, shownEntries, Next, padded, keyOr, nextRefusals, nextKey}
-use Rattle.blocks.proofs.Refusals.{Exactly, get-answers, next-answers}
+use Rattle.blocks.specs.Read.{missing, validate, shown, Found, valueOr, getRefusals, get, shownEntries, Next, padded, keyOr, nextRefusals, nextKey}
+use Rattle.blocks.proofs.Refusals.{Exactly, block-answers, get-answers, next-answers}
 use Rattle.blocks.proofs.Roots.{RootParts, root-parts, sound-parts}
 
 -- none of the answers 1, 2 and 3 applies, where 3 is for a key that is bad
@@ -78,6 +79,26 @@ value-there (some value) e = refl
 pub value-is : (o : Option ℕ) (value : ℕ) → o ≡ some value → valueOr o ≡ value
 unfolding valueOr
 value-is o value e = ap valueOr e
+
+-- a block that passes validation: neither 1 nor 2 applies
+abbrev pub Passes : List ℕ → Type 0
+Passes b = (badSize b ≡ false) × (sound b ≡ true)
+
+-- 01's table for validation
+pub record ValidateTable (b : List ℕ) (answer : ℕ) : Type 0 where
+  pub bad-size : Exactly answer 1 (badSize b ≡ true)
+  pub unsound : Exactly answer 2 ((badSize b ≡ false) × (sound b ≡ false))
+  pub done : Exactly answer 0 (Passes b)
+
+pub validate-table : (b : List ℕ) → ValidateTable b (validate b)
+unfolding validate
+validate-table b =
+    let x = block-answers b in
+    record {
+      bad-size = exactly refl (x .0) (λ c. c .1) (λ d. (tt, d));
+      unsound = exactly refl (x .1 .0) (λ c. (c .0 .0, not-true _ (c .1))) (λ d. ((d .0, tt), ap not (d .1)));
+      done = exactly refl (x .1 .1) (λ c. (c .0, not-false _ (c .1 .0))) (λ d. (d .0, (ap not (d .1), tt)));
+    }
 
 -- 01's table for a look-up
 pub record GetTable (b key : List ℕ) (r : Found) : Type 0 where

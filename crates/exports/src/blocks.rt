@@ -1,8 +1,8 @@
 // The calls that make, judge and change a block, and the next key.
 ghost use mathlib.Core.Path.{_≡_};
 ghost use Rattle.blocks.specs.Answers.{changeNumber};
-ghost use Rattle.store.specs.Format.{format};
 ghost use Rattle.blocks.specs.Read.{nextKey, validate};
+ghost use Rattle.store.specs.Format.{format};
 ghost use Rattle.store.specs.Snapshots.{release, restore, snapshot};
 use blocks::answer::ChangeAnswer;
 use blocks::answer::number;

@@ -4,13 +4,13 @@ use mathlib.Core.List.{List}
 use Prim.Native.Nat.{ℕ}
 use lib.IntN.{pos}
 use lib.Ieee.{Float}
+use Rattle.calendar.specs.declared.Date.{Date}
+use Rattle.calendar.specs.Date.{yearOf, monthOf, dayOf, dateOf}
 use Rattle.blocks.specs.Refusal.{Inserted}
 use Rattle.blocks.specs.declared.answer.Refusal.{Refusal}
 use Rattle.blocks.specs.declared.answer.InsertAnswer.{InsertAnswer}
 use Rattle.blocks.specs.Answers.{refusalNumber, insertedOutcome}
 use Rattle.blocks.specs.Read.{Found}
-use Rattle.calendar.specs.declared.Date.{Date}
-use Rattle.calendar.specs.Date.{yearOf, monthOf, dayOf, dateOf}
 use Rattle.dosing.specs.declared.temperature.Reading.{Reading}
 use Rattle.dosing.specs.declared.temperature.TemperatureGate.{TemperatureGate}
 use Rattle.dosing.specs.Temperature.{whole}

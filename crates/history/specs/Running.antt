@@ -8,9 +8,9 @@ use lib.ListN.{length, take, drop}
 use Rattle.cells.specs.Choice.{pick}
 use Rattle.blocks.specs.Trailer.{layoutOf, slots}
 use Rattle.blocks.specs.Refusal.{Changed}
-use Rattle.store.specs.Format.{format}
 use Rattle.blocks.specs.declared.answer.InsertAnswer.{InsertAnswer}
 use Rattle.blocks.specs.Answers.{refusalNumber}
+use Rattle.store.specs.Format.{format}
 use Rattle.history.specs.Calls.{Call, ours, outcome, run, answersOf}
 use Rattle.history.specs.Ledger.{emptyLedger, ledgerAnswers, fedBy}
 use Rattle.history.specs.Demand3.{Agrees, AtCall, ledgerBeside}

@@ -31,10 +31,10 @@ use Rattle.insertion.specs.Build.{wordAside, valueAside, putBack, childOf, path
 use Rattle.insertion.specs.Commit.{numberFrom, buildWrites}
 use Rattle.blocks.specs.Trailer.{badSize, layoutOf, rootWord, slots, validSlot, slotAt, inUse, everySlot, validTrailer}
 use Rattle.blocks.specs.Sound.{slotRoots, roots, soundWith, reachedFrom}
-use Rattle.store.specs.Free.{countUp, allocationOrder, free}
 use Rattle.blocks.specs.Refusal.{firstRefusal, overLong, badKey, badNewKey, badValue, Inserted}
-use Rattle.store.specs.Format.{formatted, format}
 use Rattle.blocks.specs.Read.{Found, missing, valueOr, validate, get}
+use Rattle.store.specs.Free.{countUp, allocationOrder, free}
+use Rattle.store.specs.Format.{formatted, format}
 use Rattle.store.specs.Insert.{blockBuild, insertWrites, insert}
 use Rattle.samples.specs.Line.{word}
 use Rattle.samples.specs.Calls.{rootOf}

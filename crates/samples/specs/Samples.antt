@@ -13,6 +13,7 @@ use Rattle.cells.specs.Occurrences.{occurrences, all, distinct, select}
 use Rattle.order_words.specs.Digits.{digits, encode}
 use Rattle.order_words.specs.Order.{eachOnce, place, validDigits, validOrder, rising}
 use Rattle.order_words.specs.Extended.{withDigit, extendedOrder}
+use Rattle.calendar.specs.Date.{februaryDays, daysOfMonth, isDate, isAfter}
 use Rattle.nodes.specs.Layout.{trailerCells, usable, keyLimit}
 use Rattle.nodes.specs.Pointer.{byKind, pointer, leafWord}
 use Rattle.nodes.specs.Chain.{chainChild}
@@ -31,13 +32,12 @@ use Rattle.insertion.specs.Build.{wordAside, valueAside, putBack, childOf, path
 use Rattle.insertion.specs.Commit.{numberFrom, buildWrites}
 use Rattle.blocks.specs.Trailer.{badSize, layoutOf, rootWord, slots, validSlot, slotAt, inUse, everySlot, validTrailer}
 use Rattle.blocks.specs.Sound.{slotRoots, roots, soundWith, reachedFrom}
-use Rattle.store.specs.Free.{countUp, allocationOrder, free}
 use Rattle.blocks.specs.Refusal.{firstRefusal, overLong, badKey, badNewKey, badValue}
-use Rattle.store.specs.Format.{formatted, format}
 use Rattle.blocks.specs.Read.{missing, valueOr}
+use Rattle.store.specs.Free.{countUp, allocationOrder, free}
+use Rattle.store.specs.Format.{formatted, format}
 use Rattle.store.specs.Insert.{blockBuild, insertWrites, insert}
 use Rattle.store.specs.Snapshots.{withBit, snapshotBlock, restoreBlock, snapshot, restore}
-use Rattle.calendar.specs.Date.{februaryDays, daysOfMonth, isDate, isAfter}
 use Rattle.dosing.specs.declared.temperature.Reading.the-variants.{Fahrenheit}
 use Rattle.dosing.specs.Temperature.{whole, onScale, toCelsius, celsius, validReading, validGate, inGate}
 use Rattle.dosing.specs.Sheet.{validSection, validLength, validSheet, doseOf}

@@ -22,10 +22,10 @@ use Rattle.insertion.proofs.CellBytes.{Whole}
 use Rattle.insertion.proofs.Commit.{memoryWith-other, numbers-free, free-written}
 use Rattle.blocks.specs.Trailer.{trailerAt, layoutOf, rootWord, slotWord, inUse, validTrailer}
 use Rattle.blocks.specs.Sound.{reachable}
-use Rattle.store.specs.Free.{free}
-use Rattle.store.specs.Insert.{numbering, insertWrites}
 use Rattle.blocks.proofs.Trailer.{Sized, trailer-fits, TrailerSays, root-changed}
 use Rattle.blocks.proofs.Roots.{SoundParts, reachable-usable}
+use Rattle.store.specs.Free.{free}
+use Rattle.store.specs.Insert.{numbering, insertWrites}
 use Rattle.store.proofs.Free.{free-usable, free-reached}
 use Rattle.store.proofs.After.{not-trailer}
 

@@ -23,12 +23,12 @@ use Rattle.trees.proofs.Tree.{lookup-zero}
 use Rattle.blocks.specs.Trailer.{badSize, trailerAt, layoutOf, rootWord, slots, validSlot, slotAt, slotWord, bitsAt, slotBit, inUse}
 use Rattle.blocks.specs.Fits.{Fits}
 use Rattle.blocks.specs.Sound.{soundWith, sound, reachable}
-use Rattle.store.specs.Free.{allocationOrder, free}
-use Rattle.store.specs.Format.{formatted, newLayout, formatRefusals, format}
 use Rattle.blocks.specs.Read.{shown}
 use Rattle.blocks.proofs.Refusals.{done-block, refused-block}
 use Rattle.blocks.proofs.Trailer.{sized, layout-cells, badSize-same, slot-high, slots-three, slot-at, parts-trailer}
 use Rattle.blocks.proofs.Roots.{zero-valid, zero-cells, parts-sound, unreachable}
+use Rattle.store.specs.Free.{allocationOrder, free}
+use Rattle.store.specs.Format.{formatted, newLayout, formatRefusals, format}
 use Rattle.store.proofs.CallAnswers.{format-answers}
 use Rattle.store.proofs.Free.{free-every, free-all}
 

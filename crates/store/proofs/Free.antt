@@ -16,8 +16,8 @@ use Rattle.nodes.proofs.Pointers.{usable-low, usable-high, usable-is}
 use Rattle.trees.specs.Root.{rootCells}
 use Rattle.blocks.specs.Trailer.{rootWord, validSlot, slotWord, inUse}
 use Rattle.blocks.specs.Sound.{reachable}
-use Rattle.store.specs.Free.{countUp, allocationOrder, free}
 use Rattle.blocks.proofs.Roots.{root-reachable, slot-reachable}
+use Rattle.store.specs.Free.{countUp, allocationOrder, free}
 
 -- a number passes a test as often as it stands there, or never
 module _ (test : ℕ → Bool) where

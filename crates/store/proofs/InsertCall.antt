@@ -27,13 +27,13 @@ use Rattle.insertion.proofs.Taken.{enough-free}
 use Rattle.insertion.proofs.InsertLaw.{Inserted as BuildInserted, insert-law}
 use Rattle.blocks.specs.Trailer.{badSize, layoutOf, rootWord, slotWord, inUse}
 use Rattle.blocks.specs.Sound.{sound}
-use Rattle.store.specs.Free.{free}
 use Rattle.blocks.specs.Refusal.{firstRefusal, overLong, badKey, badNewKey, badValue, Inserted}
 use Rattle.blocks.specs.Read.{shown}
-use Rattle.store.specs.Insert.{noRoom, insertRefusals, numbering, blockBuild, insertWrites, insert}
 use Rattle.blocks.proofs.Refusals.{Exactly}
 use Rattle.blocks.proofs.Trailer.{sized, either-left, either-right, layout-cells, TrailerSays}
 use Rattle.blocks.proofs.Roots.{RootParts, root-parts, root-valid, root-cells, root-bound, sound-parts, root-reachable}
+use Rattle.store.specs.Free.{free}
+use Rattle.store.specs.Insert.{noRoom, insertRefusals, numbering, blockBuild, insertWrites, insert}
 use Rattle.store.proofs.CallAnswers.{insert-answers}
 use Rattle.store.proofs.Free.{free-usable, free-once, free-reached}
 use Rattle.store.proofs.After.{After, after, slotShown, not-trailer, slot-root, old-root-kept}

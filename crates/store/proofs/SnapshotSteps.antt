@@ -13,13 +13,13 @@ use Rattle.blocks.specs.Trailer.{badSize, trailerAt, layoutOf, rootWord, validS
 use Rattle.blocks.specs.Fits.{Fits}
 use Rattle.blocks.specs.Refusal.{refusal, firstRefusal}
 use Rattle.blocks.specs.Read.{blockRefusals, validate}
-use Rattle.store.specs.Snapshots.{withBit, withoutBit, slotRefusals, usedSlotRefusals, snapshotBlock, restoreBlock, releaseBlock, snapshot, restore, release}
-use Rattle.store.proofs.CallAnswers.{slot-answers}
-use Rattle.store.proofs.Bits.{bit-bound, bit-within}
 use Rattle.blocks.proofs.Refusals.{NoneApplies, block-answers}
 use Rattle.blocks.proofs.RefusalSteps.{refused-earlier, zero-earlier, one-more, no-more, changed-refused, changed-done}
 use Rattle.blocks.proofs.TrailerSteps.{slot-range}
 use Rattle.blocks.proofs.ValidateSteps.{layout-fits}
+use Rattle.store.specs.Snapshots.{withBit, withoutBit, slotRefusals, usedSlotRefusals, snapshotBlock, restoreBlock, releaseBlock, snapshot, restore, release}
+use Rattle.store.proofs.CallAnswers.{slot-answers}
+use Rattle.store.proofs.Bits.{bit-bound, bit-within}
 
 -- the bit of the first slot, the second and the third
 module _ (slot : ℕ) where

@@ -22,8 +22,8 @@ use Rattle.insertion.specs.Build.{wordAside, valueAside, putBack, childOf, path
 use Rattle.insertion.specs.Commit.{numberFrom, buildWrites}
 use Rattle.blocks.specs.Trailer.{badSize, layoutOf, rootWord, slots, validSlot, slotAt, inUse, everySlot, validTrailer}
 use Rattle.blocks.specs.Sound.{slotRoots, roots, soundWith, reachedFrom}
-use Rattle.store.specs.Free.{countUp, allocationOrder, free}
 use Rattle.blocks.specs.Refusal.{firstRefusal, overLong, badKey, badNewKey, badValue, Inserted}
+use Rattle.store.specs.Free.{countUp, allocationOrder, free}
 use Rattle.store.specs.Format.{formatted, format}
 use Rattle.store.specs.Insert.{blockBuild, insertWrites, insert}
 use Rattle.store.specs.Snapshots.{withBit, withoutBit, snapshotBlock, releaseBlock, snapshot, release}

@@ -12,9 +12,9 @@ use Rattle.insertion.specs.Built.{Built}
 use Rattle.insertion.specs.Build.{build, cellsNeeded}
 use Rattle.insertion.specs.Commit.{numberFrom, buildWrites}
 use Rattle.blocks.specs.Trailer.{layoutOf, trailerAt, rootWord}
-use Rattle.store.specs.Free.{free}
 use Rattle.blocks.specs.Refusal.{Refusal, refusal, firstRefusal, Inserted, badNewKey, badValue}
 use Rattle.blocks.specs.Read.{blockRefusals}
+use Rattle.store.specs.Free.{free}
 
 -- 01, answer 7: "the entry takes more cells than are free"
 abbrev pub noRoom : List ℕ → List ℕ → Bool
