@@ -1,8 +1,8 @@
 -- `exports_release` meets its contract.
 use Rattle.exports.proofs.ChangeSteps.{change-told}
 use borrow.Author.Needs.{needs}
-use Rattle.exports.proofs.blocks.exports_release.Statement.{statement}
-use Rattle.exports.proofs.blocks.exports_release.Tie as tie
+use Rattle.exports.proofs.calls.exports_release.Statement.{statement}
+use Rattle.exports.proofs.calls.exports_release.Tie as tie
 
 release-requires : tie.Need-release-requires
 release-requires c κs = search needs

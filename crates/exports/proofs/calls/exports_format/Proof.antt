@@ -1,8 +1,8 @@
 -- `exports_format` meets its contract.
 use Rattle.exports.proofs.ChangeSteps.{change-told}
 use borrow.Author.Needs.{needs}
-use Rattle.exports.proofs.blocks.exports_format.Statement.{statement}
-use Rattle.exports.proofs.blocks.exports_format.Tie as tie
+use Rattle.exports.proofs.calls.exports_format.Statement.{statement}
+use Rattle.exports.proofs.calls.exports_format.Tie as tie
 
 format-requires : tie.Need-format-requires
 format-requires c κs = search needs

@@ -1,8 +1,8 @@
 -- `exports_restore` meets its contract.
 use Rattle.exports.proofs.ChangeSteps.{change-told}
 use borrow.Author.Needs.{needs}
-use Rattle.exports.proofs.blocks.exports_restore.Statement.{statement}
-use Rattle.exports.proofs.blocks.exports_restore.Tie as tie
+use Rattle.exports.proofs.calls.exports_restore.Statement.{statement}
+use Rattle.exports.proofs.calls.exports_restore.Tie as tie
 
 restore-requires : tie.Need-restore-requires
 restore-requires c κs = search needs

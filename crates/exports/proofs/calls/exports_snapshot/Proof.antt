@@ -1,8 +1,8 @@
 -- `exports_snapshot` meets its contract.
 use Rattle.exports.proofs.ChangeSteps.{change-told}
 use borrow.Author.Needs.{needs}
-use Rattle.exports.proofs.blocks.exports_snapshot.Statement.{statement}
-use Rattle.exports.proofs.blocks.exports_snapshot.Tie as tie
+use Rattle.exports.proofs.calls.exports_snapshot.Statement.{statement}
+use Rattle.exports.proofs.calls.exports_snapshot.Tie as tie
 
 snapshot-requires : tie.Need-snapshot-requires
 snapshot-requires c κs = search needs

@@ -2,8 +2,8 @@
 use native.Mathlib.Omega.{arith}
 use Rattle.exports.proofs.ChangeSteps.{next-told, size-fits}
 use borrow.Author.Needs.{needs}
-use Rattle.exports.proofs.blocks.exports_next_key.Statement.{statement}
-use Rattle.exports.proofs.blocks.exports_next_key.Tie as tie
+use Rattle.exports.proofs.calls.exports_next_key.Statement.{statement}
+use Rattle.exports.proofs.calls.exports_next_key.Tie as tie
 
 next-key-requires : tie.Need-next-key-requires
 next-key-requires c κs = search needs
