@@ -10,14 +10,14 @@ use lib.IntN.{pos}
 use borrow.Author.Tests.{not-true, not-false}
 use Rattle.cells.specs.Choice.{pick}
 use Rattle.cells.specs.Occurrences.{occurrences, all, distinct}
-use Rattle.store.specs.Trailer.{badSize}
-use Rattle.store.specs.Sound.{sound}
-use Rattle.store.specs.Refusal.{firstRefusal, badKey}
-use Rattle.store.specs.Read.{missing, shown, valueOr}
-use Rattle.store.proofs.Refusals.{Exactly, Answers, answers}
-use Rattle.store.proofs.ReadCalls.{Asked, asked, refusals-none, exactly, chosen-done, chosen-no, missing-none, none-missing, some-there, value-there, value-is}
 use Rattle.calendar.specs.declared.Date.{Date}
 use Rattle.calendar.specs.Date.{isDate, unpackedDate, isAfter}
+use Rattle.blocks.specs.Trailer.{badSize}
+use Rattle.blocks.specs.Sound.{sound}
+use Rattle.blocks.specs.Refusal.{firstRefusal, badKey}
+use Rattle.blocks.specs.Read.{missing, shown, valueOr}
+use Rattle.blocks.proofs.Refusals.{Exactly, Answers, answers}
+use Rattle.blocks.proofs.ReadCalls.{Asked, asked, refusals-none, exactly, chosen-done, chosen-no, missing-none, none-missing, some-there, value-there, value-is}
 use Rattle.dosing.specs.declared.temperature.Reading.{Reading}
 use Rattle.dosing.specs.declared.sheet.ProductSheet.{ProductSheet}
 use Rattle.dosing.specs.Temperature.{whole, celsius, validReading, inGate}

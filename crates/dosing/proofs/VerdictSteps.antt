@@ -13,13 +13,13 @@ use lib.Ieee.{Float}
 use borrow.Author.Tests.{eq-eqb, ne-eqb}
 use Rattle.cells.specs.Choice.{pick}
 use Rattle.cells.specs.Occurrences.{occurrences}
-use Rattle.store.specs.Refusal.{Refusal, refusal, firstRefusal, badKey}
-use Rattle.store.specs.Read.{Found, missing, shown, valueOr, blockRefusals, getRefusals, get}
-use Rattle.store.proofs.Refusals.{numbersOf, first-holds, first-fails, passed, zero-exactly}
-use Rattle.store.proofs.RefusalSteps.{refused-earlier}
-use Rattle.store.proofs.ReadCalls.{Asked, refusals-none, chosen-done, chosen-no, none-missing, some-there, value-is, get-number, get-table}
 use Rattle.calendar.specs.declared.Date.{Date}
 use Rattle.calendar.specs.Date.{isDate, unpackedDate, isAfter}
+use Rattle.blocks.specs.Refusal.{Refusal, refusal, firstRefusal, badKey}
+use Rattle.blocks.specs.Read.{Found, missing, shown, valueOr, blockRefusals, getRefusals, get}
+use Rattle.blocks.proofs.Refusals.{numbersOf, first-holds, first-fails, passed, zero-exactly}
+use Rattle.blocks.proofs.RefusalSteps.{refused-earlier}
+use Rattle.blocks.proofs.ReadCalls.{Asked, refusals-none, chosen-done, chosen-no, none-missing, some-there, value-is, get-number, get-table}
 use Rattle.dosing.specs.declared.temperature.Reading.{Reading}
 use Rattle.dosing.specs.declared.temperature.TemperatureGate.{TemperatureGate}
 use Rattle.dosing.specs.declared.sheet.ProductSheet.{ProductSheet}

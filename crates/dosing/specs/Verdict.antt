@@ -6,10 +6,10 @@ use lib.Dec.{eqb}
 use lib.IntN.{pos}
 use lib.Ieee.{Float}
 use Rattle.cells.specs.Choice.{pick}
-use Rattle.store.specs.Refusal.{Refusal, refusal, firstRefusal, badKey}
-use Rattle.store.specs.Read.{blockRefusals, shown, missing, valueOr}
 use Rattle.calendar.specs.declared.Date.{Date}
 use Rattle.calendar.specs.Date.{isDate, unpackedDate, isAfter}
+use Rattle.blocks.specs.Refusal.{Refusal, refusal, firstRefusal, badKey}
+use Rattle.blocks.specs.Read.{blockRefusals, shown, missing, valueOr}
 use Rattle.dosing.specs.declared.temperature.Reading.{Reading}
 use Rattle.dosing.specs.declared.sheet.ProductSheet.{ProductSheet}
 use Rattle.dosing.specs.Temperature.{whole, celsius, validReading, inGate}

@@ -5,10 +5,10 @@ use Prim.Native.Nat.{ℕ}
 use lib.Dec.{eqb}
 use lib.IntN.{pos}
 use Rattle.cells.specs.Choice.{pick}
-use Rattle.store.specs.Refusal.{Refusal, refusal}
-use Rattle.store.specs.Answers.{refusalNumber}
 use Rattle.calendar.specs.declared.Date.{Date}
 use Rattle.calendar.specs.Date.{isDate, unpackedDate, isAfter}
+use Rattle.blocks.specs.Refusal.{Refusal, refusal}
+use Rattle.blocks.specs.Answers.{refusalNumber}
 use Rattle.dosing.specs.declared.temperature.Reading.{Reading}
 use Rattle.dosing.specs.declared.temperature.TemperatureGate.{TemperatureGate}
 use Rattle.dosing.specs.declared.sheet.ProductSheet.{ProductSheet}

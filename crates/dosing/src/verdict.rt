@@ -1,8 +1,8 @@
 // The verdict on a cartridge: whether a bead of it may be laid today at a temperature, and how much of it that takes.
 ghost use mathlib.Core.List.{_++_};
 ghost use mathlib.Core.Path.{_≡_};
-ghost use Rattle.store.specs.Answers.{changeNumber, refusalNumber};
-ghost use Rattle.store.specs.Refusal.{firstRefusal};
+ghost use Rattle.blocks.specs.Answers.{changeNumber, refusalNumber};
+ghost use Rattle.blocks.specs.Refusal.{firstRefusal};
 ghost use Rattle.dosing.specs.Verdict.{verdict, verdictOf};
 ghost use Rattle.dosing.specs.VerdictAnswers.{heldRefusals, inputRefusals, refusedVerdict, verdictOutcome};
 use crate::sheet::ProductSheet;
@@ -13,15 +13,15 @@ use crate::temperature::TemperatureGate;
 use crate::temperature::celsius;
 use crate::temperature::is_in_gate;
 use crate::temperature::is_valid_reading;
+use blocks::answer::ChangeAnswer;
+use blocks::answer::GetAnswer;
+use blocks::answer::Refusal;
+use blocks::answer::number;
+use blocks::get::get;
 use calendar::Date;
 use calendar::is_after;
 use calendar::is_date;
 use calendar::unpacked;
-use store::answer::ChangeAnswer;
-use store::answer::GetAnswer;
-use store::answer::Refusal;
-use store::answer::number;
-use store::get::get;
 
 // The answer of the verdict: the bead's dose in millilitres, or why there is none.
 pub enum VerdictAnswer {

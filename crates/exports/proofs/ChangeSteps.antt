@@ -12,12 +12,12 @@ use Rattle.cells.specs.Memory.{memoryOf}
 use Rattle.nodes.specs.Layout.{keyLimit}
 use Rattle.trees.specs.Entries.{Entry, nextEntry}
 use Rattle.trees.proofs.Next.{next-short}
-use Rattle.store.specs.declared.answer.ChangeAnswer.{ChangeAnswer}
-use Rattle.store.specs.declared.answer.NextAnswer.{NextAnswer}
-use Rattle.store.specs.Answers.{changeNumber, changedOutcome, nextOutcome}
-use Rattle.store.specs.Trailer.{layoutOf, rootWord}
-use Rattle.store.specs.Refusal.{Changed, firstRefusal}
-use Rattle.store.specs.Read.{Next, shownEntries, keyOr, nextRefusals, nextKey}
+use Rattle.blocks.specs.declared.answer.ChangeAnswer.{ChangeAnswer}
+use Rattle.blocks.specs.declared.answer.NextAnswer.{NextAnswer}
+use Rattle.blocks.specs.Answers.{changeNumber, changedOutcome, nextOutcome}
+use Rattle.blocks.specs.Trailer.{layoutOf, rootWord}
+use Rattle.blocks.specs.Refusal.{Changed, firstRefusal}
+use Rattle.blocks.specs.Read.{Next, shownEntries, keyOr, nextRefusals, nextKey}
 
 -- a change by its number
 pub change-told : (changed : Changed) (answer : ChangeAnswer) (block : List ℕ) (r : ℕ) → changed ≡ changedOutcome answer block → r ≡ changeNumber answer

@@ -1,3 +1,3 @@
 // Every call over numbers and bytes, for tests and tools; firmware has its own three.
-mod blocks;
+mod calls;
 mod verdict;

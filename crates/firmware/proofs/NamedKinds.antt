@@ -11,8 +11,8 @@ use lib.Ieee as Ieee
 use lib.Ieee.{Float}
 use borrow.Author.Tests.{ne-eqb}
 use Rattle.cells.specs.Choice.{pick}
-use Rattle.store.specs.Refusal.{Refusal, firstRefusal}
 use Rattle.calendar.specs.declared.Date.{Date}
+use Rattle.blocks.specs.Refusal.{Refusal, firstRefusal}
 use Rattle.dosing.specs.declared.temperature.Reading.{Reading}
 use Rattle.dosing.specs.declared.temperature.Reading.the-variants.{Celsius, Fahrenheit}
 use Rattle.dosing.specs.declared.temperature.TemperatureGate.{TemperatureGate}

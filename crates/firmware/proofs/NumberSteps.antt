@@ -3,13 +3,13 @@ use mathlib.Core.Path.{_≡_, sym, ap, _∙_}
 use mathlib.Core.List.{List}
 use Prim.Native.Nat.{ℕ}
 use lib.IntN.{pos}
-use Rattle.store.specs.declared.answer.Refusal.{Refusal}
-use Rattle.store.specs.declared.answer.InsertAnswer.{InsertAnswer}
-use Rattle.store.specs.Answers.{refusalNumber, insertedOutcome}
-use Rattle.store.specs.Insert.{Inserted}
-use Rattle.store.specs.Read.{Found}
 use Rattle.calendar.specs.declared.Date.{Date}
 use Rattle.calendar.specs.Date.{yearOf, monthOf, dayOf, dateOf}
+use Rattle.blocks.specs.Refusal.{Inserted}
+use Rattle.blocks.specs.declared.answer.Refusal.{Refusal}
+use Rattle.blocks.specs.declared.answer.InsertAnswer.{InsertAnswer}
+use Rattle.blocks.specs.Answers.{refusalNumber, insertedOutcome}
+use Rattle.blocks.specs.Read.{Found}
 use Rattle.dosing.specs.declared.temperature.Reading.{Reading}
 use Rattle.dosing.specs.declared.temperature.TemperatureGate.{TemperatureGate}
 use Rattle.dosing.specs.Temperature.{whole}

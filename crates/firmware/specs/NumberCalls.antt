@@ -6,9 +6,10 @@ use Prim.Native.Nat.{ℕ}
 use lib.Dec.{eqb}
 use lib.Ieee.{Float}
 use Rattle.cells.specs.Choice.{pick}
-use Rattle.store.specs.Read.{Found, get}
-use Rattle.store.specs.Insert.{Inserted, insert}
 use Rattle.calendar.specs.Date.{yearOf, monthOf, dayOf, dateOf}
+use Rattle.blocks.specs.Refusal.{Inserted}
+use Rattle.blocks.specs.Read.{Found, get}
+use Rattle.store.specs.Insert.{insert}
 use Rattle.dosing.specs.declared.temperature.Reading.{Reading}
 use Rattle.dosing.specs.declared.temperature.Reading.the-variants.{Celsius, Fahrenheit}
 use Rattle.dosing.specs.declared.temperature.TemperatureGate.{TemperatureGate}

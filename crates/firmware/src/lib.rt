@@ -3,6 +3,10 @@
 ghost use mathlib.Core.Path.{_≡_};
 ghost use Rattle.firmware.specs.Choices.{ours};
 ghost use Rattle.firmware.specs.NumberCalls.{getNumbers, insertNumbers, verdictNumbers};
+use blocks::answer::GetAnswer;
+use blocks::answer::InsertAnswer;
+use blocks::answer::number;
+use blocks::get::get;
 use calendar::Day;
 use calendar::Month;
 use calendar::Year;
@@ -10,10 +14,6 @@ use calendar::date_of;
 use dosing::sheet::ProductSheet;
 use dosing::verdict::VerdictAnswer;
 use dosing::verdict::verdict;
-use store::answer::GetAnswer;
-use store::answer::InsertAnswer;
-use store::answer::number;
-use store::get::get;
 use store::inserting::insert;
 
 mod named;

@@ -9,7 +9,7 @@ use Rattle.cells.specs.Bytes.{IsBytes}
 use Rattle.cells.proofs.Choice.{never}
 use Rattle.nodes.specs.Layout.{Layout}
 use Rattle.trees.specs.Lookup.{Table, emptyTable}
-use Rattle.store.specs.Trailer.{layoutOf, slots, validSlot, inUse}
+use Rattle.blocks.specs.Trailer.{layoutOf, slots, validSlot, inUse}
 use Rattle.store.proofs.After.{After, slotShown}
 use Rattle.store.proofs.Format.{Fresh}
 use Rattle.history.specs.Ledger.{Ledger, emptyLedger}

@@ -16,16 +16,16 @@ use Rattle.cells.proofs.Words.{set-bytes, bytes-zeros}
 use Rattle.nodes.specs.Layout.{keyLimit}
 use Rattle.trees.specs.Lookup.{emptyTable, sameKey, update}
 use Rattle.insertion.specs.Build.{cellsNeeded}
-use Rattle.store.specs.Trailer.{badSize, layoutOf, rootWord, slots, validSlot}
+use Rattle.blocks.specs.Trailer.{badSize, layoutOf, rootWord, slots, validSlot}
+use Rattle.blocks.specs.Refusal.{overLong, badKey, badNewKey, badValue}
+use Rattle.blocks.specs.Refusal.{Changed}
+use Rattle.blocks.specs.Read.{shown}
 use Rattle.store.specs.Free.{free}
-use Rattle.store.specs.Refusal.{overLong, badKey, badNewKey, badValue}
-use Rattle.store.specs.Refusal.{Changed}
 use Rattle.store.specs.Format.{format}
-use Rattle.store.specs.Read.{shown}
 use Rattle.store.specs.Insert.{blockBuild}
+use Rattle.store.specs.Computing.{callsOpen}
 use Rattle.store.proofs.After.{slotShown}
 use Rattle.store.proofs.Format.{format-done}
-use Rattle.store.specs.Computing.{callsOpen}
 use Rattle.history.specs.Calls.{Call, inserting, snapshotting, restoring, outcome, run, answersOf}
 use Rattle.history.specs.Ledger.{emptyLedger, noteInsert, ledgerSlot, noteSnapshot, noteHeld, noteRestore, noteCall, ledgerAfter, ledgerAnswers, gotNoRoom, fedBy}
 use Rattle.history.specs.Demand3.{ledgerBeside, Demand3}

@@ -14,10 +14,10 @@ use Rattle.cells.specs.Memory.{memoryOf}
 use Rattle.cells.specs.Occurrences.{occurrences}
 use Rattle.cells.proofs.Choice.{absurd-bool, absurd-false}
 use Rattle.trees.specs.Lookup.{Table, sameKey, update}
-use Rattle.store.specs.Trailer.{layoutOf, validSlot, inUse}
-use Rattle.store.specs.Sound.{reachable}
-use Rattle.store.specs.Refusal.{badNewKey, badValue}
-use Rattle.store.specs.Read.{shown}
+use Rattle.blocks.specs.Trailer.{layoutOf, validSlot, inUse}
+use Rattle.blocks.specs.Sound.{reachable}
+use Rattle.blocks.specs.Refusal.{badNewKey, badValue}
+use Rattle.blocks.specs.Read.{shown}
 use Rattle.store.specs.Insert.{noRoom, insert}
 use Rattle.store.specs.Snapshots.{snapshot, restore, release}
 use Rattle.store.proofs.After.{After, slotShown}

@@ -2,7 +2,7 @@
 use mathlib.Core.Path.{_≡_, refl}
 use mathlib.Core.List.{List, _∷_, _++_}
 use Prim.Native.Nat.{ℕ}
-use Rattle.store.specs.Trailer.{layoutOf, slots}
+use Rattle.blocks.specs.Trailer.{layoutOf, slots}
 use Rattle.store.specs.Format.{format}
 use Rattle.store.proofs.Format.{format-law}
 use Rattle.history.specs.Calls.{Call, ours, run, KeysAreBytes}

@@ -10,13 +10,13 @@ use native.Mathlib.Omega.{arith}
 use lib.ListN.{length, take, drop, set, length-set, length-drop, take-append-drop, drop-of-length-le}
 use lib.Seq.{take-suc, take-set-le, drop-set-lt, getD-set-same}
 use borrow.Author.Tests.{eq-eqb, ne-eqb}
-use Rattle.store.specs.Refusal.{Changed}
+use Rattle.blocks.specs.Refusal.{Changed}
+use Rattle.blocks.specs.Answers.{changeNumber, changedOutcome}
+use Rattle.blocks.specs.declared.answer.ChangeAnswer.{ChangeAnswer}
+use Rattle.blocks.specs.declared.answer.Refusal as declared
+use Rattle.blocks.proofs.Refusals.{refused-block}
+use Rattle.blocks.proofs.RefusalSteps.{refused-number, done-number}
 use Rattle.store.specs.Format.{formatted, newLayout, formatRefusals, format}
-use Rattle.store.specs.Answers.{changeNumber, changedOutcome}
-use Rattle.store.specs.declared.answer.ChangeAnswer.{ChangeAnswer}
-use Rattle.store.specs.declared.answer.Refusal as declared
-use Rattle.store.proofs.Refusals.{refused-block}
-use Rattle.store.proofs.RefusalSteps.{refused-number, done-number}
 use Rattle.history.specs.Calls.{Call, ours, outcome, run, answersOf}
 use Rattle.history.specs.Encoded.{Decoded, decodeCall, following, decoded, stopped}
 use Rattle.history.specs.Running.{numbered, answered, RunOutcome, runOutcome, runOver, runCalls}

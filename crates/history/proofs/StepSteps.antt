@@ -8,12 +8,12 @@ use native.Mathlib.Omega.{arith}
 use lib.ListN.{length, getD, take, drop}
 use Rattle.cells.specs.Word.{wordAt}
 use Rattle.cells.proofs.Choice.{absurd-bool, absurd-false}
-use Rattle.store.specs.Refusal.{Changed}
-use Rattle.store.specs.Insert.{Inserted, insert}
+use Rattle.blocks.specs.Refusal.{Changed, Inserted}
+use Rattle.blocks.specs.Answers.{changeNumber, changedOutcome, insertedOutcome}
+use Rattle.blocks.specs.declared.answer.ChangeAnswer.{ChangeAnswer}
+use Rattle.blocks.specs.declared.answer.InsertAnswer.{InsertAnswer}
+use Rattle.store.specs.Insert.{insert}
 use Rattle.store.specs.Snapshots.{snapshot, restore, release}
-use Rattle.store.specs.Answers.{changeNumber, changedOutcome, insertedOutcome}
-use Rattle.store.specs.declared.answer.ChangeAnswer.{ChangeAnswer}
-use Rattle.store.specs.declared.answer.InsertAnswer.{InsertAnswer}
 use Rattle.history.specs.Calls.{Call, inserting, snapshotting, restoring, releasing, ours, outcome}
 use Rattle.history.specs.Encoded.{Decoded, decodeInsert, decodeSlot, decodeCall}
 use Rattle.history.specs.Running.{insertNumber, numbered, answered, StepOutcome, step, stepOutcome}

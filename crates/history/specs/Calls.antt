@@ -2,9 +2,9 @@
 use mathlib.Core.List.{List, [], _∷_}
 use Prim.Native.Nat.{ℕ}
 use Rattle.cells.specs.Bytes.{IsBytes}
-use Rattle.store.specs.Refusal.{Changed}
+use Rattle.blocks.specs.Refusal.{Changed, Inserted}
 use Rattle.store.specs.Format.{format}
-use Rattle.store.specs.Insert.{Inserted, insert}
+use Rattle.store.specs.Insert.{insert}
 use Rattle.store.specs.Snapshots.{snapshot, restore, release}
 
 -- 00: "any list of these calls: entering, marking, going back, dropping a mark, refused ones included"

@@ -14,12 +14,12 @@ use Rattle.trees.specs.Root.{rootCells}
 use Rattle.trees.specs.Lookup.{Table, lookup}
 use Rattle.insertion.specs.Build.{cellsNeeded}
 use Rattle.insertion.specs.Commit.{memoryWith}
-use Rattle.store.specs.Trailer.{badSize, layoutOf, rootWord, slots, validSlot, slotWord, inUse}
-use Rattle.store.specs.Sound.{sound, reachable}
+use Rattle.blocks.specs.Trailer.{badSize, layoutOf, rootWord, slots, validSlot, slotWord, inUse}
+use Rattle.blocks.specs.Sound.{sound, reachable}
+use Rattle.blocks.specs.Refusal.{badNewKey, badValue}
+use Rattle.blocks.specs.Read.{shown}
 use Rattle.store.specs.Free.{free}
-use Rattle.store.specs.Refusal.{badNewKey, badValue}
 use Rattle.store.specs.Format.{format}
-use Rattle.store.specs.Read.{shown}
 use Rattle.store.specs.Insert.{numbering, blockBuild}
 use Rattle.history.specs.Calls.{Call, inserting, snapshotting, restoring, releasing, Implementation, Outcome, outcome, run, answersOf, KeysAreBytes}
 use Rattle.history.specs.Ledger.{Ledger, emptyLedger, ledgerAfter, ledgerAnswers, fedBy}

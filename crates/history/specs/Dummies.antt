@@ -4,10 +4,10 @@ use Prim.Native.Nat.{ℕ, _+_}
 use lib.ListN.{set}
 use Rattle.cells.specs.Word.{withWord}
 use Rattle.nodes.specs.Layout.{Layout}
-use Rattle.store.specs.Trailer.{layoutOf, slotAt, bitsAt}
-use Rattle.store.specs.Refusal.{Changed, changedBy}
+use Rattle.blocks.specs.Trailer.{layoutOf, slotAt, bitsAt}
+use Rattle.blocks.specs.Refusal.{Changed, changedBy, Inserted}
 use Rattle.store.specs.Format.{format}
-use Rattle.store.specs.Insert.{Inserted, insert}
+use Rattle.store.specs.Insert.{insert}
 use Rattle.store.specs.Snapshots.{withBit, slotRefusals, snapshot, restore, release}
 use Rattle.history.specs.Calls.{Implementation}
 

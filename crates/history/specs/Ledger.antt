@@ -6,7 +6,7 @@ use Prim.Native.Nat.{ℕ}
 use lib.Dec.{leb, eqb}
 use Rattle.cells.specs.Choice.{pick}
 use Rattle.trees.specs.Lookup.{Table, emptyTable, update}
-use Rattle.store.specs.Refusal.{badNewKey, badValue}
+use Rattle.blocks.specs.Refusal.{badNewKey, badValue}
 use Rattle.history.specs.Calls.{Call, inserting, snapshotting, restoring, releasing, Implementation, outcome}
 
 -- 01: "It has a present table of labels and values and, for each lawful slot (one that doesn't get 5), a table or nothing."

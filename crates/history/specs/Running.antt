@@ -6,11 +6,11 @@ use Prim.Native.Nat.{ℕ}
 use lib.Dec.{eqb}
 use lib.ListN.{length, take, drop}
 use Rattle.cells.specs.Choice.{pick}
-use Rattle.store.specs.Trailer.{layoutOf, slots}
-use Rattle.store.specs.Refusal.{Changed}
+use Rattle.blocks.specs.Trailer.{layoutOf, slots}
+use Rattle.blocks.specs.Refusal.{Changed}
+use Rattle.blocks.specs.declared.answer.InsertAnswer.{InsertAnswer}
+use Rattle.blocks.specs.Answers.{refusalNumber}
 use Rattle.store.specs.Format.{format}
-use Rattle.store.specs.declared.answer.InsertAnswer.{InsertAnswer}
-use Rattle.store.specs.Answers.{refusalNumber}
 use Rattle.history.specs.Calls.{Call, ours, outcome, run, answersOf}
 use Rattle.history.specs.Ledger.{emptyLedger, ledgerAnswers, fedBy}
 use Rattle.history.specs.Demand3.{Agrees, AtCall, ledgerBeside}

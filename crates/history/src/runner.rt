@@ -2,14 +2,14 @@
 ghost use mathlib.Core.Path.{_≡_};
 ghost use Prim.Native.Nat.{_≤_};
 ghost use lib.ListN.{length};
-ghost use Rattle.store.specs.Answers.{changeNumber};
+ghost use Rattle.blocks.specs.Answers.{changeNumber};
 ghost use Rattle.history.specs.Calls.{inserting, snapshotting, restoring, releasing};
 ghost use Rattle.history.specs.Encoded.{decodeCall, decodeInsert};
 ghost use Rattle.history.specs.Running.{insertNumber, numbered, answered, step, stepOutcome, runOutcome, Meets};
+use blocks::answer::ChangeAnswer;
+use blocks::answer::InsertAnswer;
+use blocks::answer::number;
 use cells::word_at;
-use store::answer::ChangeAnswer;
-use store::answer::InsertAnswer;
-use store::answer::number;
 use store::formatting::format;
 use store::inserting::insert;
 use store::snapshots::release;

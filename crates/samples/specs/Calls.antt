@@ -3,11 +3,12 @@ use mathlib.Core.List.{List, [], _∷_}
 use Prim.Native.Nat.{ℕ, _*_}
 use lib.IntN.{pos}
 use lib.ListN.{replicate}
-use Rattle.store.specs.Trailer.{layoutOf, rootWord}
-use Rattle.store.specs.Format.{format}
-use Rattle.store.specs.Insert.{Inserted, insert}
-use Rattle.store.specs.Snapshots.{snapshot, restore}
 use Rattle.calendar.specs.Date.{yearOf, monthOf, dayOf, dateOf, packedDate}
+use Rattle.blocks.specs.Refusal.{Inserted}
+use Rattle.blocks.specs.Trailer.{layoutOf, rootWord}
+use Rattle.store.specs.Format.{format}
+use Rattle.store.specs.Insert.{insert}
+use Rattle.store.specs.Snapshots.{snapshot, restore}
 use Rattle.dosing.specs.declared.temperature.Reading.the-variants.{Celsius}
 use Rattle.dosing.specs.declared.temperature.TemperatureGate.the-variants.{Any}
 use Rattle.dosing.specs.Temperature.{whole}

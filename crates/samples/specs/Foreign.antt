@@ -6,8 +6,9 @@ use Prim.Native.Nat.{ℕ}
 use lib.ListN.{replicate}
 use Rattle.cells.specs.Bytes.{zeros}
 use Rattle.cells.specs.Memory.{memoryOf}
-use Rattle.store.specs.Read.{validate, get}
-use Rattle.store.specs.Insert.{Inserted, insert}
+use Rattle.blocks.specs.Refusal.{Inserted}
+use Rattle.blocks.specs.Read.{validate, get}
+use Rattle.store.specs.Insert.{insert}
 use Rattle.store.specs.Computing.{callsOpen}
 use Rattle.samples.specs.Line.{word}
 use Rattle.samples.specs.Calls.{rootOf}

@@ -7,8 +7,9 @@ use lib.ListN.{replicate, set}
 use Rattle.cells.specs.Bytes.{zeros}
 use Rattle.cells.specs.Word.{withWord}
 use Rattle.cells.specs.Memory.{memoryOf}
-use Rattle.store.specs.Read.{validate}
-use Rattle.store.specs.Insert.{Inserted, insert}
+use Rattle.blocks.specs.Refusal.{Inserted}
+use Rattle.blocks.specs.Read.{validate}
+use Rattle.store.specs.Insert.{insert}
 use Rattle.store.specs.Snapshots.{snapshot}
 use Rattle.store.specs.Computing.{callsOpen}
 use Rattle.samples.specs.Line.{word}

@@ -3,10 +3,10 @@ use crate::change_number;
 use crate::insert_count;
 use crate::insert_number;
 use crate::print;
+use blocks::validate::validate;
 use cells::word_at;
 use store::formatting::format;
 use store::inserting::insert;
-use store::validate::validate;
 
 // Labels of 28, 29, 48 and 49 bytes in a fresh block of four cells.
 pub fn labels() {

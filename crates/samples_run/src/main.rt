@@ -3,9 +3,9 @@ mod also;
 mod print;
 mod verdicts;
 
+use blocks::answer::ChangeAnswer;
+use blocks::answer::InsertAnswer;
 use cells::word_at;
-use store::answer::ChangeAnswer;
-use store::answer::InsertAnswer;
 use store::formatting::format;
 use store::inserting::insert;
 use store::snapshots::restore;
@@ -15,7 +15,7 @@ use store::snapshots::snapshot;
 pub fn insert_number(answer: InsertAnswer) -> u32 {
     match answer {
         InsertAnswer::Done(_) => 0,
-        InsertAnswer::Refused(refusal) => store::answer::number(refusal) as u32,
+        InsertAnswer::Refused(refusal) => blocks::answer::number(refusal) as u32,
     }
 }
 
@@ -31,7 +31,7 @@ pub fn insert_count(answer: InsertAnswer) -> u32 {
 pub fn change_number(answer: ChangeAnswer) -> u32 {
     match answer {
         ChangeAnswer::Done => 0,
-        ChangeAnswer::Refused(refusal) => store::answer::number(refusal) as u32,
+        ChangeAnswer::Refused(refusal) => blocks::answer::number(refusal) as u32,
     }
 }
 

@@ -35,7 +35,7 @@ pub fn order_words() {
 fn verdict_number(answer: VerdictAnswer) -> u32 {
     match answer {
         VerdictAnswer::Dose(_) => 0,
-        VerdictAnswer::Refused(refusal) => store::answer::number(refusal) as u32,
+        VerdictAnswer::Refused(refusal) => blocks::answer::number(refusal) as u32,
     }
 }
 

@@ -14,11 +14,11 @@ use Rattle.nodes.specs.Layout.{Layout, trailerCells, usable}
 use Rattle.nodes.proofs.Pointers.{usable-high}
 use Rattle.trees.specs.Root.{validRoot, rootCells}
 use Rattle.trees.specs.Lookup.{Table, lookup}
-use Rattle.store.specs.Trailer.{badSize, layoutOf, rootWord, validSlot, slotWord, inUse}
-use Rattle.store.specs.Sound.{soundWith, sound, reachable}
-use Rattle.store.specs.Read.{shown}
-use Rattle.store.proofs.Trailer.{Sized, badSize-same, TrailerSays}
-use Rattle.store.proofs.Roots.{RootKept, root-kept, SoundParts, parts-sound, root-reachable, slot-reachable, reachable-usable}
+use Rattle.blocks.specs.Trailer.{badSize, layoutOf, rootWord, validSlot, slotWord, inUse}
+use Rattle.blocks.specs.Sound.{soundWith, sound, reachable}
+use Rattle.blocks.specs.Read.{shown}
+use Rattle.blocks.proofs.Trailer.{Sized, badSize-same, TrailerSays}
+use Rattle.blocks.proofs.Roots.{RootKept, root-kept, SoundParts, parts-sound, root-reachable, slot-reachable, reachable-usable}
 
 -- the table that a slot shows
 abbrev pub slotShown : List ℕ → ℕ → Table

@@ -14,7 +14,7 @@ use Rattle.insertion.specs.Built.{Built}
 use Rattle.insertion.specs.Commit.{buildWrites}
 use Rattle.insertion.specs.Staged.{staged}
 use Rattle.insertion.proofs.StageLaws.{staged-length}
-use Rattle.store.specs.Trailer.{trailerAt}
+use Rattle.blocks.specs.Trailer.{trailerAt}
 use Rattle.store.specs.Committed.{commitWrites}
 
 module _ (number : ℕ → ℕ) (stage block : List ℕ) where

@@ -20,12 +20,12 @@ use Rattle.insertion.specs.Built.{Built}
 use Rattle.insertion.specs.Commit.{buildWrites, memoryWith}
 use Rattle.insertion.proofs.CellBytes.{Whole}
 use Rattle.insertion.proofs.Commit.{memoryWith-other, numbers-free, free-written}
-use Rattle.store.specs.Trailer.{trailerAt, layoutOf, rootWord, slotWord, inUse, validTrailer}
-use Rattle.store.specs.Sound.{reachable}
+use Rattle.blocks.specs.Trailer.{trailerAt, layoutOf, rootWord, slotWord, inUse, validTrailer}
+use Rattle.blocks.specs.Sound.{reachable}
+use Rattle.blocks.proofs.Trailer.{Sized, trailer-fits, TrailerSays, root-changed}
+use Rattle.blocks.proofs.Roots.{SoundParts, reachable-usable}
 use Rattle.store.specs.Free.{free}
 use Rattle.store.specs.Insert.{numbering, insertWrites}
-use Rattle.store.proofs.Trailer.{Sized, trailer-fits, TrailerSays, root-changed}
-use Rattle.store.proofs.Roots.{SoundParts, reachable-usable}
 use Rattle.store.proofs.Free.{free-usable, free-reached}
 use Rattle.store.proofs.After.{not-trailer}
 

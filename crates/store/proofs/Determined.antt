@@ -12,16 +12,16 @@ use lib.Seq.{ext-getD}
 use Rattle.cells.specs.Bytes.{IsBytes}
 use Rattle.cells.specs.Memory.{memoryOf}
 use Rattle.cells.proofs.Memory.{memory-byte}
-use Rattle.store.specs.Trailer.{badSize, layoutOf, validSlot}
-use Rattle.store.specs.Sound.{sound}
-use Rattle.store.specs.Refusal.{Changed, badNewKey, badValue}
+use Rattle.blocks.specs.Trailer.{badSize, layoutOf, validSlot}
+use Rattle.blocks.specs.Sound.{sound}
+use Rattle.blocks.specs.Refusal.{Changed, badNewKey, badValue, Inserted}
+use Rattle.blocks.specs.Read.{validate}
+use Rattle.blocks.proofs.Refusals.{Exactly}
+use Rattle.blocks.proofs.ReadCalls.{Asked, Passes, ValidateTable, validate-table}
 use Rattle.store.specs.Format.{format}
-use Rattle.store.specs.Read.{validate}
-use Rattle.store.specs.Insert.{Inserted, insert}
+use Rattle.store.specs.Insert.{insert}
 use Rattle.store.specs.Snapshots.{snapshot, restore, release}
-use Rattle.store.proofs.Refusals.{Exactly}
-use Rattle.store.proofs.ReadCalls.{Asked}
-use Rattle.store.proofs.WriteCalls.{Passes, ValidateTable, validate-table, FormatTable, format-table, needed, room, InsertTable, insert-table}
+use Rattle.store.proofs.WriteCalls.{FormatTable, format-table, needed, room, InsertTable, insert-table}
 use Rattle.store.proofs.WriteCalls.{SlotCall, snapshotCall, restoreCall, releaseCall, SlotTable, snapshot-table, restore-table, release-table}
 
 -- two answers that are given under one condition are the same where it holds

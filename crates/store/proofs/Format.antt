@@ -20,15 +20,16 @@ use Rattle.nodes.specs.Layout.{Layout, usable}
 use Rattle.trees.specs.Root.{validRoot, rootCells}
 use Rattle.trees.specs.Lookup.{emptyTable, lookup}
 use Rattle.trees.proofs.Tree.{lookup-zero}
-use Rattle.store.specs.Trailer.{badSize, trailerAt, layoutOf, rootWord, slots, validSlot, slotAt, slotWord, bitsAt, slotBit, inUse}
-use Rattle.store.specs.Fits.{Fits}
-use Rattle.store.specs.Sound.{soundWith, sound, reachable}
+use Rattle.blocks.specs.Trailer.{badSize, trailerAt, layoutOf, rootWord, slots, validSlot, slotAt, slotWord, bitsAt, slotBit, inUse}
+use Rattle.blocks.specs.Fits.{Fits}
+use Rattle.blocks.specs.Sound.{soundWith, sound, reachable}
+use Rattle.blocks.specs.Read.{shown}
+use Rattle.blocks.proofs.Refusals.{done-block, refused-block}
+use Rattle.blocks.proofs.Trailer.{sized, layout-cells, badSize-same, slot-high, slots-three, slot-at, parts-trailer}
+use Rattle.blocks.proofs.Roots.{zero-valid, zero-cells, parts-sound, unreachable}
 use Rattle.store.specs.Free.{allocationOrder, free}
 use Rattle.store.specs.Format.{formatted, newLayout, formatRefusals, format}
-use Rattle.store.specs.Read.{shown}
-use Rattle.store.proofs.Refusals.{format-answers, done-block, refused-block}
-use Rattle.store.proofs.Trailer.{sized, layout-cells, badSize-same, slot-high, slots-three, slot-at, parts-trailer}
-use Rattle.store.proofs.Roots.{zero-valid, zero-cells, parts-sound, unreachable}
+use Rattle.store.proofs.CallAnswers.{format-answers}
 use Rattle.store.proofs.Free.{free-every, free-all}
 
 zeros-word : (n at : ℕ) → wordAt (zeros n) at ≡ 0

@@ -7,8 +7,8 @@ use native.Mathlib.Omega.{arith}
 use lib.ListN.{length, drop, replicate, drop-of-length-le}
 use Rattle.cells.specs.Bytes.{zeros}
 use Rattle.cells.specs.Word.{withWord}
-use Rattle.store.specs.Trailer.{badSize, trailerOf}
-use Rattle.store.specs.Refusal.{firstRefusal}
+use Rattle.blocks.specs.Trailer.{badSize, trailerOf}
+use Rattle.blocks.specs.Refusal.{firstRefusal}
 use Rattle.store.specs.Format.{formatted, format}
 
 module _ (block : List ℕ) where

@@ -14,10 +14,10 @@ use Rattle.cells.proofs.Occurrences.{occurrences-none, occurrences-same, occurr
 use Rattle.nodes.specs.Layout.{Layout, trailerCells, usable}
 use Rattle.nodes.proofs.Pointers.{usable-low, usable-high, usable-is}
 use Rattle.trees.specs.Root.{rootCells}
-use Rattle.store.specs.Trailer.{rootWord, validSlot, slotWord, inUse}
-use Rattle.store.specs.Sound.{reachable}
+use Rattle.blocks.specs.Trailer.{rootWord, validSlot, slotWord, inUse}
+use Rattle.blocks.specs.Sound.{reachable}
+use Rattle.blocks.proofs.Roots.{root-reachable, slot-reachable}
 use Rattle.store.specs.Free.{countUp, allocationOrder, free}
-use Rattle.store.proofs.Roots.{root-reachable, slot-reachable}
 
 -- a number passes a test as often as it stands there, or never
 module _ (test : ℕ → Bool) where

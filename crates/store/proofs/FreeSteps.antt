@@ -12,9 +12,9 @@ use lib.Seq.{take-suc-set, length-take-le}
 use borrow.Author.Tests.{eq-eqb, ne-eqb}
 use Rattle.cells.specs.Occurrences.{occurrences, select}
 use Rattle.nodes.specs.Layout.{Layout, trailerCells}
-use Rattle.store.specs.Sound.{reachable}
-use Rattle.store.specs.Stamps.{Stamped}
-use Rattle.store.specs.Trailer.{rootWord}
+use Rattle.blocks.specs.Sound.{reachable}
+use Rattle.blocks.specs.Stamps.{Stamped}
+use Rattle.blocks.specs.Trailer.{rootWord}
 use Rattle.store.specs.Free.{countUp, allocationOrder, free}
 use Rattle.store.specs.Unstamped.{unstamped, Listed}
 use Rattle.store.proofs.Free.{select-kept, select-dropped}

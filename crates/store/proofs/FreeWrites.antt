@@ -10,7 +10,7 @@ use Rattle.cells.proofs.Pointers.{cell-of-made}
 use Rattle.insertion.specs.Commit.{buildWrites}
 use Rattle.insertion.proofs.Claims.{numbers}
 use Rattle.insertion.proofs.Commit.{numbers-free}
-use Rattle.store.specs.Trailer.{layoutOf}
+use Rattle.blocks.specs.Trailer.{layoutOf}
 use Rattle.store.specs.Free.{free}
 use Rattle.store.specs.Insert.{numbering, blockBuild}
 

@@ -25,15 +25,16 @@ use Rattle.insertion.proofs.CellBytes.{Whole, memory-cell, build-whole}
 use Rattle.insertion.proofs.Bound.{build-bound}
 use Rattle.insertion.proofs.Taken.{enough-free}
 use Rattle.insertion.proofs.InsertLaw.{Inserted as BuildInserted, insert-law}
-use Rattle.store.specs.Trailer.{badSize, layoutOf, rootWord, slotWord, inUse}
-use Rattle.store.specs.Sound.{sound}
+use Rattle.blocks.specs.Trailer.{badSize, layoutOf, rootWord, slotWord, inUse}
+use Rattle.blocks.specs.Sound.{sound}
+use Rattle.blocks.specs.Refusal.{firstRefusal, overLong, badKey, badNewKey, badValue, Inserted}
+use Rattle.blocks.specs.Read.{shown}
+use Rattle.blocks.proofs.Refusals.{Exactly}
+use Rattle.blocks.proofs.Trailer.{sized, either-left, either-right, layout-cells, TrailerSays}
+use Rattle.blocks.proofs.Roots.{RootParts, root-parts, root-valid, root-cells, root-bound, sound-parts, root-reachable}
 use Rattle.store.specs.Free.{free}
-use Rattle.store.specs.Refusal.{firstRefusal, overLong, badKey, badNewKey, badValue}
-use Rattle.store.specs.Read.{shown}
-use Rattle.store.specs.Insert.{Inserted, noRoom, insertRefusals, numbering, blockBuild, insertWrites, insert}
-use Rattle.store.proofs.Refusals.{Exactly, insert-answers}
-use Rattle.store.proofs.Trailer.{sized, either-left, either-right, layout-cells, TrailerSays}
-use Rattle.store.proofs.Roots.{RootParts, root-parts, root-valid, root-cells, root-bound, sound-parts, root-reachable}
+use Rattle.store.specs.Insert.{noRoom, insertRefusals, numbering, blockBuild, insertWrites, insert}
+use Rattle.store.proofs.CallAnswers.{insert-answers}
 use Rattle.store.proofs.Free.{free-usable, free-once, free-reached}
 use Rattle.store.proofs.After.{After, after, slotShown, not-trailer, slot-root, old-root-kept}
 use Rattle.store.proofs.Committed.{committed-bytes, committed-cells, committed-trailer, committed-kept, committed-says}

@@ -22,17 +22,17 @@ use Rattle.insertion.proofs.Bound.{build-bound}
 use Rattle.insertion.proofs.Count.{count-needed}
 use Rattle.insertion.proofs.Commit.{numbering-free}
 use Rattle.insertion.proofs.StageLaws.{staged-length, number-listed}
-use Rattle.store.specs.Fits.{Fits}
-use Rattle.store.specs.Trailer.{trailerAt, layoutOf, rootWord}
-use Rattle.store.specs.Sound.{soundWith}
+use Rattle.blocks.specs.Fits.{Fits}
+use Rattle.blocks.specs.Trailer.{trailerAt, layoutOf, rootWord}
+use Rattle.blocks.specs.Sound.{soundWith}
+use Rattle.blocks.proofs.Trailer.{sized}
+use Rattle.blocks.proofs.ValidateSteps.{layout-fits}
+use Rattle.blocks.proofs.Roots.{root-parts, sound-parts}
 use Rattle.store.specs.Free.{free}
 use Rattle.store.specs.Insert.{numbering, blockBuild, insertWrites, insert}
 use Rattle.store.specs.Unstamped.{unstamped, Listed}
 use Rattle.store.specs.Committed.{Inside, commitWrites}
 use Rattle.store.specs.Insertable.{Insertable}
-use Rattle.store.proofs.Trailer.{sized}
-use Rattle.store.proofs.ValidateSteps.{layout-fits}
-use Rattle.store.proofs.Roots.{root-parts, sound-parts}
 use Rattle.store.proofs.Free.{free-usable}
 use Rattle.store.proofs.FreeSteps.{unstamped-free, unstamped-most}
 use Rattle.store.proofs.CommitSteps.{writes-same}

@@ -7,13 +7,13 @@ use Prim.Native.Nat.{ℕ, _≤_, _<_}
 use native.Mathlib.Omega.{arith}
 use borrow.Author.Tests.{lt-ltb, le-ltb}
 use Rattle.nodes.specs.Layout.{Layout}
-use Rattle.store.specs.Trailer.{badSize, layoutOf}
-use Rattle.store.specs.Sound.{soundWith, sound}
-use Rattle.store.specs.Stamps.{Validated}
-use Rattle.store.specs.Refusal.{badKey, badNewKey, badValue}
-use Rattle.store.specs.Insert.{Inserted, insert}
+use Rattle.blocks.specs.Trailer.{badSize, layoutOf}
+use Rattle.blocks.specs.Sound.{soundWith, sound}
+use Rattle.blocks.specs.Stamps.{Validated}
+use Rattle.blocks.specs.Refusal.{badKey, badNewKey, badValue, Inserted}
+use Rattle.store.specs.Insert.{insert}
 use Rattle.store.specs.Insertable.{Insertable}
-use Rattle.store.proofs.Refusals.{insert-answers}
+use Rattle.store.proofs.CallAnswers.{insert-answers}
 use Rattle.store.proofs.InsertCall.{insert-number, insert-answer, insert-refused, insert-refused-count}
 
 -- an insertion that is refused: the number, a zero and the block as it was

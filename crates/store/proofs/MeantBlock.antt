@@ -17,13 +17,13 @@ use Rattle.nodes.proofs.MeantNode.{AlikeAt}
 use Rattle.trees.specs.Root.{rootTree, onceVisited, validRoot, cellsOf}
 use Rattle.trees.specs.Lookup.{lookup}
 use Rattle.trees.proofs.MeantTree.{TreeMeans, root-tree-alike, table-alike}
-use Rattle.store.specs.Trailer.{badSize, trailerAt, layoutOf, rootWord, slots, validSlot, slotWord, slotBit, inUse, validTrailer}
-use Rattle.store.specs.Sound.{slotRoots, roots, soundWith, sound, reachedFrom, reachable}
+use Rattle.blocks.specs.Trailer.{badSize, trailerAt, layoutOf, rootWord, slots, validSlot, slotWord, slotBit, inUse, validTrailer}
+use Rattle.blocks.specs.Sound.{slotRoots, roots, soundWith, sound, reachedFrom, reachable}
+use Rattle.blocks.specs.Refusal.{refusal, firstRefusal}
+use Rattle.blocks.specs.Read.{validate, shown}
+use Rattle.blocks.proofs.Trailer.{SameBytes, same-word, layout-same, badSize-same, slot-high, slot-valid, slots-three, slot-at, trailer-byte, trailer-parts, parts-trailer}
+use Rattle.blocks.proofs.Roots.{root-parts, sound-parts, used-roots, idle-roots}
 use Rattle.store.specs.Free.{allocationOrder, free}
-use Rattle.store.specs.Refusal.{refusal, firstRefusal}
-use Rattle.store.specs.Read.{validate, shown}
-use Rattle.store.proofs.Trailer.{SameBytes, same-word, layout-same, badSize-same, slot-high, slot-valid, slots-three, slot-at, trailer-byte, trailer-parts, parts-trailer}
-use Rattle.store.proofs.Roots.{root-parts, sound-parts, used-roots, idle-roots}
 use Rattle.store.proofs.After.{slotShown}
 
 -- a byte, by its cell and its offset there, has a meaning: in the trailer, in the root's tree or in that of a slot in use

@@ -14,16 +14,17 @@ use Rattle.cells.proofs.Choice.{absurd-bool, absurd-false}
 use Rattle.cells.proofs.Words.{word-bound, withWord-bytes}
 use Rattle.nodes.specs.Layout.{Layout}
 use Rattle.trees.specs.Lookup.{Table, lookup}
-use Rattle.store.specs.Trailer.{badSize, trailerAt, layoutOf, rootWord, validSlot, slotWord, inUse}
-use Rattle.store.specs.Sound.{sound}
-use Rattle.store.specs.Refusal.{firstRefusal}
-use Rattle.store.specs.Read.{shown}
+use Rattle.blocks.specs.Trailer.{badSize, trailerAt, layoutOf, rootWord, validSlot, slotWord, inUse}
+use Rattle.blocks.specs.Sound.{sound}
+use Rattle.blocks.specs.Refusal.{firstRefusal}
+use Rattle.blocks.specs.Read.{shown}
+use Rattle.blocks.proofs.Refusals.{done-block, refused-block}
+use Rattle.blocks.proofs.Trailer.{sized, trailer-parts}
+use Rattle.blocks.proofs.Roots.{sound-parts}
 use Rattle.store.specs.Snapshots.{withBit, withoutBit, slotRefusals, usedSlotRefusals, snapshotBlock, restoreBlock, releaseBlock, snapshot, restore, release}
-use Rattle.store.proofs.Refusals.{done-block, refused-block, slot-answers, used-slot-answers}
-use Rattle.store.proofs.Trailer.{sized, trailer-parts}
+use Rattle.store.proofs.CallAnswers.{slot-answers, used-slot-answers}
 use Rattle.store.proofs.TrailerWrites.{replacedAt, root-written, root-written-cells, slot-block-bytes, slot-block-cells, slot-written}
 use Rattle.store.proofs.TrailerWrites.{with-bit-fits, with-bit-uses, without-bit-fits, without-bit-uses, bits-byte}
-use Rattle.store.proofs.Roots.{sound-parts}
 use Rattle.store.proofs.After.{After, after-same, slotShown, OldRoot, present-root, slot-root, after-trailer}
 
 -- a table by slot, where the words are replaced at one

@@ -9,16 +9,17 @@ use lib.ListN.{length, getD, set}
 use borrow.Author.Tests.{eqb-true, eqb-false, not-false}
 use Rattle.cells.specs.Word.{withWord}
 use Rattle.nodes.specs.Layout.{Layout}
-use Rattle.store.specs.Trailer.{badSize, trailerAt, layoutOf, rootWord, validSlot, slotAt, slotWord, bitsAt, slotBit, inUse}
-use Rattle.store.specs.Fits.{Fits}
-use Rattle.store.specs.Refusal.{refusal, firstRefusal}
-use Rattle.store.specs.Read.{blockRefusals, validate}
+use Rattle.blocks.specs.Trailer.{badSize, trailerAt, layoutOf, rootWord, validSlot, slotAt, slotWord, bitsAt, slotBit, inUse}
+use Rattle.blocks.specs.Fits.{Fits}
+use Rattle.blocks.specs.Refusal.{refusal, firstRefusal}
+use Rattle.blocks.specs.Read.{blockRefusals, validate}
+use Rattle.blocks.proofs.Refusals.{NoneApplies, block-answers}
+use Rattle.blocks.proofs.RefusalSteps.{refused-earlier, zero-earlier, one-more, no-more, changed-refused, changed-done}
+use Rattle.blocks.proofs.TrailerSteps.{slot-range}
+use Rattle.blocks.proofs.ValidateSteps.{layout-fits}
 use Rattle.store.specs.Snapshots.{withBit, withoutBit, slotRefusals, usedSlotRefusals, snapshotBlock, restoreBlock, releaseBlock, snapshot, restore, release}
+use Rattle.store.proofs.CallAnswers.{slot-answers}
 use Rattle.store.proofs.Bits.{bit-bound, bit-within}
-use Rattle.store.proofs.Refusals.{NoneApplies, block-answers, slot-answers}
-use Rattle.store.proofs.RefusalSteps.{refused-earlier, zero-earlier, one-more, no-more, changed-refused, changed-done}
-use Rattle.store.proofs.TrailerSteps.{slot-range}
-use Rattle.store.proofs.ValidateSteps.{layout-fits}
 
 -- the bit of the first slot, the second and the third
 module _ (slot : ℕ) where

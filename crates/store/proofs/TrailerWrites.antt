@@ -18,10 +18,10 @@ use Rattle.cells.specs.Writes.{Write, written}
 use Rattle.cells.proofs.Words.{length-withWord, word-agree, word-same, byte-other, set-bytes, withWord-bytes}
 use Rattle.cells.proofs.CellWrites.{written-length}
 use Rattle.nodes.specs.Layout.{Layout}
-use Rattle.store.specs.Trailer.{trailerAt, layoutOf, rootWord, slots, validSlot, slotAt, slotWord, bitsAt, slotBit, inUse, validTrailer}
+use Rattle.blocks.specs.Trailer.{trailerAt, layoutOf, rootWord, slots, validSlot, slotAt, slotWord, bitsAt, slotBit, inUse, validTrailer}
+use Rattle.blocks.proofs.Trailer.{Sized, trailer-fits, cell-outside, slot-low, slot-high, slots-three, slot-at, trailer-parts, TrailerSays, trailer-says, root-changed}
 use Rattle.store.specs.Snapshots.{withBit, withoutBit}
 use Rattle.store.proofs.Bits.{bit-set, bit-other, bit-cleared, bit-cleared-other, bit-bound}
-use Rattle.store.proofs.Trailer.{Sized, trailer-fits, cell-outside, slot-low, slot-high, slots-three, slot-at, trailer-parts, TrailerSays, trailer-says, root-changed}
 
 -- values by slot, one of them replaced
 abbrev pub replacedAt : {A : Type 0} → (ℕ → A) → ℕ → A → ℕ → A

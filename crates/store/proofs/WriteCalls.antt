@@ -1,4 +1,4 @@
--- 01's table of answers for validation and for the calls that write a block: each answer is given exactly under its
+-- 01's table of answers for the calls that write a block: each answer is given exactly under its
 -- condition, a no leaves the block as it was, and what a yes leaves.
 use mathlib.Core.Path.{_≡_, refl, sym, ap, _∙_}
 use mathlib.Core.Logic.{_≢_}
@@ -12,41 +12,22 @@ use Rattle.cells.specs.Memory.{memoryOf}
 use Rattle.cells.specs.Occurrences.{occurrences, all, distinct}
 use Rattle.trees.specs.Lookup.{Table, update}
 use Rattle.insertion.specs.Build.{cellsNeeded}
-use Rattle.store.specs.Trailer.{badSize, layoutOf, rootWord, validSlot, inUse}
-use Rattle.store.specs.Sound.{sound}
+use Rattle.blocks.specs.Trailer.{badSize, layoutOf, rootWord, validSlot, inUse}
+use Rattle.blocks.specs.Sound.{sound}
+use Rattle.blocks.specs.Refusal.{Refusal, refusal, firstRefusal, Changed, changedBy, badNewKey, badValue, Inserted}
+use Rattle.blocks.specs.Read.{shown}
+use Rattle.blocks.proofs.Refusals.{Exactly, Answers, answers, done-block, refused-block}
+use Rattle.blocks.proofs.ReadCalls.{Asked, asked, refusals-none, exactly, Passes}
 use Rattle.store.specs.Free.{free}
-use Rattle.store.specs.Refusal.{Refusal, refusal, firstRefusal, Changed, changedBy, badNewKey, badValue}
 use Rattle.store.specs.Format.{formatRefusals, format}
-use Rattle.store.specs.Read.{validate, shown}
-use Rattle.store.specs.Insert.{Inserted, insert}
+use Rattle.store.specs.Insert.{insert}
 use Rattle.store.specs.Snapshots.{slotRefusals, snapshotBlock, restoreBlock, releaseBlock, snapshot, restore, release}
-use Rattle.store.proofs.Refusals.{Exactly, Answers, answers, done-block, refused-block, block-answers, format-answers, insert-answers}
-use Rattle.store.proofs.ReadCalls.{Asked, asked, refusals-none, exactly}
+use Rattle.store.proofs.CallAnswers.{format-answers, insert-answers}
 use Rattle.store.proofs.TrailerWrites.{replacedAt}
 use Rattle.store.proofs.After.{After, slotShown}
 use Rattle.store.proofs.Format.{Fresh, freshOf, format-law}
 use Rattle.store.proofs.InsertCall.{Laid, insert-number, insert-zero, insert-seven, insert-refused, insert-refused-count, insert-after, insert-laid}
 use Rattle.store.proofs.SnapshotCalls.{snapshot-law, restore-law, release-law}
-
--- a block that passes validation: neither 1 nor 2 applies
-abbrev pub Passes : List ℕ → Type 0
-Passes b = (badSize b ≡ false) × (sound b ≡ true)
-
--- 01's table for validation
-pub record ValidateTable (b : List ℕ) (answer : ℕ) : Type 0 where
-  pub bad-size : Exactly answer 1 (badSize b ≡ true)
-  pub unsound : Exactly answer 2 ((badSize b ≡ false) × (sound b ≡ false))
-  pub done : Exactly answer 0 (Passes b)
-
-pub validate-table : (b : List ℕ) → ValidateTable b (validate b)
-unfolding validate
-validate-table b =
-    let x = block-answers b in
-    record {
-      bad-size = exactly refl (x .0) (λ c. c .1) (λ d. (tt, d));
-      unsound = exactly refl (x .1 .0) (λ c. (c .0 .0, not-true _ (c .1))) (λ d. ((d .0, tt), ap not (d .1)));
-      done = exactly refl (x .1 .1) (λ c. (c .0, not-false _ (c .1 .0))) (λ d. (d .0, (ap not (d .1), tt)));
-    }
 
 -- 01's table for a fresh block: this does not ask whether the old one is sound
 pub record FormatTable (b : List ℕ) (r : Changed) : Type 0 where

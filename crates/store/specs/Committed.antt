@@ -6,7 +6,7 @@ use Rattle.cells.specs.Writes.{Write}
 use Rattle.nodes.specs.Layout.{Layout}
 use Rattle.insertion.specs.Built.{Built}
 use Rattle.insertion.specs.Commit.{buildWrites}
-use Rattle.store.specs.Trailer.{trailerAt}
+use Rattle.blocks.specs.Trailer.{trailerAt}
 
 -- the cells of the first so many numbers lie inside so many bytes
 abbrev pub Inside : List ℕ → ℕ → ℕ → Type 0

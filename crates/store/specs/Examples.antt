@@ -3,7 +3,7 @@ use mathlib.Core.Path.{_≡_, refl}
 use mathlib.Core.List.{List, [], _∷_}
 use Prim.Native.Nat.{ℕ}
 use Rattle.cells.specs.Bytes.{zeros}
-use Rattle.store.specs.Trailer.{layoutOf, rootWord}
+use Rattle.blocks.specs.Trailer.{layoutOf, rootWord}
 use Rattle.store.specs.Free.{free}
 use Rattle.store.specs.Format.{format}
 use Rattle.store.specs.Insert.{insert}

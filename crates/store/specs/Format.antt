@@ -5,8 +5,8 @@ use lib.ListN.{length}
 use Rattle.cells.specs.Bytes.{zeros}
 use Rattle.cells.specs.Word.{withWord}
 use Rattle.nodes.specs.Layout.{Layout}
-use Rattle.store.specs.Trailer.{badSize, trailerAt}
-use Rattle.store.specs.Refusal.{Refusal, refusal, Changed, changedBy}
+use Rattle.blocks.specs.Trailer.{badSize, trailerAt}
+use Rattle.blocks.specs.Refusal.{Refusal, refusal, Changed, changedBy}
 
 unfoldable pub formatted : Layout → ℕ → List ℕ
 formatted layout size = withWord (withWord (zeros size) (trailerAt layout + 0x14) (layout .cells)) (trailerAt layout + 0x1C) (layout .edition)

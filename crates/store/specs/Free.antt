@@ -4,8 +4,8 @@ use Prim.Native.Nat.{ℕ, zero, suc, _+_, _-_}
 use lib.Dec.{eqb}
 use Rattle.cells.specs.Occurrences.{occurrences, select}
 use Rattle.nodes.specs.Layout.{Layout, trailerCells}
-use Rattle.store.specs.Trailer.{rootWord}
-use Rattle.store.specs.Sound.{reachable}
+use Rattle.blocks.specs.Trailer.{rootWord}
+use Rattle.blocks.specs.Sound.{reachable}
 
 -- so many numbers from one on
 unfoldable pub countUp : ℕ → ℕ → List ℕ

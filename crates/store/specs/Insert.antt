@@ -10,15 +10,10 @@ use Rattle.cells.specs.Writes.{Write, written}
 use Rattle.insertion.specs.Built.{Built}
 use Rattle.insertion.specs.Build.{build, cellsNeeded}
 use Rattle.insertion.specs.Commit.{numberFrom, buildWrites}
-use Rattle.store.specs.Trailer.{layoutOf, trailerAt, rootWord}
+use Rattle.blocks.specs.Trailer.{layoutOf, trailerAt, rootWord}
+use Rattle.blocks.specs.Refusal.{Refusal, refusal, firstRefusal, Inserted, badNewKey, badValue}
+use Rattle.blocks.specs.Read.{blockRefusals}
 use Rattle.store.specs.Free.{free}
-use Rattle.store.specs.Refusal.{Refusal, refusal, firstRefusal, badNewKey, badValue}
-use Rattle.store.specs.Read.{blockRefusals}
-
-pub record Inserted : Type 0 where
-  pub answer : ℕ
-  pub count : ℕ
-  pub block : List ℕ
 
 -- 01, answer 7: "the entry takes more cells than are free"
 abbrev pub noRoom : List ℕ → List ℕ → Bool

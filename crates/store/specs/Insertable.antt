@@ -4,10 +4,10 @@ use mathlib.Core.Bool.{true, false}
 use mathlib.Core.List.{List}
 use Prim.Native.Nat.{ℕ}
 use Rattle.nodes.specs.Layout.{Layout}
-use Rattle.store.specs.Trailer.{badSize, layoutOf}
-use Rattle.store.specs.Sound.{sound}
-use Rattle.store.specs.Refusal.{badNewKey, badValue}
-use Rattle.store.specs.Stamps.{Stamped}
+use Rattle.blocks.specs.Trailer.{badSize, layoutOf}
+use Rattle.blocks.specs.Sound.{sound}
+use Rattle.blocks.specs.Refusal.{badNewKey, badValue}
+use Rattle.blocks.specs.Stamps.{Stamped}
 
 -- a pair that may be inserted into a sound block, of which the layout and the stamps of a validation are known
 pub record Insertable (layout : Layout) (block stamps key : List ℕ) (value : ℕ) : Type 0 where

@@ -1,16 +1,9 @@
-pub mod Trailer
-pub mod Sound
 pub mod Free
-pub mod Refusal
 pub mod Format
-pub mod Read
 pub mod Insert
 pub mod Snapshots
 pub mod Computing
 pub mod Examples
-pub mod Fits
-pub mod Answers
-pub mod Stamps
 pub mod Unstamped
 pub mod Committed
 pub mod Insertable

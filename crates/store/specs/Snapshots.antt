@@ -7,9 +7,9 @@ use lib.ListN.{getD, set}
 use Rattle.cells.specs.Choice.{pick}
 use Rattle.cells.specs.Word.{withWord}
 use Rattle.nodes.specs.Layout.{Layout}
-use Rattle.store.specs.Trailer.{layoutOf, trailerAt, rootWord, slotAt, slotWord, slotBit, bitsAt, inUse, validSlot}
-use Rattle.store.specs.Refusal.{Refusal, refusal, Changed, changedBy}
-use Rattle.store.specs.Read.{blockRefusals}
+use Rattle.blocks.specs.Trailer.{layoutOf, trailerAt, rootWord, slotAt, slotWord, slotBit, bitsAt, inUse, validSlot}
+use Rattle.blocks.specs.Refusal.{Refusal, refusal, Changed, changedBy}
+use Rattle.blocks.specs.Read.{blockRefusals}
 
 -- the bits of the slots in use with one set, and with one cleared
 unfoldable pub withBit : Layout → List ℕ → ℕ → ℕ

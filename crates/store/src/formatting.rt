@@ -2,12 +2,12 @@
 ghost use mathlib.Core.Path.{_≡_};
 ghost use lib.ListN.{length};
 ghost use Rattle.cells.specs.Bytes.{zeros};
-ghost use Rattle.store.specs.Answers.{changedOutcome};
+ghost use Rattle.blocks.specs.Answers.{changedOutcome};
 ghost use Rattle.store.specs.Format.{format};
-use crate::answer::ChangeAnswer;
-use crate::answer::Refusal;
-use crate::trailer_fields::is_bad_size;
-use crate::trailer_fields::trailer_at;
+use blocks::answer::ChangeAnswer;
+use blocks::answer::Refusal;
+use blocks::trailer_fields::is_bad_size;
+use blocks::trailer_fields::trailer_at;
 use cells::put_word;
 use nodes::layout::Layout;
 

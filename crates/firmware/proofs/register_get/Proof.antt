@@ -1,6 +1,6 @@
 -- `register_get` meets its contract: what the look-up answers, told in numbers.
 use mathlib.Core.Path.{ap, _∙_}
-use Rattle.store.specs.Answers.{foundOutcome}
+use Rattle.blocks.specs.Answers.{foundOutcome}
 use Rattle.firmware.proofs.NumberSteps.{found-refused}
 use borrow.Author.Needs.{needs}
 use Rattle.firmware.proofs.register_get.Statement.{statement}

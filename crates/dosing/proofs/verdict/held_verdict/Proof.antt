@@ -1,7 +1,7 @@
 -- `held_verdict` meets its contract: the inputs refuse, the value does, or there is a dose.
 use mathlib.Core.Path.{ap, _∙_}
-use Rattle.store.specs.Answers.{changeNumber}
-use Rattle.store.proofs.RefusalSteps.{refusal-number}
+use Rattle.blocks.specs.Answers.{changeNumber}
+use Rattle.blocks.proofs.RefusalSteps.{refusal-number}
 use Rattle.dosing.proofs.VerdictSteps.{held-by-inputs, held-by-value, held-dosed}
 use borrow.Author.Needs.{needs}
 use Rattle.dosing.proofs.verdict.held_verdict.Statement.{statement}

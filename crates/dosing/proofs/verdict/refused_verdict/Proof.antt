@@ -1,7 +1,7 @@
 -- `refused_verdict` meets its contract: another refusal than a missing label stands, and so does a missing label whose inputs are good.
 use mathlib.Core.Path.{sym, ap, _∙_}
-use Rattle.store.specs.Answers.{changeNumber}
-use Rattle.store.proofs.RefusalSteps.{refusal-number}
+use Rattle.blocks.specs.Answers.{changeNumber}
+use Rattle.blocks.proofs.RefusalSteps.{refusal-number}
 use Rattle.dosing.proofs.VerdictSteps.{refused-kept, refused-input, refused-missing}
 use borrow.Author.Needs.{needs}
 use Rattle.dosing.proofs.verdict.refused_verdict.Statement.{statement}

@@ -1,7 +1,7 @@
 -- `verdict` meets its contract: the label is found, or the look-up is refused.
 use mathlib.Core.Path.{ap, _∙_}
-use Rattle.store.specs.Answers.{foundOutcome}
-use Rattle.store.proofs.RefusalSteps.{refusal-number}
+use Rattle.blocks.specs.Answers.{foundOutcome}
+use Rattle.blocks.proofs.RefusalSteps.{refusal-number}
 use Rattle.dosing.proofs.VerdictSteps.{verdict-found, verdict-unfound}
 use borrow.Author.Needs.{needs}
 use Rattle.dosing.proofs.verdict.verdict.Statement.{statement}

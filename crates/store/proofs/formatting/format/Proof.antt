@@ -1,7 +1,7 @@
 use mathlib.Core.Path.{sym, _∙_}
 use native.Mathlib.Omega.{arith}
 use Rattle.store.proofs.FormatSteps.{format-refused, format-done}
-use Rattle.store.proofs.TrailerSteps.{size-facts}
+use Rattle.blocks.proofs.TrailerSteps.{size-facts}
 use borrow.Author.Needs.{needs}
 use Rattle.store.proofs.formatting.format.Statement.{statement}
 use Rattle.store.proofs.formatting.format.Tie as tie
@@ -9,8 +9,8 @@ use Rattle.store.proofs.formatting.format.Reads as reads
 use Rattle.store.proofs.formatting.format.Lts as lts
 use Rattle.cells.proofs.put_word.Reads as put-word-reads
 use Rattle.store.proofs.formatting.clear.Reads as clear-reads
-use Rattle.store.proofs.trailer_fields.is_bad_size.Reads as is-bad-size-reads
-use Rattle.store.proofs.trailer_fields.trailer_at.Reads as trailer-at-reads
+use Rattle.blocks.proofs.trailer_fields.is_bad_size.Reads as is-bad-size-reads
+use Rattle.blocks.proofs.trailer_fields.trailer_at.Reads as trailer-at-reads
 
 -- src/formatting.rt:29:8
 is-bad-size-requires : tie.Need-is-bad-size-requires

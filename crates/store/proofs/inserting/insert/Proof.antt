@@ -2,7 +2,7 @@
 use mathlib.Core.Path.{refl, sym, _∙_}
 use borrow.Author.Tests.{not-true, not-false}
 use Rattle.cells.specs.Bytes.{zeros}
-use Rattle.store.proofs.ValidateSteps.{layout-fits}
+use Rattle.blocks.proofs.ValidateSteps.{layout-fits}
 use Rattle.store.proofs.InsertRefused.{insert-size, insert-unsound, insert-key, insert-value, is-insertable}
 use borrow.Author.Needs.{needs}
 use Rattle.store.proofs.inserting.insert.Statement.{statement}
@@ -10,10 +10,10 @@ use Rattle.store.proofs.inserting.insert.Tie as tie
 use Rattle.store.proofs.inserting.insert.Reads as reads
 use Rattle.store.proofs.inserting.insert.Lts as lts
 use Rattle.store.proofs.inserting.insert_valid.Reads as insert-valid-reads
-use Rattle.store.proofs.key.is_bad_key.Reads as is-bad-key-reads
-use Rattle.store.proofs.trailer_fields.is_bad_size.Reads as is-bad-size-reads
-use Rattle.store.proofs.trailer_fields.layout_of.Reads as layout-of-reads
-use Rattle.store.proofs.validate.is_sound.Reads as is-sound-reads
+use Rattle.blocks.proofs.key.is_bad_key.Reads as is-bad-key-reads
+use Rattle.blocks.proofs.trailer_fields.is_bad_size.Reads as is-bad-size-reads
+use Rattle.blocks.proofs.trailer_fields.layout_of.Reads as layout-of-reads
+use Rattle.blocks.proofs.validate.is_sound.Reads as is-sound-reads
 
 is-bad-size-requires : tie.Need-is-bad-size-requires
 is-bad-size-requires c κs = search needs

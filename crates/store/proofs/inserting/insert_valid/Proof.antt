@@ -9,7 +9,7 @@ use Rattle.store.proofs.inserting.insert_valid.Lts as lts
 use Rattle.store.proofs.free_cells.free_cells.Reads as free-cells-reads
 use Rattle.store.proofs.inserting.commit.Reads as commit-reads
 use Rattle.insertion.proofs.build.build_from.Reads as build-from-reads
-use Rattle.store.proofs.trailer_fields.root_word.Reads as root-word-reads
+use Rattle.blocks.proofs.trailer_fields.root_word.Reads as root-word-reads
 
 root-word-requires : tie.Need-root-word-requires
 root-word-requires c κs = insertable-fits _ _ _ _ _ (c .before .before .before .pre)

@@ -5,8 +5,8 @@ use Rattle.store.proofs.snapshots.put_restore.Tie as tie
 use Rattle.store.proofs.snapshots.put_restore.Reads as reads
 use Rattle.store.proofs.snapshots.put_restore.Lts as lts
 use Rattle.cells.proofs.put_word.Reads as put-word-reads
-use Rattle.store.proofs.trailer_fields.slot_word.Reads as slot-word-reads
-use Rattle.store.proofs.trailer_fields.trailer_at.Reads as trailer-at-reads
+use Rattle.blocks.proofs.trailer_fields.slot_word.Reads as slot-word-reads
+use Rattle.blocks.proofs.trailer_fields.trailer_at.Reads as trailer-at-reads
 
 -- src/snapshots.rt:87:9
 slot-word-requires : tie.Need-slot-word-requires

@@ -1,8 +1,8 @@
 use mathlib.Core.Path.{_∙_}
 use native.Mathlib.Omega.{arith}
 use lib.ListN.{length-set}
-use Rattle.store.proofs.Trailer.{slot-at}
-use Rattle.store.proofs.TrailerSteps.{slot-range}
+use Rattle.blocks.proofs.Trailer.{slot-at}
+use Rattle.blocks.proofs.TrailerSteps.{slot-range}
 use Rattle.store.proofs.SnapshotSteps.{slot-put}
 use borrow.Author.Needs.{needs}
 use Rattle.store.proofs.snapshots.put_slot.Statement.{statement}
@@ -10,8 +10,8 @@ use Rattle.store.proofs.snapshots.put_slot.Tie as tie
 use Rattle.store.proofs.snapshots.put_slot.Reads as reads
 use Rattle.store.proofs.snapshots.put_slot.Lts as lts
 use Rattle.cells.proofs.put_word.Reads as put-word-reads
-use Rattle.store.proofs.trailer_fields.slot_at.Reads as slot-at-reads
-use Rattle.store.proofs.trailer_fields.trailer_at.Reads as trailer-at-reads
+use Rattle.blocks.proofs.trailer_fields.slot_at.Reads as slot-at-reads
+use Rattle.blocks.proofs.trailer_fields.trailer_at.Reads as trailer-at-reads
 
 -- src/snapshots.rt:67:14
 trailer-at-requires : tie.Need-trailer-at-requires

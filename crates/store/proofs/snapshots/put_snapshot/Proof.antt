@@ -6,7 +6,7 @@ use Rattle.store.proofs.snapshots.put_snapshot.Reads as reads
 use Rattle.store.proofs.snapshots.put_snapshot.Lts as lts
 use Rattle.store.proofs.snapshots.put_slot.Reads as put-slot-reads
 use Rattle.store.proofs.snapshots.with_bit.Reads as with-bit-reads
-use Rattle.store.proofs.trailer_fields.root_word.Reads as root-word-reads
+use Rattle.blocks.proofs.trailer_fields.root_word.Reads as root-word-reads
 
 -- src/snapshots.rt:77:9
 root-word-requires : tie.Need-root-word-requires

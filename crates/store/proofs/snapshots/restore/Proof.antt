@@ -1,6 +1,6 @@
 use mathlib.Core.Path.{_∙_}
 use Rattle.store.proofs.SnapshotSteps.{slot-size, slot-fits, used-slot, restore-stopped, restore-done}
-use Rattle.store.proofs.RefusalSteps.{refused-number, done-number}
+use Rattle.blocks.proofs.RefusalSteps.{refused-number, done-number}
 use borrow.Author.Needs.{needs}
 use Rattle.store.proofs.snapshots.restore.Statement.{statement}
 use Rattle.store.proofs.snapshots.restore.Tie as tie
@@ -8,7 +8,7 @@ use Rattle.store.proofs.snapshots.restore.Reads as reads
 use Rattle.store.proofs.snapshots.restore.Lts as lts
 use Rattle.store.proofs.snapshots.put_restore.Reads as put-restore-reads
 use Rattle.store.proofs.snapshots.used_slot_refusal.Reads as used-slot-refusal-reads
-use Rattle.store.proofs.trailer_fields.layout_of.Reads as layout-of-reads
+use Rattle.blocks.proofs.trailer_fields.layout_of.Reads as layout-of-reads
 
 -- src/snapshots.rt:145:9
 used-slot-refusal-requires : tie.Need-used-slot-refusal-requires

@@ -1,15 +1,15 @@
 use mathlib.Core.Path.{_∙_}
 use borrow.Author.Tests.{not-true, not-false}
 use Rattle.store.proofs.SnapshotSteps.{valid-size, block-refused, slot-refused, slot-accepted}
-use Rattle.store.proofs.RefusalSteps.{refused-number, done-number}
+use Rattle.blocks.proofs.RefusalSteps.{refused-number, done-number}
 use borrow.Author.Needs.{needs}
 use Rattle.store.proofs.snapshots.slot_refusal.Statement.{statement}
 use Rattle.store.proofs.snapshots.slot_refusal.Tie as tie
 use Rattle.store.proofs.snapshots.slot_refusal.Reads as reads
 use Rattle.store.proofs.snapshots.slot_refusal.Lts as lts
-use Rattle.store.proofs.trailer_fields.is_valid_slot.Reads as is-valid-slot-reads
-use Rattle.store.proofs.trailer_fields.layout_of.Reads as layout-of-reads
-use Rattle.store.proofs.validate.validate.Reads as validate-reads
+use Rattle.blocks.proofs.trailer_fields.is_valid_slot.Reads as is-valid-slot-reads
+use Rattle.blocks.proofs.trailer_fields.layout_of.Reads as layout-of-reads
+use Rattle.blocks.proofs.validate.validate.Reads as validate-reads
 
 -- src/snapshots.rt:104:9
 validate-requires : tie.Need-validate-requires

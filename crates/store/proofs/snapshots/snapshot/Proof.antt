@@ -1,6 +1,6 @@
 use mathlib.Core.Path.{_∙_}
 use Rattle.store.proofs.SnapshotSteps.{slot-size, slot-fits, snapshot-stopped, snapshot-done}
-use Rattle.store.proofs.RefusalSteps.{refused-number, done-number}
+use Rattle.blocks.proofs.RefusalSteps.{refused-number, done-number}
 use borrow.Author.Needs.{needs}
 use Rattle.store.proofs.snapshots.snapshot.Statement.{statement}
 use Rattle.store.proofs.snapshots.snapshot.Tie as tie
@@ -8,7 +8,7 @@ use Rattle.store.proofs.snapshots.snapshot.Reads as reads
 use Rattle.store.proofs.snapshots.snapshot.Lts as lts
 use Rattle.store.proofs.snapshots.put_snapshot.Reads as put-snapshot-reads
 use Rattle.store.proofs.snapshots.slot_refusal.Reads as slot-refusal-reads
-use Rattle.store.proofs.trailer_fields.layout_of.Reads as layout-of-reads
+use Rattle.blocks.proofs.trailer_fields.layout_of.Reads as layout-of-reads
 
 -- src/snapshots.rt:132:9
 slot-refusal-requires : tie.Need-slot-refusal-requires

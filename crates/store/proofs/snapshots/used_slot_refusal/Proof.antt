@@ -1,15 +1,15 @@
 use mathlib.Core.Path.{_∙_}
 use borrow.Author.Tests.{not-true, not-false}
 use Rattle.store.proofs.SnapshotSteps.{slot-size, slot-fits, earlier-refused, use-refused, use-accepted}
-use Rattle.store.proofs.RefusalSteps.{refused-number, done-number}
+use Rattle.blocks.proofs.RefusalSteps.{refused-number, done-number}
 use borrow.Author.Needs.{needs}
 use Rattle.store.proofs.snapshots.used_slot_refusal.Statement.{statement}
 use Rattle.store.proofs.snapshots.used_slot_refusal.Tie as tie
 use Rattle.store.proofs.snapshots.used_slot_refusal.Reads as reads
 use Rattle.store.proofs.snapshots.used_slot_refusal.Lts as lts
 use Rattle.store.proofs.snapshots.slot_refusal.Reads as slot-refusal-reads
-use Rattle.store.proofs.trailer_fields.is_in_use.Reads as is-in-use-reads
-use Rattle.store.proofs.trailer_fields.layout_of.Reads as layout-of-reads
+use Rattle.blocks.proofs.trailer_fields.is_in_use.Reads as is-in-use-reads
+use Rattle.blocks.proofs.trailer_fields.layout_of.Reads as layout-of-reads
 
 -- src/snapshots.rt:118:9
 slot-refusal-requires : tie.Need-slot-refusal-requires

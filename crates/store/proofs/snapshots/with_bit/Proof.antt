@@ -8,8 +8,8 @@ use Rattle.store.proofs.snapshots.with_bit.Tie as tie
 use Rattle.store.proofs.snapshots.with_bit.Reads as reads
 use Rattle.store.proofs.snapshots.with_bit.Lts as lts
 use Rattle.store.proofs.snapshots.slot_bit.Reads as slot-bit-reads
-use Rattle.store.proofs.trailer_fields.is_in_use.Reads as is-in-use-reads
-use Rattle.store.proofs.trailer_fields.trailer_at.Reads as trailer-at-reads
+use Rattle.blocks.proofs.trailer_fields.is_in_use.Reads as is-in-use-reads
+use Rattle.blocks.proofs.trailer_fields.trailer_at.Reads as trailer-at-reads
 
 -- src/snapshots.rt:43:22
 trailer-at-requires : tie.Need-trailer-at-requires

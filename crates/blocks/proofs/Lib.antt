@@ -1,0 +1,11 @@
+pub mod Refusals
+pub mod Trailer
+pub mod Roots
+pub mod TrailerSteps
+pub mod RootWalk
+pub mod ValidateSteps
+pub mod ReadCalls
+pub mod ReadSteps
+pub mod GetSteps
+pub mod NextSteps
+pub mod RefusalSteps

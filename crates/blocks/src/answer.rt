@@ -1,0 +1,68 @@
+// What the calls answer.
+ghost use mathlib.Core.Path.{_≡_};
+ghost use Rattle.blocks.specs.Answers.{refusalNumber};
+
+// Why a call did nothing, in the order of the answer numbers.
+pub enum Refusal {
+    BadSize,
+    Unsound,
+    BadKey,
+    BadValue,
+    BadSlot,
+    SlotNotInUse,
+    NoRoom,
+    BadSheet,
+    BadReading,
+    BadToday,
+    Missing,
+    HeldNoDate,
+    Expired,
+    OutsideGate,
+}
+
+// The answer of a call that changes a block, or only judges it.
+pub enum ChangeAnswer {
+    Done,
+    Refused(Refusal),
+}
+
+// The answer of an insertion: how many cells it allocated.
+pub enum InsertAnswer {
+    Done(u32),
+    Refused(Refusal),
+}
+
+// The answer of a look-up.
+pub enum GetAnswer {
+    Value(u32),
+    Refused(Refusal),
+}
+
+// The answer of the next key; an enum holds no array, so the key stands beside, zero past its size.
+pub struct NextAnswer {
+    pub answer: ChangeAnswer,
+    pub size: usize,
+    pub key: [u8; 48],
+}
+
+// The answer number of a refusal.
+pub fn number(refusal: Refusal) -> u8
+    ensures { λ r. ⌜ r ≡ refusalNumber refusal ⌝ }
+{
+    match refusal {
+        Refusal::BadSize => 1,
+        Refusal::Unsound => 2,
+        Refusal::BadKey => 3,
+        Refusal::BadValue => 4,
+        Refusal::BadSlot => 5,
+        Refusal::SlotNotInUse => 6,
+        Refusal::NoRoom => 7,
+        Refusal::BadSheet => 8,
+        Refusal::BadReading => 9,
+        Refusal::BadToday => 10,
+        Refusal::Missing => 11,
+        Refusal::HeldNoDate => 12,
+        Refusal::Expired => 13,
+        Refusal::OutsideGate => 14,
+    }
+}

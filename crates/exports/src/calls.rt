@@ -1,0 +1,83 @@
+// The calls that make, judge and change a block, and the next key.
+ghost use mathlib.Core.Path.{_≡_};
+ghost use Rattle.blocks.specs.Answers.{changeNumber};
+ghost use Rattle.blocks.specs.Read.{nextKey, validate};
+ghost use Rattle.store.specs.Format.{format};
+ghost use Rattle.store.specs.Snapshots.{release, restore, snapshot};
+use blocks::answer::ChangeAnswer;
+use blocks::answer::number;
+use blocks::next::next_key;
+use blocks::validate::validate;
+use store::formatting::format;
+use store::snapshots::release;
+use store::snapshots::restore;
+use store::snapshots::snapshot;
+
+// The answer number of a change.
+fn change_number(answer: ChangeAnswer) -> u8
+    ensures { λ r. ⌜ r ≡ changeNumber answer ⌝ }
+{
+    match answer {
+        ChangeAnswer::Done => 0,
+        ChangeAnswer::Refused(refusal) => number(refusal),
+    }
+}
+
+// Makes a block fresh.
+#[no_mangle]
+pub extern "C" fn exports_format(block: &mut [u8]) -> u8
+    ensures { λ r. ⌜ format (now (block .entry)) ≡ record { answer = r; block = now (block .exit) } ⌝ }
+{
+    change_number(format(block))
+}
+
+// Whether a block is valid in size and sound.
+#[no_mangle]
+pub extern "C" fn exports_validate(block: &[u8]) -> u8
+    ensures { λ r. ⌜ validate (now (block .entry)) ≡ r ⌝ }
+{
+    change_number(validate(block))
+}
+
+// Keeps the root in a slot.
+#[no_mangle]
+pub extern "C" fn exports_snapshot(block: &mut [u8], slot: u32) -> u8
+    ensures { λ r. ⌜ snapshot (now (block .entry)) slot ≡ record { answer = r; block = now (block .exit) } ⌝ }
+{
+    change_number(snapshot(block, slot))
+}
+
+// Makes the root that a slot holds the present one.
+#[no_mangle]
+pub extern "C" fn exports_restore(block: &mut [u8], slot: u32) -> u8
+    ensures { λ r. ⌜ restore (now (block .entry)) slot ≡ record { answer = r; block = now (block .exit) } ⌝ }
+{
+    change_number(restore(block, slot))
+}
+
+// Gives up what a slot holds.
+#[no_mangle]
+pub extern "C" fn exports_release(block: &mut [u8], slot: u32) -> u8
+    ensures { λ r. ⌜ release (now (block .entry)) slot ≡ record { answer = r; block = now (block .exit) } ⌝ }
+{
+    change_number(release(block, slot))
+}
+
+// The least key that is greater than a given one, in 48 bytes.
+#[no_mangle]
+pub extern "C" fn exports_next_key(
+    block: &[u8],
+    key: &[u8],
+    size: &mut u32,
+    out: &mut [u8; 48],
+) -> u8
+    ensures { λ r. ⌜ nextKey (now (block .entry)) (now (key .entry)) ≡ record { answer = r; size = now (size .exit); key = now (out .exit) } ⌝ }
+{
+    let next = next_key(block, key);
+    let answer = next.answer;
+    let found = next.size;
+    let bytes = next.key;
+    *size = found as u32;
+    *out = bytes;
+    change_number(answer)
+}
