@@ -15,6 +15,10 @@ use Rattle.order_words.proofs.Coding.{digits-zero, digits-more, power, 
 pub none-left : (most number : ℕ) → number ≡ 0 → digits most number ≡ []
 none-left most number z = rw z (digits-zero most)
 
+pub none-asked : (most number : ℕ) → most ≡ 0 → digits most number ≡ []
+none-asked zero number z = unfold digits in refl
+none-asked (suc most) number z = absurd (omega arith)
+
 pub one-left : (most less number : ℕ) → number ≢ 0 → most ≡ less + 1 → digits most number ≡ number % 6 ∷ digits less (number / 6)
 one-left zero less number n e = absurd (omega arith)
 one-left (suc most) less number n e =
