@@ -13,7 +13,7 @@ use Rattle.cells.specs.Word.{wordAt}
 use Rattle.cells.specs.Memory.{memoryOf}
 use Rattle.cells.proofs.Choice.{absurd-bool, absurd-false, both, both-left, both-right}
 use Rattle.cells.proofs.Words.{word-agree}
-use Rattle.cells.proofs.Memory.{memory-byte, memory-word, memory-alike}
+use Rattle.cells.proofs.Memory.{memory-byte, memory-alike}
 use Rattle.nodes.specs.Layout.{Layout}
 use Rattle.blocks.specs.Trailer.{badSize, trailerAt, layoutOf, rootWord, slots, validSlot, slotAt, slotWord, bitsAt, slotBit, inUse, everySlot, idleIsZero, validTrailer}
 
@@ -71,10 +71,6 @@ module _ (b : List ℕ) (s : Sized b) where
 pub trailer-byte : (layout : Layout) (b : List ℕ) (k : ℕ) → k < 32
     → getD b (trailerAt layout + k) 0 ≡ getD (memoryOf b (layout .cells - 1)) k 0
 trailer-byte layout b k near = sym (memory-byte b (layout .cells - 1) k near)
-
-pub trailer-word : (layout : Layout) (b : List ℕ) (o : ℕ) → o + 4 ≤ 32
-    → wordAt b (trailerAt layout + o) ≡ wordAt (memoryOf b (layout .cells - 1)) o
-trailer-word layout b o near = sym (memory-word b (layout .cells - 1) o near)
 
 -- bytes from lo up to hi, counted from `from`, are the same in two blocks
 abbrev pub SameBytes : ℕ → ℕ → ℕ → List ℕ → List ℕ → Type 0

@@ -104,12 +104,6 @@ Agree m m′ cells = (c : ℕ) → 1 ≤ occurrences c cells → m c ≡ m′ c
 pub agree-less : (m m′ : Memory) (xs ys : List ℕ) → ((c : ℕ) → 1 ≤ occurrences c ys → 1 ≤ occurrences c xs) → Agree m m′ xs → Agree m m′ ys
 agree-less m m′ xs ys less agree c h = agree c (less c h)
 
-pub agree-left : (m m′ : Memory) (xs ys : List ℕ) → Agree m m′ (xs ++ ys) → Agree m m′ xs
-agree-left m m′ xs ys = agree-less m m′ (xs ++ ys) xs (λ c h. omega (arith, occurrences-append c xs ys))
-
-pub agree-right : (m m′ : Memory) (xs ys : List ℕ) → Agree m m′ (xs ++ ys) → Agree m m′ ys
-agree-right m m′ xs ys = agree-less m m′ (xs ++ ys) ys (λ c h. omega (arith, occurrences-append c xs ys))
-
 pub agree-head : (m m′ : Memory) (x : ℕ) (xs : List ℕ) → Agree m m′ (x ∷ xs) → m x ≡ m′ x
 agree-head m m′ x xs agree = agree x (occurrences-here x xs)
 

@@ -242,8 +242,3 @@ module _ (number : ℕ → ℕ) where
     unfolding build
     build-least root [] value some-key named = absurd (omega arith)
     build-least root (x ∷ key) value some-key named = pathCopy-least _ root x key named
-
--- a word that a node is read from names something
-pub read-named : (layout : Layout) (m : Memory) (word : ℕ) (X : Node) → read layout m word ≡ some X → pointer layout word ≢ invalid
-unfolding readAt
-read-named layout m word X e = λ is. never (sym (read-is layout m word invalid is) ∙ e)

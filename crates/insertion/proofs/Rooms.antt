@@ -132,7 +132,3 @@ module _ (layout : Layout) (number : ℕ → ℕ) (m′ : Memory) where
       → Held layout number m′ (allocate number kind bytes cells) → Stands layout m′ 0 (number (length cells)) bytes
   allocate-whole kind bytes cells other is held =
       subst (λ k. Stands layout m′ k (number (length cells)) bytes) (allocate-room number kind bytes cells other is) (allocate-stands kind bytes cells held)
-
-  pub allocate-held : (kind : ℕ) (bytes : List ℕ) (b : Built) → 28 ≤ kind → kind < 32 → Held layout number m′ (allocate number kind bytes (b .cells))
-      → Stands layout m′ 0 (number (length (b .cells))) bytes × Held layout number m′ b
-  allocate-held kind bytes b other is held = (allocate-whole kind bytes (b .cells) other is held, allocate-before kind bytes b held)

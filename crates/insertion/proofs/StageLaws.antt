@@ -35,10 +35,7 @@ getD-inside (x ∷ l) (suc i) d e inside = getD-inside l i d e (omega arith)
 pub slice-bytes : (l : List ℕ) → ((i : ℕ) → Fits w8 (getD l i 0)) → IsBytes l
 slice-bytes l given = record { below = λ i. omega (arith, given i) }
 
--- nothing written yet, and one write after another into the same cell
-pub put-nothing : (stage : List ℕ) (at : ℕ) → Put stage stage at (memoryOf stage at)
-put-nothing stage at = record { here = refl; others = λ d other. refl }
-
+-- one write after another into the same cell
 pub put-then : {before between after bytes : List ℕ} {at : ℕ} (f : List ℕ → List ℕ)
     → Put before between at bytes → Put between after at (f (memoryOf between at)) → Put before after at (f bytes)
 put-then f first second =

@@ -1,5 +1,5 @@
 -- A split copied in the stage: the words read from the block, and the three cells one after the other.
-use mathlib.Core.Path.{_≡_, refl, sym, ap, _∙_}
+use mathlib.Core.Path.{_≡_, sym, ap, _∙_}
 use mathlib.Core.Logic.{_≢_}
 use mathlib.Core.List.{List}
 use mathlib.Core.Option.{some}
@@ -86,11 +86,6 @@ module _ (number : ℕ → ℕ) (m : Memory) (c x mid end : ℕ) where
     pub split-is : (ended midded all : Built) → ended ≡ endSet b → midded ≡ midSet ended → all ≡ headSet midded → all ≡ splitCopied number m c x b
     split-is ended midded all first second third =
         third ∙ ap headSet (second ∙ ap midSet first) ∙ split-steps is below b
-
-    -- each of them finds room
-    split-length : length (splitCopied number m c x b .cells) ≡ suc (suc (suc (length (b .cells))))
-    unfolding splitCopied allocate
-    split-length = refl
 
 -- how many cells stand after each of them
 pub allocated-count : (number : ℕ → ℕ) (kind : ℕ) (bytes : List ℕ) (made : Made) (stage after : List ℕ) (count : ℕ)

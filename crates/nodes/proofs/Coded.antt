@@ -4,17 +4,14 @@ use mathlib.Core.Bool.{true}
 use Prim.Native.Nat.{ℕ, _<_}
 use Rattle.nodes.specs.Layout.{Layout, usable}
 use Rattle.nodes.specs.Pointer.{pointer, wordTo}
-use Rattle.nodes.specs.Pointer.Pointer.{nothing, leaf, chain, split, sparse, prefix, invalid}
+use Rattle.nodes.specs.Pointer.Pointer.{leaf, chain, split, sparse, prefix}
 use Rattle.nodes.specs.Coded.{pointerOf}
 use Rattle.nodes.specs.declared.pointer.Pointer.{Pointer as CodedPointer}
-use Rattle.nodes.specs.declared.pointer.Pointer.the-variants.{Nothing, Leaf, Chain, Split, Sparse, Prefix, Invalid}
-use Rattle.nodes.proofs.Pointers.{names, usable-inside, leaf-value}
+use Rattle.nodes.specs.declared.pointer.Pointer.the-variants.{Leaf, Chain, Split, Sparse, Prefix}
+use Rattle.nodes.proofs.Pointers.{names, usable-inside}
 
 module _ (layout : Layout) (p : CodedPointer) (w : ℕ) (coded : pointerOf p ≡ pointer layout w) where
   -- what the word names
-  pub coded-nothing : p ≡ Nothing → pointer layout w ≡ nothing
-  coded-nothing e = sym coded ∙ ap pointerOf e
-
   pub coded-leaf : (v : ℕ) → p ≡ Leaf v → pointer layout w ≡ leaf v
   coded-leaf v e = sym coded ∙ ap pointerOf e
 
@@ -30,17 +27,7 @@ module _ (layout : Layout) (p : CodedPointer) (w : ℕ) (coded : pointerOf p ≡
   pub coded-prefix : (c : ℕ) → p ≡ Prefix c → pointer layout w ≡ prefix c
   coded-prefix c e = sym coded ∙ ap pointerOf e
 
-  pub coded-invalid : p ≡ Invalid → pointer layout w ≡ invalid
-  coded-invalid e = sym coded ∙ ap pointerOf e
-
-  -- NONE is the word 0, and a leaf's value has its top bit clear
-  pub nothing-facts : p ≡ Nothing → w ≡ 0
-  nothing-facts e = names layout w nothing (coded-nothing e)
-
-  pub leaf-facts : (v : ℕ) → p ≡ Leaf v → v < 2147483648
-  leaf-facts v e = leaf-value layout w v (coded-leaf v e)
-
-  -- the cell of any other kind is usable and stands in the block, and the word is made of it and the kind
+  -- the cell of a chain, split, sparse or prefix is usable and stands in the block, and the word is made of it and the kind
   pub chain-facts : (c k : ℕ) → p ≡ Chain c k → (usable layout c ≡ true) × (w ≡ wordTo c k) × (k < 28) × (c < layout .cells)
   chain-facts c k e = let n = names layout w (chain c k) (coded-chain c k e) in (n .0, n .1, n .2, usable-inside layout c (n .0))
 

@@ -127,12 +127,6 @@ module _ (layout : Layout) where
   pub made-split : (c : ℕ) → layout .cells ≤ 2048 → usable layout c ≡ true → pointer layout (wordTo c 28) ≡ split c
   made-split c small u = made c 28 small u (omega arith) ∙ kind-split c
 
-  pub made-sparse : (c : ℕ) → layout .cells ≤ 2048 → usable layout c ≡ true → pointer layout (wordTo c 30) ≡ sparse c
-  made-sparse c small u = made c 30 small u (omega arith) ∙ kind-sparse c
-
-  pub made-prefix : (c : ℕ) → layout .cells ≤ 2048 → usable layout c ≡ true → pointer layout (wordTo c 31) ≡ prefix c
-  made-prefix c small u = made c 31 small u (omega arith) ∙ kind-prefix c
-
   -- the word of a value names its leaf, and the value of a leaf has its top bit clear
   pub leaf-made : (v : ℕ) → v < 2147483648 → pointer layout (leafWord v) ≡ leaf v
   unfolding leafWord

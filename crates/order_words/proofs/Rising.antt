@@ -14,7 +14,7 @@ use Rattle.cells.proofs.Choice.{both, both-left, both-right, all-weaker}
 use Rattle.cells.proofs.Occurrences.{occurrences-none, occurrences-cons, occurrences-here, occurrences-later}
 use Rattle.order_words.specs.Order.{rising}
 use Rattle.order_words.specs.Extended.{withDigit}
-use Rattle.order_words.proofs.Inserted.{goes-below, goes-above, goes-alone, occurrences-withDigit}
+use Rattle.order_words.proofs.Inserted.{goes-below, goes-above, goes-alone}
 
 -- a number put into a rising list
 abbrev pub withNumber : ℕ → List ℕ → List ℕ
@@ -87,12 +87,7 @@ module _ (character character′ : ℕ → ℕ) (x k : ℕ) (new : character′ 
       later e o = same e (omega (arith, occurrences-later e d ds))
 
   module _ (ds : List ℕ) (same : (d : ℕ) → 1 ≤ occurrences d ds → character′ d ≡ character d) where
-    -- the characters are those of before and the new one
-    pub occurrences-extended : (c : ℕ) → occurrences c (map character′ (withDigit character x k ds)) ≡ occurrences c (x ∷ map character ds)
-    occurrences-extended c =
-        ap (occurrences c) (map-withDigit ds same) ∙ occurrences-withDigit (λ y. y) x x c (map character ds)
-
-    -- they rise where those of before do and the new one is none of them
+    -- the characters rise where those of before do and the new one is none of them
     pub extended-rising : rising (map character ds) ≡ true → ((d : ℕ) → 1 ≤ occurrences d ds → character d ≢ x)
         → rising (map character′ (withDigit character x k ds)) ≡ true
     extended-rising r other =

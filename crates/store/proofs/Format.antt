@@ -172,10 +172,6 @@ module _ (b : List ℕ) where
       }
 
   -- the call
-  pub format-accepted : format b .answer ≡ 0 → badSize b ≡ false
-  unfolding format
-  format-accepted e = format-answers b .1 .only e .0
-
   pub format-done : badSize b ≡ false → format b .answer ≡ 0
   unfolding format
   format-done good = format-answers b .1 .given (good, tt)

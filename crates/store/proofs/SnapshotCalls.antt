@@ -117,10 +117,6 @@ module _ (b : List ℕ) (slot : ℕ) where
       record { size = c .0; valid = not-false _ (c .1 .0); is-slot = not-false _ (c .1 .1 .0); on = not-false _ (c .1 .1 .1 .0) }
 
   -- snapshot
-  pub snapshot-accepted : snapshot b slot .answer ≡ 0 → SlotAccepted b slot
-  unfolding snapshot
-  snapshot-accepted e = slot-accepted e
-
   pub snapshot-law : IsBytes b → snapshot b slot .answer ≡ 0
       → After b (snapshot b slot .block) (shown b) (replacedAt (inUse (layoutOf b) b) slot true) (replacedAt (slotShown b) slot (shown b))
   unfolding snapshot
@@ -135,10 +131,6 @@ module _ (b : List ℕ) (slot : ℕ) where
   snapshot-refused n = refused-block (slotRefusals b slot) b (snapshotBlock (layoutOf b) b slot) n
 
   -- restore
-  pub restore-accepted : restore b slot .answer ≡ 0 → UsedSlotAccepted b slot
-  unfolding restore
-  restore-accepted e = used-slot-accepted e
-
   pub restore-law : IsBytes b → restore b slot .answer ≡ 0 → After b (restore b slot .block) (slotShown b slot) (inUse (layoutOf b) b) (slotShown b)
   unfolding restore
   restore-law bytes e =
@@ -152,10 +144,6 @@ module _ (b : List ℕ) (slot : ℕ) where
   restore-refused n = refused-block (usedSlotRefusals b slot) b (restoreBlock (layoutOf b) b slot) n
 
   -- release
-  pub release-accepted : release b slot .answer ≡ 0 → UsedSlotAccepted b slot
-  unfolding release
-  release-accepted e = used-slot-accepted e
-
   pub release-law : IsBytes b → release b slot .answer ≡ 0
       → After b (release b slot .block) (shown b) (replacedAt (inUse (layoutOf b) b) slot false) (slotShown b)
   unfolding release

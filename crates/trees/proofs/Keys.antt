@@ -106,9 +106,6 @@ pub same-key-refl : (k : List ℕ) → sameKey k k ≡ true
 same-key-refl [] = unfold sameKey in refl
 same-key-refl (x ∷ k) = same-key-heads x x k k refl ∙ same-key-refl k
 
-pub same-key-is : (j k : List ℕ) → j ≡ k → sameKey j k ≡ true
-same-key-is j k same = subst (λ l. sameKey j l ≡ true) same (same-key-refl j)
-
 pub same-key : (j k : List ℕ) → sameKey j k ≡ true → j ≡ k
 same-key [] [] e = refl
 same-key [] (y ∷ k) e = absurd-false (unfold sameKey in e)
@@ -117,9 +114,6 @@ same-key (x ∷ j) (y ∷ k) e = elim (ℕ-discrete x y) [
   | yes same ↦ ap (λ z. z ∷ j) same ∙ ap (λ l. y ∷ l) (same-key j k (sym (same-key-heads x y j k same) ∙ e))
   | no other ↦ absurd-false (sym (other-key-heads x y j k other) ∙ e)
 ]
-
-pub other-key : (j k : List ℕ) → sameKey j k ≡ false → j ≢ k
-other-key j k e same = absurd (absurd-bool (sym (same-key-is j k same) ∙ e))
 
 pub other-key-is : (j k : List ℕ) → j ≢ k → sameKey j k ≡ false
 other-key-is j k other = ⊎-elim (λ e. absurd (other (same-key j k e))) (λ e. e) (held-or-not (sameKey j k))

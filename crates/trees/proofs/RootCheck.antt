@@ -16,7 +16,7 @@ use Rattle.nodes.proofs.Pointers.{usable-inside}
 use Rattle.trees.specs.Root.{isRoot, rootTree, onceVisited, validRoot, cellsOf, rootCells}
 use Rattle.trees.specs.Visit.{admit, visit, Judged}
 use Rattle.trees.proofs.Usable.{Usable, tree-usable}
-use Rattle.trees.proofs.Admit.{Inside, Admitted, admitted, admit-length, distinct-admit, admit-refused}
+use Rattle.trees.proofs.Admit.{Inside, Admitted, admitted, distinct-admit, admit-refused}
 use Rattle.trees.proofs.Judging.{visit-nothing, visit-found}
 
 -- the limit that the code has
@@ -55,9 +55,6 @@ module _ (cells : Option (List ℕ)) (stamp : ℕ) (before after : List ℕ) (pa
       by none e = never (sym (visit-nothing stamp before) ∙ ap (λ o. visit stamp o before) (sym e) ∙ judged .accepted p)
       by (some cs) e = (refl, sym (visit-found stamp cs before) ∙ ap (λ o. visit stamp o before) (sym e) ∙ judged .accepted p)
 
-  pub judged-length : passed ≡ true → length after ≡ length before
-  judged-length p = admit-length stamp (cellsOf cells) before after (judged-admits p .1)
-
   pub judged-admitted : passed ≡ true → Admitted stamp (cellsOf cells) before after
   judged-admitted p = let a = judged-admits p in admitted stamp (cellsOf cells) before after (inside (cellsOf cells) (a .0)) (a .1)
 
@@ -70,9 +67,6 @@ module _ (layout : Layout) (m : Memory) (word stamp : ℕ) (before after : List 
 
   pub root-valid : passed ≡ validRoot layout m word
   root-valid = judged-once (rootTree layout m word) stamp before after passed judged root-inside fresh
-
-  pub root-length : passed ≡ true → length after ≡ length before
-  root-length = judged-length (rootTree layout m word) stamp before after passed judged root-inside fresh
 
   pub root-stamped : passed ≡ true → (c : ℕ) → 1 ≤ occurrences c (rootCells layout m word) → getD after c 0 ≡ stamp
   root-stamped p = judged-admitted (rootTree layout m word) stamp before after passed judged root-inside fresh p .stamped
