@@ -19,6 +19,7 @@ use crate::split::split_set;
 use crate::stage::Made;
 use cells::cell;
 use cells::word_at;
+use crate::stage::STAGE_SIZE;
 use nodes::layout::Layout;
 use nodes::pointer::Pointer;
 use nodes::pointer::pointer_of;
@@ -61,7 +62,7 @@ pub fn set_child(
     block: &[u8],
     numbers: &[u16; 2048],
     free: usize,
-    stage: &mut [u8; 6464],
+    stage: &mut [u8; STAGE_SIZE],
     word: u32,
     x: u8,
     below: Made,
@@ -86,7 +87,7 @@ pub fn build_from(
     block: &[u8],
     numbers: &[u16; 2048],
     free: usize,
-    stage: &mut [u8; 6464],
+    stage: &mut [u8; STAGE_SIZE],
     key: &[u8],
     i: usize,
     word: u32,

@@ -11,6 +11,7 @@ ghost use Rattle.insertion.specs.Staged.{staged, Numbered, builtOf, Fitt
 use crate::new_cells::put_chain;
 use crate::new_cells::put_pair;
 use crate::stage::Made;
+use crate::stage::STAGE_SIZE;
 use crate::stage::allocated_as;
 use crate::stage::number_at;
 use crate::stage::put_byte;
@@ -41,7 +42,7 @@ fn new_chain(
     layout: Layout,
     numbers: &[u16; 2048],
     free: usize,
-    stage: &mut [u8; 6464],
+    stage: &mut [u8; STAGE_SIZE],
     x: u8,
     word: u32,
     count: usize,
@@ -58,7 +59,7 @@ pub fn chain_over(
     layout: Layout,
     numbers: &[u16; 2048],
     free: usize,
-    stage: &mut [u8; 6464],
+    stage: &mut [u8; STAGE_SIZE],
     x: u8,
     below: Made,
 ) -> Made
@@ -90,7 +91,7 @@ pub fn chain_set(
     block: &[u8],
     numbers: &[u16; 2048],
     free: usize,
-    stage: &mut [u8; 6464],
+    stage: &mut [u8; STAGE_SIZE],
     number: usize,
     place: usize,
     x: u8,

@@ -5,6 +5,7 @@ ghost use Rattle.cells.specs.Word.{wordAt, withWord};
 ghost use Rattle.cells.specs.Memory.{memoryOf};
 ghost use Rattle.insertion.specs.NewCells.{blank, chainCell, prefixCell, pairCell, sparsePair, tableCopy, headCopy, withWords};
 ghost use Rattle.insertion.specs.Staged.{Put};
+use crate::stage::STAGE_SIZE;
 use crate::stage::put_blank;
 use crate::stage::put_byte;
 use crate::stage::put_copy;
@@ -12,7 +13,7 @@ use crate::stage::put_word_in;
 use cells::word_at;
 
 // A chain of one character, at the end of its cell.
-pub fn put_chain(stage: &mut [u8; 6464], at: usize, x: u8, word: u32)
+pub fn put_chain(stage: &mut [u8; STAGE_SIZE], at: usize, x: u8, word: u32)
     requires { ⌜ at < 202 ⌝ }
     ensures { λ _. ⌜ Put (now (stage .entry)) (now (stage .exit)) at (chainCell x word) ⌝ }
 {
@@ -22,7 +23,7 @@ pub fn put_chain(stage: &mut [u8; 6464], at: usize, x: u8, word: u32)
 }
 
 // A standalone prefix.
-pub fn put_prefix(stage: &mut [u8; 6464], at: usize, value: u32, word: u32)
+pub fn put_prefix(stage: &mut [u8; STAGE_SIZE], at: usize, value: u32, word: u32)
     requires { ⌜ at < 202 ⌝ }
     ensures { λ _. ⌜ Put (now (stage .entry)) (now (stage .exit)) at (prefixCell value word) ⌝ }
 {
@@ -33,7 +34,7 @@ pub fn put_prefix(stage: &mut [u8; 6464], at: usize, value: u32, word: u32)
 }
 
 // Two children, the lower character first.
-fn put_rising_pair(stage: &mut [u8; 6464], at: usize, x: u8, word: u32, y: u8, other: u32)
+fn put_rising_pair(stage: &mut [u8; STAGE_SIZE], at: usize, x: u8, word: u32, y: u8, other: u32)
     requires { ⌜ at < 202 ⌝ }
     ensures { λ _. ⌜ Put (now (stage .entry)) (now (stage .exit)) at (pairCell x word y other) ⌝ }
 {
@@ -46,7 +47,7 @@ fn put_rising_pair(stage: &mut [u8; 6464], at: usize, x: u8, word: u32, y: u8, o
 }
 
 // Two children in rising order.
-pub fn put_pair(stage: &mut [u8; 6464], at: usize, x: u8, word: u32, y: u8, other: u32)
+pub fn put_pair(stage: &mut [u8; STAGE_SIZE], at: usize, x: u8, word: u32, y: u8, other: u32)
     requires { ⌜ at < 202 ⌝ }
     ensures { λ _. ⌜ Put (now (stage .entry)) (now (stage .exit)) at (sparsePair x word y other) ⌝ }
 {
@@ -58,7 +59,7 @@ pub fn put_pair(stage: &mut [u8; 6464], at: usize, x: u8, word: u32, y: u8, othe
 }
 
 // The eight words of the mid or end that a word names, all NONE where that is NONE.
-fn put_table(stage: &mut [u8; 6464], at: usize, block: &[u8], word: u32)
+fn put_table(stage: &mut [u8; STAGE_SIZE], at: usize, block: &[u8], word: u32)
     requires { ⌜ (at < 202) × (word / 32 * 32 + 32 ≤ length (now block)) ⌝ }
     ensures { λ _. ⌜ Put (now (stage .entry)) (now (stage .exit)) at (tableCopy (memoryOf (now (block .entry))) word) ⌝ }
 {
@@ -71,7 +72,7 @@ fn put_table(stage: &mut [u8; 6464], at: usize, block: &[u8], word: u32)
 
 // The same with one of them replaced.
 pub fn put_table_copy(
-    stage: &mut [u8; 6464],
+    stage: &mut [u8; STAGE_SIZE],
     at: usize,
     block: &[u8],
     word: u32,
@@ -86,7 +87,7 @@ pub fn put_table_copy(
 }
 
 // A word of a cell of the block, at the same byte of a cell of the stage.
-fn put_same_word(stage: &mut [u8; 6464], at: usize, block: &[u8], cell: usize, offset: usize)
+fn put_same_word(stage: &mut [u8; STAGE_SIZE], at: usize, block: &[u8], cell: usize, offset: usize)
     requires { ⌜ (at < 202) × (cell * 32 + 32 ≤ length (now block)) × (offset + 4 ≤ 32) ⌝ }
     ensures { λ _. ⌜ Put (now (stage .entry)) (now (stage .exit)) at (withWord (memoryOf (now (stage .entry)) at) offset (wordAt (memoryOf (now (block .entry)) cell) offset)) ⌝ }
 {
@@ -95,7 +96,7 @@ fn put_same_word(stage: &mut [u8; 6464], at: usize, block: &[u8], cell: usize, o
 }
 
 // The four words of a split head.
-fn put_head(stage: &mut [u8; 6464], at: usize, block: &[u8], cell: usize)
+fn put_head(stage: &mut [u8; STAGE_SIZE], at: usize, block: &[u8], cell: usize)
     requires { ⌜ (at < 202) × (cell * 32 + 32 ≤ length (now block)) ⌝ }
     ensures { λ _. ⌜ Put (now (stage .entry)) (now (stage .exit)) at (headCopy (memoryOf (now (block .entry)) cell)) ⌝ }
 {
@@ -108,7 +109,7 @@ fn put_head(stage: &mut [u8; 6464], at: usize, block: &[u8], cell: usize)
 
 // The same with one of them replaced.
 pub fn put_head_copy(
-    stage: &mut [u8; 6464],
+    stage: &mut [u8; STAGE_SIZE],
     at: usize,
     block: &[u8],
     cell: usize,
@@ -124,7 +125,7 @@ pub fn put_head_copy(
 
 // So many words side by side from a word position on, over zero bytes: the word of a position is the one at it behind `base`.
 pub fn put_words(
-    stage: &mut [u8; 6464],
+    stage: &mut [u8; STAGE_SIZE],
     at: usize,
     words: &[u32],
     base: usize,

@@ -12,6 +12,7 @@ ghost use Rattle.insertion.specs.Commit.{numberFrom};
 ghost use Rattle.insertion.specs.Staged.{staged, Numbered, builtOf, leafMade, Fitting};
 use crate::new_cells::put_prefix;
 use crate::stage::Made;
+use crate::stage::STAGE_SIZE;
 use crate::stage::allocated_as;
 use cells::cell;
 use cells::word_at;
@@ -26,7 +27,7 @@ fn new_prefix(
     layout: Layout,
     numbers: &[u16; 2048],
     free: usize,
-    stage: &mut [u8; 6464],
+    stage: &mut [u8; STAGE_SIZE],
     value: u32,
     word: u32,
     count: usize,
@@ -43,7 +44,7 @@ pub fn put_back(
     layout: Layout,
     numbers: &[u16; 2048],
     free: usize,
-    stage: &mut [u8; 6464],
+    stage: &mut [u8; STAGE_SIZE],
     held: Value,
     built: Made,
 ) -> Made
@@ -77,7 +78,7 @@ pub fn at_end(
     block: &[u8],
     numbers: &[u16; 2048],
     free: usize,
-    stage: &mut [u8; 6464],
+    stage: &mut [u8; STAGE_SIZE],
     word: u32,
     value: u32,
 ) -> Made

@@ -8,6 +8,7 @@ ghost use Rattle.insertion.specs.Commit.{numberFrom};
 ghost use Rattle.insertion.specs.Staged.{staged, Numbered, builtOf, Fitting, Rowed, RowFitting};
 use crate::new_cells::put_words;
 use crate::stage::Made;
+use crate::stage::STAGE_SIZE;
 use crate::stage::allocated_as;
 use nodes::layout::Layout;
 
@@ -38,7 +39,7 @@ fn table_row(
     layout: Layout,
     numbers: &[u16; 2048],
     free: usize,
-    stage: &mut [u8; 6464],
+    stage: &mut [u8; STAGE_SIZE],
     words: &[u32],
     base: usize,
     count: usize,
@@ -62,7 +63,7 @@ fn mid_row(
     layout: Layout,
     numbers: &[u16; 2048],
     free: usize,
-    stage: &mut [u8; 6464],
+    stage: &mut [u8; STAGE_SIZE],
     children: &[u32; 256],
     i: usize,
     count: usize,
@@ -87,7 +88,7 @@ pub fn split_of(
     layout: Layout,
     numbers: &[u16; 2048],
     free: usize,
-    stage: &mut [u8; 6464],
+    stage: &mut [u8; STAGE_SIZE],
     children: &[u32; 256],
     count: usize,
 ) -> Made

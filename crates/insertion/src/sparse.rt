@@ -8,6 +8,7 @@ ghost use Rattle.nodes.specs.Sparse.{sparseCount, validSparse};
 ghost use Rattle.insertion.specs.NewCells.{withoutCharacters, sparseCopy, replacedCell, withOrder, appendedCell};
 ghost use Rattle.insertion.specs.Staged.{Put};
 use crate::order::extended_order;
+use crate::stage::STAGE_SIZE;
 use crate::stage::put_byte;
 use crate::stage::put_copy;
 use crate::stage::put_word_in;
@@ -15,7 +16,7 @@ use cells::cell;
 use nodes::sparse::sparse_count;
 
 // Sets the characters from a position on to zero: they belong to no child.
-fn clear_characters(stage: &mut [u8; 6464], at: usize, from: usize)
+fn clear_characters(stage: &mut [u8; STAGE_SIZE], at: usize, from: usize)
     requires { ⌜ at < 202 ⌝ }
     ensures { λ _. ⌜ Put (now (stage .entry)) (now (stage .exit)) at (withoutCharacters (6 - from) from (memoryOf (now (stage .entry)) at)) ⌝ }
 {
@@ -27,7 +28,7 @@ fn clear_characters(stage: &mut [u8; 6464], at: usize, from: usize)
 }
 
 // A sparse cell's own bytes.
-fn put_sparse(stage: &mut [u8; 6464], at: usize, block: &[u8], number: usize)
+fn put_sparse(stage: &mut [u8; STAGE_SIZE], at: usize, block: &[u8], number: usize)
     requires { ⌜ (at < 202) × (number * 32 + 32 ≤ length (now block)) ⌝ }
     ensures { λ _. ⌜ Put (now (stage .entry)) (now (stage .exit)) at (sparseCopy (memoryOf (now (block .entry)) number)) ⌝ }
 {
@@ -38,7 +39,7 @@ fn put_sparse(stage: &mut [u8; 6464], at: usize, block: &[u8], number: usize)
 
 // The copy with the child word at a position replaced.
 pub fn put_replaced(
-    stage: &mut [u8; 6464],
+    stage: &mut [u8; STAGE_SIZE],
     at: usize,
     block: &[u8],
     number: usize,
@@ -53,7 +54,7 @@ pub fn put_replaced(
 }
 
 // Writes an order word.
-fn put_order(stage: &mut [u8; 6464], at: usize, order: u16)
+fn put_order(stage: &mut [u8; STAGE_SIZE], at: usize, order: u16)
     requires { ⌜ at < 202 ⌝ }
     ensures { λ _. ⌜ Put (now (stage .entry)) (now (stage .exit)) at (withOrder (memoryOf (now (stage .entry)) at) order) ⌝ }
 {
@@ -63,7 +64,7 @@ fn put_order(stage: &mut [u8; 6464], at: usize, order: u16)
 
 // The copy with a child appended at the first free position, and the order word extended.
 pub fn put_appended(
-    stage: &mut [u8; 6464],
+    stage: &mut [u8; STAGE_SIZE],
     at: usize,
     block: &[u8],
     number: usize,

@@ -12,6 +12,7 @@ use crate::rows::split_of;
 use crate::sparse::put_appended;
 use crate::sparse::put_replaced;
 use crate::stage::Made;
+use crate::stage::STAGE_SIZE;
 use crate::stage::allocated_as;
 use cells::cell;
 use nodes::layout::Layout;
@@ -54,7 +55,7 @@ pub fn sparse_set(
     block: &[u8],
     numbers: &[u16; 2048],
     free: usize,
-    stage: &mut [u8; 6464],
+    stage: &mut [u8; STAGE_SIZE],
     number: usize,
     x: u8,
     below: Made,

@@ -15,6 +15,7 @@ ghost use Rattle.insertion.specs.Staged.{staged, Numbered, builtOf, Fitt
 use crate::new_cells::put_head_copy;
 use crate::new_cells::put_table_copy;
 use crate::stage::Made;
+use crate::stage::STAGE_SIZE;
 use crate::stage::allocated_as;
 use cells::word_at;
 use nodes::layout::Layout;
@@ -37,7 +38,7 @@ fn table_set(
     block: &[u8],
     numbers: &[u16; 2048],
     free: usize,
-    stage: &mut [u8; 6464],
+    stage: &mut [u8; STAGE_SIZE],
     word: u32,
     i: usize,
     over: Made,
@@ -57,7 +58,7 @@ fn head_set(
     block: &[u8],
     numbers: &[u16; 2048],
     free: usize,
-    stage: &mut [u8; 6464],
+    stage: &mut [u8; STAGE_SIZE],
     number: usize,
     i: usize,
     over: Made,
@@ -77,7 +78,7 @@ pub fn split_set(
     block: &[u8],
     numbers: &[u16; 2048],
     free: usize,
-    stage: &mut [u8; 6464],
+    stage: &mut [u8; STAGE_SIZE],
     number: usize,
     x: u8,
     below: Made,

@@ -12,6 +12,13 @@ ghost use Rattle.insertion.specs.Staged.{Put, Numbered, allocated};
 use cells::put_word;
 use cells::word_at;
 use nodes::layout::Layout;
+use trees::KEY_LIMIT;
+
+// The most cells that one insertion allocates.
+pub const STAGE_CELLS: usize = 4 * KEY_LIMIT + 10;
+
+// The bytes of a stage.
+pub const STAGE_SIZE: usize = 32 * STAGE_CELLS;
 
 // What a build has made so far: the word of the new node, whether its cell is the newest, and how many cells are staged.
 pub struct Made {
@@ -54,7 +61,7 @@ pub fn copy_cell(bytes: &mut [u8], number: usize, source: &[u8], from: usize)
 }
 
 // Writes a byte of a cell of the stage.
-pub fn put_byte(stage: &mut [u8; 6464], at: usize, offset: usize, value: u8)
+pub fn put_byte(stage: &mut [u8; STAGE_SIZE], at: usize, offset: usize, value: u8)
     requires { ⌜ (at < 202) × (offset < 32) ⌝ }
     ensures { λ _. ⌜ Put (now (stage .entry)) (now (stage .exit)) at (set (memoryOf (now (stage .entry)) at) offset value) ⌝ }
 {
@@ -62,7 +69,7 @@ pub fn put_byte(stage: &mut [u8; 6464], at: usize, offset: usize, value: u8)
 }
 
 // Writes a word of a cell of the stage.
-pub fn put_word_in(stage: &mut [u8; 6464], at: usize, offset: usize, word: u32)
+pub fn put_word_in(stage: &mut [u8; STAGE_SIZE], at: usize, offset: usize, word: u32)
     requires { ⌜ (at < 202) × (offset + 4 ≤ 32) ⌝ }
     ensures { λ _. ⌜ Put (now (stage .entry)) (now (stage .exit)) at (withWord (memoryOf (now (stage .entry)) at) offset word) ⌝ }
 {
@@ -70,7 +77,7 @@ pub fn put_word_in(stage: &mut [u8; 6464], at: usize, offset: usize, word: u32)
 }
 
 // Clears a cell of the stage.
-pub fn put_blank(stage: &mut [u8; 6464], at: usize)
+pub fn put_blank(stage: &mut [u8; STAGE_SIZE], at: usize)
     requires { ⌜ at < 202 ⌝ }
     ensures { λ _. ⌜ Put (now (stage .entry)) (now (stage .exit)) at blank ⌝ }
 {
@@ -78,7 +85,7 @@ pub fn put_blank(stage: &mut [u8; 6464], at: usize)
 }
 
 // Copies a cell of the block to a cell of the stage.
-pub fn put_copy(stage: &mut [u8; 6464], at: usize, block: &[u8], cell: usize)
+pub fn put_copy(stage: &mut [u8; STAGE_SIZE], at: usize, block: &[u8], cell: usize)
     requires { ⌜ (at < 202) × (cell * 32 + 32 ≤ length (now block)) ⌝ }
     ensures { λ _. ⌜ Put (now (stage .entry)) (now (stage .exit)) at (memoryOf (now (block .entry)) cell) ⌝ }
 {

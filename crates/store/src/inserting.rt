@@ -22,11 +22,12 @@ use blocks::validate::is_sound;
 use cells::put_word;
 use insertion::build::build_from;
 use insertion::stage::Made;
+use insertion::stage::STAGE_SIZE;
 use insertion::stage::copy_cell;
 use nodes::layout::Layout;
 
 // Writes the staged cells, in the order allocated, into the block at their numbers.
-fn commit_cells(block: &mut [u8], stage: &[u8; 6464], numbers: &[u16; 2048], count: usize)
+fn commit_cells(block: &mut [u8], stage: &[u8; STAGE_SIZE], numbers: &[u16; 2048], count: usize)
     requires { ⌜ (count ≤ 202) × Inside (now numbers) count (length (now block)) ⌝ }
     ensures { λ _. ⌜ now (block .exit) ≡ written (now (block .entry)) (buildWrites (λ i. getD (now (numbers .entry)) i 0) (staged (now (stage .entry)) count)) ⌝ }
 {
@@ -39,7 +40,7 @@ fn commit_cells(block: &mut [u8], stage: &[u8; 6464], numbers: &[u16; 2048], cou
 }
 
 // Writes a build into the block: its cells, and then the root word.
-fn commit(layout: Layout, block: &mut [u8], stage: &[u8; 6464], numbers: &[u16; 2048], made: Made)
+fn commit(layout: Layout, block: &mut [u8], stage: &[u8; STAGE_SIZE], numbers: &[u16; 2048], made: Made)
     requires { ⌜ Fits layout (length (now block)) × (made .count ≤ 202) × Inside (now numbers) (made .count) (length (now block)) ⌝ }
     ensures { λ _. ⌜ now (block .exit) ≡ written (now (block .entry)) (commitWrites layout (λ i. getD (now (numbers .entry)) i 0) (builtOf made (now (stage .entry)))) ⌝ }
 {
@@ -64,7 +65,7 @@ fn insert_valid(
     let root = root_word(layout, block);
     let mut numbers = [0u16; 2048];
     let free = free_cells(layout, root, stamps, &mut numbers);
-    let mut stage = [0u8; 6464];
+    let mut stage = [0u8; STAGE_SIZE];
     let made = build_from(
         layout,
         block,
