@@ -1,6 +1,7 @@
 // What the calls answer.
 ghost use mathlib.Core.Path.{_≡_};
 ghost use Rattle.blocks.specs.Answers.{refusalNumber};
+use trees::KEY_LIMIT;
 
 // Why a call did nothing, in the order of the answer numbers.
 pub enum Refusal {
@@ -42,7 +43,7 @@ pub enum GetAnswer {
 pub struct NextAnswer {
     pub answer: ChangeAnswer,
     pub size: usize,
-    pub key: [u8; 48],
+    pub key: [u8; KEY_LIMIT],
 }
 
 // The answer number of a refusal.

@@ -11,6 +11,7 @@ use crate::key::is_over_long;
 use crate::trailer_fields::layout_of;
 use crate::trailer_fields::root_word;
 use crate::validate::validate;
+use trees::KEY_LIMIT;
 use trees::next_key::next_after;
 
 // The answer that gives no key.
@@ -20,12 +21,12 @@ fn refused_next(refusal: Refusal) -> NextAnswer
     NextAnswer {
         answer: ChangeAnswer::Refused(refusal),
         size: 0,
-        key: [0u8; 48],
+        key: [0u8; KEY_LIMIT],
     }
 }
 
 // The 48 bytes of a key that stands in the first of them, zero past it.
-fn padded_key(bytes: [u8; 48], size: usize) -> [u8; 48]
+fn padded_key(bytes: [u8; KEY_LIMIT], size: usize) -> [u8; KEY_LIMIT]
     requires { ⌜ size ≤ 48 ⌝ }
     ensures { λ r. ⌜ (length (take size bytes) ≡ size) × (r ≡ padded (take size bytes)) ⌝ }
 {
@@ -49,7 +50,7 @@ pub fn next_key(block: &[u8], key: &[u8]) -> NextAnswer
         return refused_next(Refusal::BadKey);
     }
     let layout = layout_of(block);
-    let mut next = [0u8; 48];
+    let mut next = [0u8; KEY_LIMIT];
     let step = next_after(layout, block, root_word(layout, block), key, &mut next);
     if !step.found {
         return refused_next(Refusal::Missing);

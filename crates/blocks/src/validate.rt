@@ -19,11 +19,12 @@ use crate::trailer_fields::layout_of;
 use crate::trailer_fields::root_word;
 use crate::trailer_fields::slot_word;
 use crate::trailer_fields::slots;
+use nodes::layout::CELL_LIMIT;
 use nodes::layout::Layout;
 use trees::validate::root_check;
 
 // Judges the root that a slot holds, with a stamp of its own; a slot that is not in use has no cells.
-fn slot_check(layout: Layout, block: &[u8], stamps: &mut [u8; 2048], slot: usize) -> bool
+fn slot_check(layout: Layout, block: &[u8], stamps: &mut [u8; CELL_LIMIT], slot: usize) -> bool
     requires { ⌜ Fits layout (length (now block)) × (validSlot layout slot ≡ true) ⌝ }
     ensures { λ r. ⌜ Judged (slotTree layout (now (block .entry)) slot) (slot + 1) (now (stamps .entry)) (now (stamps .exit)) r ⌝ }
 {
@@ -40,7 +41,7 @@ fn slot_check(layout: Layout, block: &[u8], stamps: &mut [u8; 2048], slot: usize
 }
 
 // Whether a block of the size of its layout is sound; the stamps of a sound block tell which cells its roots reach.
-pub fn is_sound(layout: Layout, block: &[u8], stamps: &mut [u8; 2048]) -> bool
+pub fn is_sound(layout: Layout, block: &[u8], stamps: &mut [u8; CELL_LIMIT]) -> bool
     requires { ⌜ Fits layout (length (now block)) × (now stamps ≡ zeros 2048) ⌝ }
     ensures { λ r. ⌜ Validated layout (now (block .entry)) (now (stamps .exit)) r ⌝ }
 {
@@ -68,7 +69,7 @@ pub fn validate(block: &[u8]) -> ChangeAnswer
     if is_bad_size(block) {
         return ChangeAnswer::Refused(Refusal::BadSize);
     }
-    let mut stamps = [0u8; 2048];
+    let mut stamps = [0u8; CELL_LIMIT];
     if !is_sound(layout_of(block), block, &mut stamps) {
         return ChangeAnswer::Refused(Refusal::Unsound);
     }

@@ -12,6 +12,7 @@ use store::formatting::format;
 use store::snapshots::release;
 use store::snapshots::restore;
 use store::snapshots::snapshot;
+use trees::KEY_LIMIT;
 
 // The answer number of a change.
 fn change_number(answer: ChangeAnswer) -> u8
@@ -69,7 +70,7 @@ pub extern "C" fn exports_next_key(
     block: &[u8],
     key: &[u8],
     size: &mut u32,
-    out: &mut [u8; 48],
+    out: &mut [u8; KEY_LIMIT],
 ) -> u8
     ensures { λ r. ⌜ nextKey (now (block .entry)) (now (key .entry)) ≡ record { answer = r; size = now (size .exit); key = now (out .exit) } ⌝ }
 {

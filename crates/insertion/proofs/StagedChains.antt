@@ -13,7 +13,7 @@ use Rattle.nodes.specs.Chain.{chainCharacter, chainChild}
 use Rattle.insertion.specs.NewCells.{chainCell, sparsePair}
 use Rattle.insertion.specs.Built.{Built, room, allocate, characterBefore, chainWith, chainOver}
 use Rattle.insertion.specs.SetChild.{chainSet}
-use Rattle.insertion.specs.Staged.{staged, Put, builtOf, allocated, Fitting}
+use Rattle.insertion.specs.Staged.{stageCells, staged, Put, builtOf, allocated, Fitting}
 use Rattle.insertion.specs.declared.stage.Made.{Made}
 use Rattle.insertion.proofs.Rooms.{room-most}
 use Rattle.insertion.proofs.StageLaws.{staged-length, put-next, put-allocate}
@@ -41,7 +41,7 @@ module _ (own : Bool) (word : ℕ) where
   room-place r is = omega (arith, is, room-most own word)
 
 -- a cell allocated behind so many finds room where the build does
-pub allocate-fits : (number : ℕ → ℕ) (kind : ℕ) (bytes stage : List ℕ) (count : ℕ) → Fitting (allocate number kind bytes (staged stage count)) → count < 202
+pub allocate-fits : (number : ℕ → ℕ) (kind : ℕ) (bytes stage : List ℕ) (count : ℕ) → Fitting (allocate number kind bytes (staged stage count)) → count < stageCells
 unfolding allocate
 allocate-fits number kind bytes stage count fits = omega (arith, fits, staged-length stage count)
 
@@ -73,10 +73,10 @@ module _ (number : ℕ → ℕ) (x : ℕ) (below : Made) (stage : List ℕ) wher
         → builtOf made after ≡ allocate number 27 (chainCell x (below .word)) (staged stage (below .count)) → builtOf made after ≡ chainOver number x (builtOf below stage)
     over-new made after none e = e ∙ sym (over-none (sym is ∙ none))
 
-    pub over-new-fits : r ≡ 0 → Fitting (chainOver number x (builtOf below stage)) → below .count < 202
+    pub over-new-fits : r ≡ 0 → Fitting (chainOver number x (builtOf below stage)) → below .count < stageCells
     over-new-fits none fits = allocate-fits number 27 _ stage (below .count) (subst Fitting (over-none (sym is ∙ none)) fits)
 
-    pub over-longer-fits : r ≢ 0 → below .count ≢ 0 → Fitting (chainOver number x (builtOf below stage)) → below .count - 1 < 202
+    pub over-longer-fits : r ≢ 0 → below .count ≢ 0 → Fitting (chainOver number x (builtOf below stage)) → below .count - 1 < stageCells
     over-longer-fits some behind fits =
         let place : room (below .own) (below .word) ≡ suc (r - 1) = omega arith in
         let k : below .count ≡ suc (below .count - 1) = omega arith in
@@ -132,7 +132,7 @@ module _ (number : ℕ → ℕ) (block bytes : List ℕ) (cell place x : ℕ) (b
       → builtOf made after ≡ chainSet number (memoryOf block cell) cell place x (builtOf below stage)
   chain-same-is made after e is = is ∙ sym (same-here e)
 
-  pub chain-other-fits : x ≢ getD bytes place 0 → Fitting (chainSet number (memoryOf block cell) cell place x (builtOf below stage)) → below .count < 202
+  pub chain-other-fits : x ≢ getD bytes place 0 → Fitting (chainSet number (memoryOf block cell) cell place x (builtOf below stage)) → below .count < stageCells
   chain-other-fits n fits = allocate-fits number 30 _ stage (below .count) (subst Fitting (other-here n) fits)
 
   pub chain-other-is : (child : ℕ) (made : Made) (after : List ℕ) → x ≢ getD bytes place 0 → child ≡ chainChild bytes cell place

@@ -17,7 +17,7 @@ use Rattle.nodes.proofs.Rest.{Among}
 use Rattle.insertion.specs.NewCells.{prefixCell}
 use Rattle.insertion.specs.Built.{Built, unowned, allocate}
 use Rattle.insertion.specs.Build.{putBack, valueAt}
-use Rattle.insertion.specs.Staged.{staged, builtOf, leafMade, Fitting}
+use Rattle.insertion.specs.Staged.{stageCells, staged, builtOf, leafMade, Fitting}
 use Rattle.insertion.specs.declared.stage.Made.{Made}
 use Rattle.insertion.proofs.StagedChains.{allocate-fits}
 
@@ -84,7 +84,7 @@ module _ (layout : Layout) (number : ℕ → ℕ) (held : Value) (built : Made) 
       → all ≡ putBack layout number (heldOf held) (builtOf built stage)
   back-held v all case is = is ∙ sym (back-value v case)
 
-  pub back-fits : (v : ℕ) → held ≡ Held v → Fitting (putBack layout number (heldOf held) (builtOf built stage)) → built .count < 202
+  pub back-fits : (v : ℕ) → held ≡ Held v → Fitting (putBack layout number (heldOf held) (builtOf built stage)) → built .count < stageCells
   back-fits v case fits = allocate-fits number 31 _ stage (built .count) (subst Fitting (back-value v case) fits)
 
   pub back-empty : held ≡ Empty → builtOf built stage ≡ putBack layout number (heldOf held) (builtOf built stage)

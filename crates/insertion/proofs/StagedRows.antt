@@ -16,7 +16,7 @@ use Rattle.nodes.specs.Pointer.{wordTo}
 use Rattle.nodes.specs.Sparse.{someWord}
 use Rattle.insertion.specs.NewCells.{blank, withWords}
 use Rattle.insertion.specs.SplitBuild.{Row, tableRow, rows}
-use Rattle.insertion.specs.Staged.{staged, Put, allocated, Rowed, RowFitting}
+use Rattle.insertion.specs.Staged.{stageCells, staged, Put, allocated, Rowed, RowFitting}
 use Rattle.insertion.specs.declared.stage.Made.{Made}
 use Rattle.insertion.proofs.StageLaws.{staged-length, put-newest}
 
@@ -54,11 +54,11 @@ module _ (number : ℕ → ℕ) where
     unfolding tableRow
     table-none cells none = let e : someWord f 8 0 ≡ false = sym told ∙ none in rw e (record { first = refl; stands = refl })
 
-    pub table-fits : (stage : List ℕ) (count : ℕ) → t ≡ true → RowFitting (tableRow number f (staged stage count)) → count < 202
+    pub table-fits : (stage : List ℕ) (count : ℕ) → t ≡ true → RowFitting (tableRow number f (staged stage count)) → count < stageCells
     unfolding tableRow
     table-fits stage count some fits =
         let e : someWord f 8 0 ≡ true = sym told ∙ some in
-        let long : suc (length (staged stage count)) ≤ 202 = rw e at fits in
+        let long : suc (length (staged stage count)) ≤ stageCells = rw e at fits in
         omega (arith, long, staged-length stage count)
 
     pub table-some : (stage after : List ℕ) (count : ℕ) (made : Made) → t ≡ true → Put stage after count (withWords f 8 0 blank)

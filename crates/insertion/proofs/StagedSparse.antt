@@ -14,7 +14,7 @@ use Rattle.insertion.specs.NewCells.{replacedCell, appendedCell}
 use Rattle.insertion.specs.Built.{Built, allocate}
 use Rattle.insertion.specs.SplitBuild.{splitOf}
 use Rattle.insertion.specs.SetChild.{withChild, sparseSet}
-use Rattle.insertion.specs.Staged.{staged, Put, builtOf, allocated, Fitting, Children}
+use Rattle.insertion.specs.Staged.{stageCells, staged, Put, builtOf, allocated, Fitting, Children}
 use Rattle.insertion.specs.declared.stage.Made.{Made}
 use Rattle.insertion.proofs.StageLaws.{put-allocate}
 use Rattle.insertion.proofs.StagedChains.{allocate-fits}
@@ -111,7 +111,7 @@ module _ (number : ℕ → ℕ) (block bytes : List ℕ) (cell x : ℕ) (below :
       ∙ sym (way-split number (memoryOf block cell) x (builtOf below stage) many position counted-here placed-here past full)
 
   -- replaced
-  pub replaced-fits : position < many → Fitting (sparseSet number (memoryOf block cell) x (builtOf below stage)) → below .count < 202
+  pub replaced-fits : position < many → Fitting (sparseSet number (memoryOf block cell) x (builtOf below stage)) → below .count < stageCells
   replaced-fits here fits = allocate-fits number 30 _ stage (below .count) (subst Fitting (replaced-here here) fits)
 
   pub replaced-is : (made : Made) (after : List ℕ) → position < many → Put stage after (below .count) (replacedCell (memoryOf block cell) position (below .word))
@@ -119,7 +119,7 @@ module _ (number : ℕ → ℕ) (block bytes : List ℕ) (cell x : ℕ) (below :
   replaced-is made after here put took = put-allocate put number 30 made took ∙ sym (replaced-here here)
 
   -- appended
-  pub appended-fits : many ≤ position → many < 6 → Fitting (sparseSet number (memoryOf block cell) x (builtOf below stage)) → below .count < 202
+  pub appended-fits : many ≤ position → many < 6 → Fitting (sparseSet number (memoryOf block cell) x (builtOf below stage)) → below .count < stageCells
   appended-fits past room fits = allocate-fits number 30 _ stage (below .count) (subst Fitting (appended-here past room) fits)
 
   pub appended-is : (made : Made) (after : List ℕ) → many ≤ position → many < 6 → Put stage after (below .count) (appendedCell (memoryOf block cell) x (below .word))

@@ -7,7 +7,7 @@ use lib.ListN.{length, getD, set}
 use Rattle.insertion.specs.NewCells.{blank, withWords}
 use Rattle.insertion.specs.Built.{allocate}
 use Rattle.insertion.specs.SplitBuild.{Row, tableRow, rows, endRow, midRow, splitOf}
-use Rattle.insertion.specs.Staged.{staged, Put, builtOf, allocated, Fitting, Rowed, RowFitting}
+use Rattle.insertion.specs.Staged.{stageCells, staged, Put, builtOf, allocated, Fitting, Rowed, RowFitting}
 use Rattle.insertion.specs.declared.stage.Made.{Made}
 use Rattle.insertion.proofs.StageLaws.{staged-length, put-allocate}
 use Rattle.insertion.proofs.StagedRows.{SameRow, words-agree, table-agree, table-grows, rows-grow, rows-first, rows-agree, Making, making-more, making-cells}
@@ -38,7 +38,7 @@ module _ (number : ℕ → ℕ) (child : ℕ → ℕ) where
     abbrev pub ends : Row
     ends = rows (endRow number child i) 8 0 before
 
-    ends-fit : RowFitting (midRow number child i before) → length (ends .cells) ≤ 202
+    ends-fit : RowFitting (midRow number child i before) → length (ends .cells) ≤ stageCells
     unfolding midRow
     ends-fit fits = omega (arith, fits, table-grows number (ends .words) (ends .cells))
 
@@ -46,7 +46,7 @@ module _ (number : ℕ → ℕ) (child : ℕ → ℕ) where
       pub end-fits : (less : ℕ) → RowFitting (midRow number child i before) → left ≡ less + 1 → RowFitting (tableRow number (λ k. child (64 * i + 8 * j + k)) cells)
       unfolding endRow
       end-fits less fits e =
-          rows-first (endRow number child i) (end-grows i) left less j cells 202 e (omega (arith, ends-fit fits, ap (λ (l : List (List ℕ)). length l) (so-far .cells)))
+          rows-first (endRow number child i) (end-grows i) left less j cells stageCells e (omega (arith, ends-fit fits, ap (λ (l : List (List ℕ)). length l) (so-far .cells)))
 
       pub end-more : (less word : ℕ) (cells′ : List (List ℕ)) → Rowed (tableRow number (λ k. child (64 * i + 8 * j + k)) cells) word cells′
           → j < length array → left ≡ less + 1 → Making endSlot ends (rows (endRow number child i) less (j + 1) cells′) (j + 1) (set array j word)
@@ -78,14 +78,14 @@ module _ (number : ℕ → ℕ) (child : ℕ → ℕ) where
     abbrev pub mids : Row
     mids = rows (midRow number child) 4 0 before
 
-    mids-fit : Fitting (splitOf number child before) → length (mids .cells) < 202
+    mids-fit : Fitting (splitOf number child before) → length (mids .cells) < stageCells
     unfolding splitOf allocate
     mids-fit fits = omega (arith, fits)
 
     module _ (left i : ℕ) (cells : List (List ℕ)) (array : List ℕ) (so-far : Making midSlot mids (rows (midRow number child) left i cells) i array) where
       pub mids-first-fits : (less : ℕ) → Fitting (splitOf number child before) → left ≡ less + 1 → RowFitting (midRow number child i cells)
       mids-first-fits less fits e =
-          rows-first (midRow number child) mid-grows left less i cells 202 e (omega (arith, mids-fit fits, ap (λ (l : List (List ℕ)). length l) (so-far .cells)))
+          rows-first (midRow number child) mid-grows left less i cells stageCells e (omega (arith, mids-fit fits, ap (λ (l : List (List ℕ)). length l) (so-far .cells)))
 
       pub mids-more : (less word : ℕ) (cells′ : List (List ℕ)) → Rowed (midRow number child i cells) word cells′ → 4 + i < length array → left ≡ less + 1
           → Making midSlot mids (rows (midRow number child) less (i + 1) cells′) (i + 1) (set array (4 + i) word)
@@ -107,7 +107,7 @@ module _ (number : ℕ → ℕ) (child : ℕ → ℕ) where
       split-built e all = ap (allocate number 28 (withWords (λ p. getD array (0 + p) 0) 4 4 blank)) (sym (mids-cells e))
           ∙ ap (λ (s : List ℕ). allocate number 28 s (mids .cells)) (head-bytes all)
 
-      pub head-fits : (stage : List ℕ) (count : ℕ) → cells ≡ staged stage count → left ≡ 0 → Fitting (splitOf number child before) → count < 202
+      pub head-fits : (stage : List ℕ) (count : ℕ) → cells ≡ staged stage count → left ≡ 0 → Fitting (splitOf number child before) → count < stageCells
       head-fits stage count is e fits =
           omega (arith, mids-fit fits, ap (λ (l : List (List ℕ)). length l) (mids-cells e ∙ is), staged-length stage count)
 

@@ -20,7 +20,7 @@ use Rattle.nodes.proofs.Frame.{below-zero, below-word, split-word-cell, mid-cut
 use Rattle.insertion.specs.NewCells.{tableCopy, headCopy}
 use Rattle.insertion.specs.Built.{Built, allocate}
 use Rattle.insertion.specs.SplitBuild.{splitCopied}
-use Rattle.insertion.specs.Staged.{staged, builtOf, Fitting}
+use Rattle.insertion.specs.Staged.{stageCells, staged, builtOf, Fitting}
 use Rattle.insertion.specs.declared.stage.Made.{Made}
 use Rattle.insertion.proofs.StageLaws.{staged-length}
 
@@ -95,7 +95,7 @@ allocated-count number kind bytes made stage after count e =
     sym (staged-length after (made .count)) ∙ ap (λ (b : Built). length (b .cells)) e ∙ ap suc (staged-length stage count)
 
 pub split-fits : (number : ℕ → ℕ) (m : Memory) (c x : ℕ) (below : Made) (stage : List ℕ) → Fitting (splitCopied number m c x (builtOf below stage))
-    → below .count + 3 ≤ 202
+    → below .count + 3 ≤ stageCells
 unfolding splitCopied allocate
 split-fits number m c x below stage fits = omega (arith, fits, staged-length stage (below .count))
 

@@ -15,6 +15,10 @@ use Rattle.insertion.specs.Built.{Built}
 use Rattle.insertion.specs.SplitBuild.{Row}
 use Rattle.insertion.specs.declared.stage.Made.{Made}
 
+-- the cells that a stage has room for; 01: "for m label bytes at most 4m + 10", of 48
+abbrev pub stageCells : ℕ
+stageCells = 202
+
 -- the first so many cells of a stage, newest first
 unfoldable pub staged : List ℕ → ℕ → List (List ℕ)
 staged stage zero = []
@@ -43,9 +47,9 @@ allocated number kind count = record { word = wordTo (number count) kind; own = 
 abbrev pub leafMade : ℕ → Made
 leafMade value = record { word = leafWord value; own = false; count = 0 }
 
--- the cells of a build find room in a stage of 202 cells
+-- the cells of a build find room in a stage
 abbrev pub Fitting : Built → Type 0
-Fitting built = length (built .cells) ≤ 202
+Fitting built = length (built .cells) ≤ stageCells
 
 -- a row's word and its cells, as code and stage have them
 pub record Rowed (row : Row) (word : ℕ) (cells : List (List ℕ)) : Type 0 where
@@ -54,7 +58,7 @@ pub record Rowed (row : Row) (word : ℕ) (cells : List (List ℕ)) : Type 0 whe
 
 -- the cells of a row find room
 abbrev pub RowFitting : Row → Type 0
-RowFitting row = length (row .cells) ≤ 202
+RowFitting row = length (row .cells) ≤ stageCells
 
 -- an array that holds the child word of each character
 pub record Children (array : List ℕ) (child : ℕ → ℕ) : Type 0 where

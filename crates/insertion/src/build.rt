@@ -17,9 +17,10 @@ use crate::prefix::put_back;
 use crate::sparse_set::sparse_set;
 use crate::split::split_set;
 use crate::stage::Made;
+use crate::stage::STAGE_SIZE;
 use cells::cell;
 use cells::word_at;
-use crate::stage::STAGE_SIZE;
+use nodes::layout::CELL_LIMIT;
 use nodes::layout::Layout;
 use nodes::pointer::Pointer;
 use nodes::pointer::pointer_of;
@@ -60,7 +61,7 @@ fn word_aside(layout: Layout, block: &[u8], word: u32) -> u32
 pub fn set_child(
     layout: Layout,
     block: &[u8],
-    numbers: &[u16; 2048],
+    numbers: &[u16; CELL_LIMIT],
     free: usize,
     stage: &mut [u8; STAGE_SIZE],
     word: u32,
@@ -85,7 +86,7 @@ pub fn set_child(
 pub fn build_from(
     layout: Layout,
     block: &[u8],
-    numbers: &[u16; 2048],
+    numbers: &[u16; CELL_LIMIT],
     free: usize,
     stage: &mut [u8; STAGE_SIZE],
     key: &[u8],

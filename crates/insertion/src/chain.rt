@@ -7,7 +7,7 @@ ghost use Rattle.insertion.specs.NewCells.{chainCell};
 ghost use Rattle.insertion.specs.Built.{room, allocate, chainOver};
 ghost use Rattle.insertion.specs.SetChild.{chainSet};
 ghost use Rattle.insertion.specs.Commit.{numberFrom};
-ghost use Rattle.insertion.specs.Staged.{staged, Numbered, builtOf, Fitting};
+ghost use Rattle.insertion.specs.Staged.{stageCells, staged, Numbered, builtOf, Fitting};
 use crate::new_cells::put_chain;
 use crate::new_cells::put_pair;
 use crate::stage::Made;
@@ -18,6 +18,7 @@ use crate::stage::put_byte;
 use crate::stage::word_to;
 use cells::cell;
 use nodes::chains::chain_child;
+use nodes::layout::CELL_LIMIT;
 use nodes::layout::Layout;
 
 // The free bytes before a chain in a cell that this call allocated; none before any other node.
@@ -40,14 +41,14 @@ fn room_before(own: bool, word: u32) -> usize
 // A chain of one character in a new cell.
 fn new_chain(
     layout: Layout,
-    numbers: &[u16; 2048],
+    numbers: &[u16; CELL_LIMIT],
     free: usize,
     stage: &mut [u8; STAGE_SIZE],
     x: u8,
     word: u32,
     count: usize,
 ) -> Made
-    requires { ⌜ Numbered layout free × (count < 202) ⌝ }
+    requires { ⌜ Numbered layout free × (count < stageCells) ⌝ }
     ensures { λ r. ⌜ builtOf r (now (stage .exit)) ≡ allocate (numberFrom layout (take free (now (numbers .entry)))) 27 (chainCell x word) (staged (now (stage .entry)) count) ⌝ }
 {
     put_chain(stage, count, x, word);
@@ -57,7 +58,7 @@ fn new_chain(
 // A character over a new child: in the byte before it, or in a new cell.
 pub fn chain_over(
     layout: Layout,
-    numbers: &[u16; 2048],
+    numbers: &[u16; CELL_LIMIT],
     free: usize,
     stage: &mut [u8; STAGE_SIZE],
     x: u8,
@@ -89,7 +90,7 @@ pub fn chain_over(
 pub fn chain_set(
     layout: Layout,
     block: &[u8],
-    numbers: &[u16; 2048],
+    numbers: &[u16; CELL_LIMIT],
     free: usize,
     stage: &mut [u8; STAGE_SIZE],
     number: usize,

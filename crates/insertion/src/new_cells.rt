@@ -4,7 +4,7 @@ ghost use lib.ListN.{length, getD};
 ghost use Rattle.cells.specs.Word.{wordAt, withWord};
 ghost use Rattle.cells.specs.Memory.{memoryOf};
 ghost use Rattle.insertion.specs.NewCells.{blank, chainCell, prefixCell, pairCell, sparsePair, tableCopy, headCopy, withWords};
-ghost use Rattle.insertion.specs.Staged.{Put};
+ghost use Rattle.insertion.specs.Staged.{stageCells, Put};
 use crate::stage::STAGE_SIZE;
 use crate::stage::put_blank;
 use crate::stage::put_byte;
@@ -14,7 +14,7 @@ use cells::word_at;
 
 // A chain of one character, at the end of its cell.
 pub fn put_chain(stage: &mut [u8; STAGE_SIZE], at: usize, x: u8, word: u32)
-    requires { ⌜ at < 202 ⌝ }
+    requires { ⌜ at < stageCells ⌝ }
     ensures { λ _. ⌜ Put (now (stage .entry)) (now (stage .exit)) at (chainCell x word) ⌝ }
 {
     put_blank(stage, at);
@@ -24,7 +24,7 @@ pub fn put_chain(stage: &mut [u8; STAGE_SIZE], at: usize, x: u8, word: u32)
 
 // A standalone prefix.
 pub fn put_prefix(stage: &mut [u8; STAGE_SIZE], at: usize, value: u32, word: u32)
-    requires { ⌜ at < 202 ⌝ }
+    requires { ⌜ at < stageCells ⌝ }
     ensures { λ _. ⌜ Put (now (stage .entry)) (now (stage .exit)) at (prefixCell value word) ⌝ }
 {
     put_blank(stage, at);
@@ -35,7 +35,7 @@ pub fn put_prefix(stage: &mut [u8; STAGE_SIZE], at: usize, value: u32, word: u32
 
 // Two children, the lower character first.
 fn put_rising_pair(stage: &mut [u8; STAGE_SIZE], at: usize, x: u8, word: u32, y: u8, other: u32)
-    requires { ⌜ at < 202 ⌝ }
+    requires { ⌜ at < stageCells ⌝ }
     ensures { λ _. ⌜ Put (now (stage .entry)) (now (stage .exit)) at (pairCell x word y other) ⌝ }
 {
     put_blank(stage, at);
@@ -48,7 +48,7 @@ fn put_rising_pair(stage: &mut [u8; STAGE_SIZE], at: usize, x: u8, word: u32, y:
 
 // Two children in rising order.
 pub fn put_pair(stage: &mut [u8; STAGE_SIZE], at: usize, x: u8, word: u32, y: u8, other: u32)
-    requires { ⌜ at < 202 ⌝ }
+    requires { ⌜ at < stageCells ⌝ }
     ensures { λ _. ⌜ Put (now (stage .entry)) (now (stage .exit)) at (sparsePair x word y other) ⌝ }
 {
     if x < y {
@@ -60,7 +60,7 @@ pub fn put_pair(stage: &mut [u8; STAGE_SIZE], at: usize, x: u8, word: u32, y: u8
 
 // The eight words of the mid or end that a word names, all NONE where that is NONE.
 fn put_table(stage: &mut [u8; STAGE_SIZE], at: usize, block: &[u8], word: u32)
-    requires { ⌜ (at < 202) × (word / 32 * 32 + 32 ≤ length (now block)) ⌝ }
+    requires { ⌜ (at < stageCells) × (word / 32 * 32 + 32 ≤ length (now block)) ⌝ }
     ensures { λ _. ⌜ Put (now (stage .entry)) (now (stage .exit)) at (tableCopy (memoryOf (now (block .entry))) word) ⌝ }
 {
     if word == 0 {
@@ -79,7 +79,7 @@ pub fn put_table_copy(
     i: usize,
     value: u32,
 )
-    requires { ⌜ (at < 202) × (word / 32 * 32 + 32 ≤ length (now block)) × (i < 8) ⌝ }
+    requires { ⌜ (at < stageCells) × (word / 32 * 32 + 32 ≤ length (now block)) × (i < 8) ⌝ }
     ensures { λ _. ⌜ Put (now (stage .entry)) (now (stage .exit)) at (withWord (tableCopy (memoryOf (now (block .entry))) word) (4 * i) value) ⌝ }
 {
     put_table(stage, at, block, word);
@@ -88,7 +88,7 @@ pub fn put_table_copy(
 
 // A word of a cell of the block, at the same byte of a cell of the stage.
 fn put_same_word(stage: &mut [u8; STAGE_SIZE], at: usize, block: &[u8], cell: usize, offset: usize)
-    requires { ⌜ (at < 202) × (cell * 32 + 32 ≤ length (now block)) × (offset + 4 ≤ 32) ⌝ }
+    requires { ⌜ (at < stageCells) × (cell * 32 + 32 ≤ length (now block)) × (offset + 4 ≤ 32) ⌝ }
     ensures { λ _. ⌜ Put (now (stage .entry)) (now (stage .exit)) at (withWord (memoryOf (now (stage .entry)) at) offset (wordAt (memoryOf (now (block .entry)) cell) offset)) ⌝ }
 {
     let word = word_at(block, cell * 32 + offset);
@@ -97,7 +97,7 @@ fn put_same_word(stage: &mut [u8; STAGE_SIZE], at: usize, block: &[u8], cell: us
 
 // The four words of a split head.
 fn put_head(stage: &mut [u8; STAGE_SIZE], at: usize, block: &[u8], cell: usize)
-    requires { ⌜ (at < 202) × (cell * 32 + 32 ≤ length (now block)) ⌝ }
+    requires { ⌜ (at < stageCells) × (cell * 32 + 32 ≤ length (now block)) ⌝ }
     ensures { λ _. ⌜ Put (now (stage .entry)) (now (stage .exit)) at (headCopy (memoryOf (now (block .entry)) cell)) ⌝ }
 {
     put_blank(stage, at);
@@ -116,7 +116,7 @@ pub fn put_head_copy(
     i: usize,
     value: u32,
 )
-    requires { ⌜ (at < 202) × (cell * 32 + 32 ≤ length (now block)) × (i < 4) ⌝ }
+    requires { ⌜ (at < stageCells) × (cell * 32 + 32 ≤ length (now block)) × (i < 4) ⌝ }
     ensures { λ _. ⌜ Put (now (stage .entry)) (now (stage .exit)) at (withWord (headCopy (memoryOf (now (block .entry)) cell)) (16 + 4 * i) value) ⌝ }
 {
     put_head(stage, at, block, cell);
@@ -132,7 +132,7 @@ pub fn put_words(
     count: usize,
     position: usize,
 )
-    requires { ⌜ (at < 202) × (position + count ≤ 8) × (base + (position + count) ≤ length (now words)) ⌝ }
+    requires { ⌜ (at < stageCells) × (position + count ≤ 8) × (base + (position + count) ≤ length (now words)) ⌝ }
     ensures { λ _. ⌜ Put (now (stage .entry)) (now (stage .exit)) at (withWords (λ p. getD (now (words .entry)) (base + p) 0) count position blank) ⌝ }
 {
     put_blank(stage, at);

@@ -9,13 +9,14 @@ ghost use Rattle.insertion.specs.NewCells.{prefixCell};
 ghost use Rattle.insertion.specs.Built.{allocate};
 ghost use Rattle.insertion.specs.Build.{putBack, valueAt};
 ghost use Rattle.insertion.specs.Commit.{numberFrom};
-ghost use Rattle.insertion.specs.Staged.{staged, Numbered, builtOf, leafMade, Fitting};
+ghost use Rattle.insertion.specs.Staged.{stageCells, staged, Numbered, builtOf, leafMade, Fitting};
 use crate::new_cells::put_prefix;
 use crate::stage::Made;
 use crate::stage::STAGE_SIZE;
 use crate::stage::allocated_as;
 use cells::cell;
 use cells::word_at;
+use nodes::layout::CELL_LIMIT;
 use nodes::layout::Layout;
 use nodes::pointer::Pointer;
 use nodes::pointer::leaf_word;
@@ -25,14 +26,14 @@ use nodes::value::Value;
 // A value over a node, in a new cell.
 fn new_prefix(
     layout: Layout,
-    numbers: &[u16; 2048],
+    numbers: &[u16; CELL_LIMIT],
     free: usize,
     stage: &mut [u8; STAGE_SIZE],
     value: u32,
     word: u32,
     count: usize,
 ) -> Made
-    requires { ⌜ Numbered layout free × (count < 202) ⌝ }
+    requires { ⌜ Numbered layout free × (count < stageCells) ⌝ }
     ensures { λ r. ⌜ builtOf r (now (stage .exit)) ≡ allocate (numberFrom layout (take free (now (numbers .entry)))) 31 (prefixCell value word) (staged (now (stage .entry)) count) ⌝ }
 {
     put_prefix(stage, count, value, word);
@@ -42,7 +43,7 @@ fn new_prefix(
 // A value that was set aside put back.
 pub fn put_back(
     layout: Layout,
-    numbers: &[u16; 2048],
+    numbers: &[u16; CELL_LIMIT],
     free: usize,
     stage: &mut [u8; STAGE_SIZE],
     held: Value,
@@ -76,7 +77,7 @@ fn leaf_alone(value: u32) -> Made
 pub fn at_end(
     layout: Layout,
     block: &[u8],
-    numbers: &[u16; 2048],
+    numbers: &[u16; CELL_LIMIT],
     free: usize,
     stage: &mut [u8; STAGE_SIZE],
     word: u32,

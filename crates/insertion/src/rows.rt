@@ -10,6 +10,7 @@ use crate::new_cells::put_words;
 use crate::stage::Made;
 use crate::stage::STAGE_SIZE;
 use crate::stage::allocated_as;
+use nodes::layout::CELL_LIMIT;
 use nodes::layout::Layout;
 
 // The word of a table that was made, NONE where all of its words are, and how many cells are staged.
@@ -37,7 +38,7 @@ fn some_of(words: &[u32], base: usize) -> bool
 // A cell of eight words if one of them is a pointer.
 fn table_row(
     layout: Layout,
-    numbers: &[u16; 2048],
+    numbers: &[u16; CELL_LIMIT],
     free: usize,
     stage: &mut [u8; STAGE_SIZE],
     words: &[u32],
@@ -61,7 +62,7 @@ fn table_row(
 // The ends of the characters with these two upper bits, then their mid.
 fn mid_row(
     layout: Layout,
-    numbers: &[u16; 2048],
+    numbers: &[u16; CELL_LIMIT],
     free: usize,
     stage: &mut [u8; STAGE_SIZE],
     children: &[u32; 256],
@@ -86,7 +87,7 @@ fn mid_row(
 // The four mids, then the head.
 pub fn split_of(
     layout: Layout,
-    numbers: &[u16; 2048],
+    numbers: &[u16; CELL_LIMIT],
     free: usize,
     stage: &mut [u8; STAGE_SIZE],
     children: &[u32; 256],

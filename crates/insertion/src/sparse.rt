@@ -6,7 +6,7 @@ ghost use lib.ListN.{length};
 ghost use Rattle.cells.specs.Memory.{memoryOf};
 ghost use Rattle.nodes.specs.Sparse.{sparseCount, validSparse};
 ghost use Rattle.insertion.specs.NewCells.{withoutCharacters, sparseCopy, replacedCell, withOrder, appendedCell};
-ghost use Rattle.insertion.specs.Staged.{Put};
+ghost use Rattle.insertion.specs.Staged.{stageCells, Put};
 use crate::order::extended_order;
 use crate::stage::STAGE_SIZE;
 use crate::stage::put_byte;
@@ -17,7 +17,7 @@ use nodes::sparse::sparse_count;
 
 // Sets the characters from a position on to zero: they belong to no child.
 fn clear_characters(stage: &mut [u8; STAGE_SIZE], at: usize, from: usize)
-    requires { ⌜ at < 202 ⌝ }
+    requires { ⌜ at < stageCells ⌝ }
     ensures { λ _. ⌜ Put (now (stage .entry)) (now (stage .exit)) at (withoutCharacters (6 - from) from (memoryOf (now (stage .entry)) at)) ⌝ }
 {
     let mut position = from;
@@ -29,7 +29,7 @@ fn clear_characters(stage: &mut [u8; STAGE_SIZE], at: usize, from: usize)
 
 // A sparse cell's own bytes.
 fn put_sparse(stage: &mut [u8; STAGE_SIZE], at: usize, block: &[u8], number: usize)
-    requires { ⌜ (at < 202) × (number * 32 + 32 ≤ length (now block)) ⌝ }
+    requires { ⌜ (at < stageCells) × (number * 32 + 32 ≤ length (now block)) ⌝ }
     ensures { λ _. ⌜ Put (now (stage .entry)) (now (stage .exit)) at (sparseCopy (memoryOf (now (block .entry)) number)) ⌝ }
 {
     let count = sparse_count(cell(block, number));
@@ -46,7 +46,7 @@ pub fn put_replaced(
     position: usize,
     word: u32,
 )
-    requires { ⌜ (at < 202) × (number * 32 + 32 ≤ length (now block)) × (position < 8) ⌝ }
+    requires { ⌜ (at < stageCells) × (number * 32 + 32 ≤ length (now block)) × (position < 8) ⌝ }
     ensures { λ _. ⌜ Put (now (stage .entry)) (now (stage .exit)) at (replacedCell (memoryOf (now (block .entry)) number) position word) ⌝ }
 {
     put_sparse(stage, at, block, number);
@@ -55,7 +55,7 @@ pub fn put_replaced(
 
 // Writes an order word.
 fn put_order(stage: &mut [u8; STAGE_SIZE], at: usize, order: u16)
-    requires { ⌜ at < 202 ⌝ }
+    requires { ⌜ at < stageCells ⌝ }
     ensures { λ _. ⌜ Put (now (stage .entry)) (now (stage .exit)) at (withOrder (memoryOf (now (stage .entry)) at) order) ⌝ }
 {
     put_byte(stage, at, 30, (order / 256 % 256) as u8);
@@ -71,7 +71,7 @@ pub fn put_appended(
     x: u8,
     word: u32,
 )
-    requires { ⌜ (at < 202) × (number * 32 + 32 ≤ length (now block)) × (validSparse (memoryOf (now block) number) ≡ true) × (sparseCount (memoryOf (now block) number) < 6) ⌝ }
+    requires { ⌜ (at < stageCells) × (number * 32 + 32 ≤ length (now block)) × (validSparse (memoryOf (now block) number) ≡ true) × (sparseCount (memoryOf (now block) number) < 6) ⌝ }
     ensures { λ _. ⌜ Put (now (stage .entry)) (now (stage .exit)) at (appendedCell (memoryOf (now (block .entry)) number) x word) ⌝ }
 {
     let bytes = cell(block, number);

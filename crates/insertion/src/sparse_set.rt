@@ -15,6 +15,7 @@ use crate::stage::Made;
 use crate::stage::STAGE_SIZE;
 use crate::stage::allocated_as;
 use cells::cell;
+use nodes::layout::CELL_LIMIT;
 use nodes::layout::Layout;
 use nodes::sparse::sparse_child;
 use nodes::sparse::sparse_count;
@@ -53,7 +54,7 @@ fn fill_children(children: &mut [u32], cell: &[u8], x: u8, word: u32)
 pub fn sparse_set(
     layout: Layout,
     block: &[u8],
-    numbers: &[u16; 2048],
+    numbers: &[u16; CELL_LIMIT],
     free: usize,
     stage: &mut [u8; STAGE_SIZE],
     number: usize,

@@ -11,13 +11,14 @@ ghost use Rattle.insertion.specs.NewCells.{tableCopy, headCopy};
 ghost use Rattle.insertion.specs.Built.{allocate};
 ghost use Rattle.insertion.specs.SplitBuild.{splitCopied};
 ghost use Rattle.insertion.specs.Commit.{numberFrom};
-ghost use Rattle.insertion.specs.Staged.{staged, Numbered, builtOf, Fitting};
+ghost use Rattle.insertion.specs.Staged.{stageCells, staged, Numbered, builtOf, Fitting};
 use crate::new_cells::put_head_copy;
 use crate::new_cells::put_table_copy;
 use crate::stage::Made;
 use crate::stage::STAGE_SIZE;
 use crate::stage::allocated_as;
 use cells::word_at;
+use nodes::layout::CELL_LIMIT;
 use nodes::layout::Layout;
 
 // A word of the mid or end that a word names, NONE where that is NONE.
@@ -36,14 +37,14 @@ fn word_below(block: &[u8], word: u32, i: usize) -> u32
 fn table_set(
     layout: Layout,
     block: &[u8],
-    numbers: &[u16; 2048],
+    numbers: &[u16; CELL_LIMIT],
     free: usize,
     stage: &mut [u8; STAGE_SIZE],
     word: u32,
     i: usize,
     over: Made,
 ) -> Made
-    requires { ⌜ Numbered layout free × (word / 32 * 32 + 32 ≤ length (now block)) × (i < 8) × (over .count < 202) ⌝ }
+    requires { ⌜ Numbered layout free × (word / 32 * 32 + 32 ≤ length (now block)) × (i < 8) × (over .count < stageCells) ⌝ }
     ensures { λ r. ⌜ builtOf r (now (stage .exit)) ≡ allocate (numberFrom layout (take free (now (numbers .entry)))) 28 (withWord (tableCopy (memoryOf (now (block .entry))) word) (4 * i) (over .word)) (staged (now (stage .entry)) (over .count)) ⌝ }
 {
     let value = over.word;
@@ -56,14 +57,14 @@ fn table_set(
 fn head_set(
     layout: Layout,
     block: &[u8],
-    numbers: &[u16; 2048],
+    numbers: &[u16; CELL_LIMIT],
     free: usize,
     stage: &mut [u8; STAGE_SIZE],
     number: usize,
     i: usize,
     over: Made,
 ) -> Made
-    requires { ⌜ Numbered layout free × (number * 32 + 32 ≤ length (now block)) × (i < 4) × (over .count < 202) ⌝ }
+    requires { ⌜ Numbered layout free × (number * 32 + 32 ≤ length (now block)) × (i < 4) × (over .count < stageCells) ⌝ }
     ensures { λ r. ⌜ builtOf r (now (stage .exit)) ≡ allocate (numberFrom layout (take free (now (numbers .entry)))) 28 (withWord (headCopy (memoryOf (now (block .entry)) number)) (16 + 4 * i) (over .word)) (staged (now (stage .entry)) (over .count)) ⌝ }
 {
     let value = over.word;
@@ -76,7 +77,7 @@ fn head_set(
 pub fn split_set(
     layout: Layout,
     block: &[u8],
-    numbers: &[u16; 2048],
+    numbers: &[u16; CELL_LIMIT],
     free: usize,
     stage: &mut [u8; STAGE_SIZE],
     number: usize,

@@ -8,9 +8,10 @@ ghost use Rattle.cells.specs.Writes.{written, cellWrites};
 ghost use Rattle.nodes.specs.Pointer.{wordTo};
 ghost use Rattle.insertion.specs.NewCells.{blank};
 ghost use Rattle.insertion.specs.Commit.{numberFrom};
-ghost use Rattle.insertion.specs.Staged.{Put, Numbered, allocated};
+ghost use Rattle.insertion.specs.Staged.{stageCells, Put, Numbered, allocated};
 use cells::put_word;
 use cells::word_at;
+use nodes::layout::CELL_LIMIT;
 use nodes::layout::Layout;
 use trees::KEY_LIMIT;
 
@@ -62,7 +63,7 @@ pub fn copy_cell(bytes: &mut [u8], number: usize, source: &[u8], from: usize)
 
 // Writes a byte of a cell of the stage.
 pub fn put_byte(stage: &mut [u8; STAGE_SIZE], at: usize, offset: usize, value: u8)
-    requires { ⌜ (at < 202) × (offset < 32) ⌝ }
+    requires { ⌜ (at < stageCells) × (offset < 32) ⌝ }
     ensures { λ _. ⌜ Put (now (stage .entry)) (now (stage .exit)) at (set (memoryOf (now (stage .entry)) at) offset value) ⌝ }
 {
     store(stage, at * 32 + offset, value);
@@ -70,7 +71,7 @@ pub fn put_byte(stage: &mut [u8; STAGE_SIZE], at: usize, offset: usize, value: u
 
 // Writes a word of a cell of the stage.
 pub fn put_word_in(stage: &mut [u8; STAGE_SIZE], at: usize, offset: usize, word: u32)
-    requires { ⌜ (at < 202) × (offset + 4 ≤ 32) ⌝ }
+    requires { ⌜ (at < stageCells) × (offset + 4 ≤ 32) ⌝ }
     ensures { λ _. ⌜ Put (now (stage .entry)) (now (stage .exit)) at (withWord (memoryOf (now (stage .entry)) at) offset word) ⌝ }
 {
     put_word(stage, at * 32 + offset, word);
@@ -78,7 +79,7 @@ pub fn put_word_in(stage: &mut [u8; STAGE_SIZE], at: usize, offset: usize, word:
 
 // Clears a cell of the stage.
 pub fn put_blank(stage: &mut [u8; STAGE_SIZE], at: usize)
-    requires { ⌜ at < 202 ⌝ }
+    requires { ⌜ at < stageCells ⌝ }
     ensures { λ _. ⌜ Put (now (stage .entry)) (now (stage .exit)) at blank ⌝ }
 {
     blank_cell(stage, at);
@@ -86,7 +87,7 @@ pub fn put_blank(stage: &mut [u8; STAGE_SIZE], at: usize)
 
 // Copies a cell of the block to a cell of the stage.
 pub fn put_copy(stage: &mut [u8; STAGE_SIZE], at: usize, block: &[u8], cell: usize)
-    requires { ⌜ (at < 202) × (cell * 32 + 32 ≤ length (now block)) ⌝ }
+    requires { ⌜ (at < stageCells) × (cell * 32 + 32 ≤ length (now block)) ⌝ }
     ensures { λ _. ⌜ Put (now (stage .entry)) (now (stage .exit)) at (memoryOf (now (block .entry)) cell) ⌝ }
 {
     copy_cell(stage, at, block, cell);
@@ -101,7 +102,7 @@ fn listed(numbers: &[u16], place: usize) -> u16
 }
 
 // The number of the cell that is allocated at a place: that of the free list, past its end the trailer's.
-pub fn number_at(layout: Layout, numbers: &[u16; 2048], free: usize, place: usize) -> u16
+pub fn number_at(layout: Layout, numbers: &[u16; CELL_LIMIT], free: usize, place: usize) -> u16
     requires { ⌜ Numbered layout free ⌝ }
     ensures { λ r. ⌜ r ≡ numberFrom layout (take free (now (numbers .entry))) place ⌝ }
 {
@@ -123,12 +124,12 @@ pub fn word_to(number: u16, kind: usize) -> u32
 // The word, the flag and the count after one more cell is allocated, with a node of a kind in it.
 pub fn allocated_as(
     layout: Layout,
-    numbers: &[u16; 2048],
+    numbers: &[u16; CELL_LIMIT],
     free: usize,
     kind: usize,
     count: usize,
 ) -> Made
-    requires { ⌜ Numbered layout free × (kind < 32) × (count < 202) ⌝ }
+    requires { ⌜ Numbered layout free × (kind < 32) × (count < stageCells) ⌝ }
     ensures { λ r. ⌜ r ≡ allocated (numberFrom layout (take free (now (numbers .entry)))) kind count ⌝ }
 {
     let number = number_at(layout, numbers, free, count);

@@ -2,6 +2,9 @@
 ghost use mathlib.Core.Path.{_≡_};
 ghost use Rattle.nodes.specs.Layout.{trailerCells, usable};
 
+// The most cells that a block may have.
+pub const CELL_LIMIT: usize = 2048;
+
 pub struct Layout {
     pub edition: u32,
     pub cells: usize,

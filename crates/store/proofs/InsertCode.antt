@@ -16,7 +16,7 @@ use Rattle.trees.proofs.RootCheck.{key-limit}
 use Rattle.insertion.specs.Built.{Built}
 use Rattle.insertion.specs.Build.{build, cellsNeeded}
 use Rattle.insertion.specs.Commit.{numberFrom, buildWrites}
-use Rattle.insertion.specs.Staged.{staged, Numbered, builtOf, HasTree}
+use Rattle.insertion.specs.Staged.{stageCells, staged, Numbered, builtOf, HasTree}
 use Rattle.insertion.specs.declared.stage.Made.{Made}
 use Rattle.insertion.proofs.Bound.{build-bound}
 use Rattle.insertion.proofs.Count.{count-needed}
@@ -108,7 +108,7 @@ module _ (layout : Layout) (b stamps key : List ℕ) (value : ℕ) (p : Insertab
           (numbering-free (layoutOf b) (free (layoutOf b) b) (λ c h. free-usable (layoutOf b) b c h) (omega (arith, s .least)) (s .most))
           (memoryOf b) (rootWord (layoutOf b) b) key value (value-fits value (p .good-value))
 
-      pub made-most : made .count ≤ 202
+      pub made-most : made .count ≤ stageCells
       unfolding blockBuild
       made-most =
           omega (arith, made-count, build-bound (numbering b) (layoutOf b) (memoryOf b) (rootWord (layoutOf b) b) key value, insertable-key)

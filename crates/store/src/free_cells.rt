@@ -3,6 +3,7 @@ ghost use mathlib.Core.Path.{_≡_};
 ghost use Prim.Native.Nat.{_≤_, _<_};
 ghost use lib.ListN.{length, set};
 ghost use Rattle.store.specs.Unstamped.{unstamped, Listed};
+use nodes::layout::CELL_LIMIT;
 use nodes::layout::Layout;
 use nodes::layout::trailer_cells;
 
@@ -18,8 +19,8 @@ fn put_number(numbers: &mut [u16], place: usize, number: u16)
 pub fn free_cells(
     layout: Layout,
     root: u32,
-    stamps: &[u8; 2048],
-    numbers: &mut [u16; 2048],
+    stamps: &[u8; CELL_LIMIT],
+    numbers: &mut [u16; CELL_LIMIT],
 ) -> usize
     requires { ⌜ (1 ≤ layout .cells) × (layout .cells ≤ 2048) ⌝ }
     ensures { λ r. ⌜ Listed (now (numbers .exit)) r (unstamped layout root (now (stamps .entry))) ⌝ }

@@ -4,7 +4,7 @@ ghost use Prim.Native.Nat.{_≤_};
 ghost use lib.ListN.{length, getD};
 ghost use Rattle.cells.specs.Writes.{written};
 ghost use Rattle.insertion.specs.Commit.{buildWrites};
-ghost use Rattle.insertion.specs.Staged.{staged, builtOf};
+ghost use Rattle.insertion.specs.Staged.{stageCells, staged, builtOf};
 ghost use Rattle.blocks.specs.Answers.{insertedOutcome};
 ghost use Rattle.blocks.specs.Fits.{Fits};
 ghost use Rattle.store.specs.Committed.{Inside, commitWrites};
@@ -24,11 +24,17 @@ use insertion::build::build_from;
 use insertion::stage::Made;
 use insertion::stage::STAGE_SIZE;
 use insertion::stage::copy_cell;
+use nodes::layout::CELL_LIMIT;
 use nodes::layout::Layout;
 
 // Writes the staged cells, in the order allocated, into the block at their numbers.
-fn commit_cells(block: &mut [u8], stage: &[u8; STAGE_SIZE], numbers: &[u16; 2048], count: usize)
-    requires { ⌜ (count ≤ 202) × Inside (now numbers) count (length (now block)) ⌝ }
+fn commit_cells(
+    block: &mut [u8],
+    stage: &[u8; STAGE_SIZE],
+    numbers: &[u16; CELL_LIMIT],
+    count: usize,
+)
+    requires { ⌜ (count ≤ stageCells) × Inside (now numbers) count (length (now block)) ⌝ }
     ensures { λ _. ⌜ now (block .exit) ≡ written (now (block .entry)) (buildWrites (λ i. getD (now (numbers .entry)) i 0) (staged (now (stage .entry)) count)) ⌝ }
 {
     let mut i: usize = 0;
@@ -40,8 +46,14 @@ fn commit_cells(block: &mut [u8], stage: &[u8; STAGE_SIZE], numbers: &[u16; 2048
 }
 
 // Writes a build into the block: its cells, and then the root word.
-fn commit(layout: Layout, block: &mut [u8], stage: &[u8; STAGE_SIZE], numbers: &[u16; 2048], made: Made)
-    requires { ⌜ Fits layout (length (now block)) × (made .count ≤ 202) × Inside (now numbers) (made .count) (length (now block)) ⌝ }
+fn commit(
+    layout: Layout,
+    block: &mut [u8],
+    stage: &[u8; STAGE_SIZE],
+    numbers: &[u16; CELL_LIMIT],
+    made: Made,
+)
+    requires { ⌜ Fits layout (length (now block)) × (made .count ≤ stageCells) × Inside (now numbers) (made .count) (length (now block)) ⌝ }
     ensures { λ _. ⌜ now (block .exit) ≡ written (now (block .entry)) (commitWrites layout (λ i. getD (now (numbers .entry)) i 0) (builtOf made (now (stage .entry)))) ⌝ }
 {
     let count = made.count;
@@ -55,7 +67,7 @@ fn commit(layout: Layout, block: &mut [u8], stage: &[u8; STAGE_SIZE], numbers: &
 fn insert_valid(
     layout: Layout,
     block: &mut [u8],
-    stamps: &[u8; 2048],
+    stamps: &[u8; CELL_LIMIT],
     key: &[u8],
     value: u32,
 ) -> InsertAnswer
@@ -63,7 +75,7 @@ fn insert_valid(
     ensures { λ r. ⌜ insert (now (block .entry)) (now (key .entry)) value ≡ insertedOutcome r (now (block .exit)) ⌝ }
 {
     let root = root_word(layout, block);
-    let mut numbers = [0u16; 2048];
+    let mut numbers = [0u16; CELL_LIMIT];
     let free = free_cells(layout, root, stamps, &mut numbers);
     let mut stage = [0u8; STAGE_SIZE];
     let made = build_from(
@@ -93,7 +105,7 @@ pub fn insert(block: &mut [u8], key: &[u8], value: u32) -> InsertAnswer
         return InsertAnswer::Refused(Refusal::BadSize);
     }
     let layout = layout_of(block);
-    let mut stamps = [0u8; 2048];
+    let mut stamps = [0u8; CELL_LIMIT];
     if !is_sound(layout, block, &mut stamps) {
         return InsertAnswer::Refused(Refusal::Unsound);
     }

@@ -6,6 +6,7 @@ ghost use Rattle.cells.specs.Memory.{memoryOf};
 ghost use Rattle.nodes.specs.Layout.{keyLimit};
 ghost use Rattle.trees.specs.NextWalk.{nextFrom};
 ghost use Rattle.trees.specs.Coded.{Grown, keyBelow, Told};
+use crate::KEY_LIMIT;
 use nodes::layout::Layout;
 use nodes::least::Least;
 use nodes::least::least_child;
@@ -21,7 +22,7 @@ pub struct NextStep {
 }
 
 // Writes a character to a position.
-fn put_character(out: &mut [u8; 48], at: usize, character: u8)
+fn put_character(out: &mut [u8; KEY_LIMIT], at: usize, character: u8)
     requires { ⌜ at < 48 ⌝ }
     ensures { λ _. ⌜ (length (now (out .entry)) ≡ 48) × (now (out .exit) ≡ set (now (out .entry)) at character) ⌝ }
 {
@@ -36,7 +37,7 @@ fn first_below(
     word: u32,
     from: usize,
     at: usize,
-    out: &mut [u8; 48],
+    out: &mut [u8; KEY_LIMIT],
 ) -> NextStep
     requires { ⌜ (layout .cells * 32 ≤ length (now block)) × (layout .cells ≤ 2048) × (at ≤ 48) × Grown layout (memoryOf (now block)) (48 - at) word ⌝ }
     ensures { λ r. ⌜ Told (now (out .exit)) at r (keyBelow layout (memoryOf (now (block .entry))) (47 - at) word from) ⌝ }
@@ -75,7 +76,7 @@ fn next_from(
     word: u32,
     key: &[u8],
     i: usize,
-    out: &mut [u8; 48],
+    out: &mut [u8; KEY_LIMIT],
 ) -> NextStep
     requires { ⌜ (layout .cells * 32 ≤ length (now block)) × (layout .cells ≤ 2048) × (i ≤ 48) × Grown layout (memoryOf (now block)) (48 - i) word ⌝ }
     ensures { λ r. ⌜ Told (now (out .exit)) i r (nextFrom layout (memoryOf (now (block .entry))) (48 - i) word (drop i (now (key .entry)))) ⌝ }
@@ -105,7 +106,7 @@ pub fn next_after(
     block: &[u8],
     word: u32,
     key: &[u8],
-    out: &mut [u8; 48],
+    out: &mut [u8; KEY_LIMIT],
 ) -> NextStep
     requires { ⌜ (layout .cells * 32 ≤ length (now block)) × (layout .cells ≤ 2048) × Grown layout (memoryOf (now block)) keyLimit word ⌝ }
     ensures { λ r. ⌜ Told (now (out .exit)) 0 r (nextFrom layout (memoryOf (now (block .entry))) keyLimit word (now (key .entry))) ⌝ }

@@ -11,6 +11,7 @@ ghost use Rattle.trees.specs.Visit.{Judged};
 ghost use Rattle.trees.specs.Parts.{endsOf, ownCells};
 use cells::cell;
 use cells::word_at;
+use nodes::layout::CELL_LIMIT;
 use nodes::layout::Layout;
 use nodes::pointer::Pointer;
 use nodes::pointer::pointer_of;
@@ -19,7 +20,7 @@ use nodes::split::is_valid_head;
 use nodes::split::is_valid_table;
 
 // Gives a cell the stamp; refused where the cell has it already.
-pub fn stamp_cell(stamps: &mut [u8; 2048], stamp: u8, number: usize) -> bool
+pub fn stamp_cell(stamps: &mut [u8; CELL_LIMIT], stamp: u8, number: usize) -> bool
     requires { ⌜ number < 2048 ⌝ }
     ensures { λ r. ⌜ Judged (some (number ∷ [])) stamp (now (stamps .entry)) (now (stamps .exit)) r ⌝ }
 {
@@ -34,7 +35,7 @@ pub fn stamp_cell(stamps: &mut [u8; 2048], stamp: u8, number: usize) -> bool
 fn stamp_chain(
     layout: Layout,
     block: &[u8],
-    stamps: &mut [u8; 2048],
+    stamps: &mut [u8; CELL_LIMIT],
     stamp: u8,
     number: usize,
 ) -> bool
@@ -52,7 +53,7 @@ fn stamp_chain(
 fn stamp_sparse(
     layout: Layout,
     block: &[u8],
-    stamps: &mut [u8; 2048],
+    stamps: &mut [u8; CELL_LIMIT],
     stamp: u8,
     number: usize,
 ) -> bool
@@ -66,7 +67,13 @@ fn stamp_sparse(
 }
 
 // Visits the end that a word of a mid names.
-fn stamp_end(layout: Layout, block: &[u8], stamps: &mut [u8; 2048], stamp: u8, word: u32) -> bool
+fn stamp_end(
+    layout: Layout,
+    block: &[u8],
+    stamps: &mut [u8; CELL_LIMIT],
+    stamp: u8,
+    word: u32,
+) -> bool
     requires { ⌜ (layout .cells ≤ 2048) × (layout .cells * 32 ≤ length (now block)) ⌝ }
     ensures { λ r. ⌜ Judged (under (endCells layout (memoryOf (now (block .entry)))) word) stamp (now (stamps .entry)) (now (stamps .exit)) r ⌝ }
 {
@@ -86,7 +93,7 @@ fn stamp_end(layout: Layout, block: &[u8], stamps: &mut [u8; 2048], stamp: u8, w
 fn stamp_ends(
     layout: Layout,
     block: &[u8],
-    stamps: &mut [u8; 2048],
+    stamps: &mut [u8; CELL_LIMIT],
     stamp: u8,
     number: usize,
 ) -> bool
@@ -105,7 +112,13 @@ fn stamp_ends(
 }
 
 // Visits the mid that a word of a head names, and its ends.
-fn stamp_mid(layout: Layout, block: &[u8], stamps: &mut [u8; 2048], stamp: u8, word: u32) -> bool
+fn stamp_mid(
+    layout: Layout,
+    block: &[u8],
+    stamps: &mut [u8; CELL_LIMIT],
+    stamp: u8,
+    word: u32,
+) -> bool
     requires { ⌜ (layout .cells ≤ 2048) × (layout .cells * 32 ≤ length (now block)) ⌝ }
     ensures { λ r. ⌜ Judged (under (midCells layout (memoryOf (now (block .entry)))) word) stamp (now (stamps .entry)) (now (stamps .exit)) r ⌝ }
 {
@@ -128,7 +141,7 @@ fn stamp_mid(layout: Layout, block: &[u8], stamps: &mut [u8; 2048], stamp: u8, w
 fn stamp_mids(
     layout: Layout,
     block: &[u8],
-    stamps: &mut [u8; 2048],
+    stamps: &mut [u8; CELL_LIMIT],
     stamp: u8,
     number: usize,
 ) -> bool
@@ -150,7 +163,7 @@ fn stamp_mids(
 fn stamp_split(
     layout: Layout,
     block: &[u8],
-    stamps: &mut [u8; 2048],
+    stamps: &mut [u8; CELL_LIMIT],
     stamp: u8,
     number: usize,
 ) -> bool
@@ -170,7 +183,7 @@ fn stamp_split(
 pub fn stamp_node(
     layout: Layout,
     block: &[u8],
-    stamps: &mut [u8; 2048],
+    stamps: &mut [u8; CELL_LIMIT],
     stamp: u8,
     word: u32,
 ) -> bool

@@ -10,6 +10,7 @@ use crate::stamps::stamp_cell;
 use crate::stamps::stamp_node;
 use cells::cell;
 use cells::word_at;
+use nodes::layout::CELL_LIMIT;
 use nodes::layout::Layout;
 use nodes::pointer::Pointer;
 use nodes::pointer::pointer_of;
@@ -21,7 +22,7 @@ use nodes::sparse::sparse_position;
 fn node_check(
     layout: Layout,
     block: &[u8],
-    stamps: &mut [u8; 2048],
+    stamps: &mut [u8; CELL_LIMIT],
     stamp: u8,
     word: u32,
     depth: usize,
@@ -62,7 +63,7 @@ fn node_check(
 fn split_check(
     layout: Layout,
     block: &[u8],
-    stamps: &mut [u8; 2048],
+    stamps: &mut [u8; CELL_LIMIT],
     stamp: u8,
     at: usize,
     count: usize,
@@ -98,7 +99,7 @@ fn split_check(
 fn child_check(
     layout: Layout,
     block: &[u8],
-    stamps: &mut [u8; 2048],
+    stamps: &mut [u8; CELL_LIMIT],
     stamp: u8,
     word: u32,
     depth: usize,
@@ -132,7 +133,7 @@ fn child_check(
 pub fn root_check(
     layout: Layout,
     block: &[u8],
-    stamps: &mut [u8; 2048],
+    stamps: &mut [u8; CELL_LIMIT],
     stamp: u8,
     word: u32,
 ) -> bool
