@@ -8,19 +8,21 @@ use cells::word_at;
 use store::formatting::format;
 use store::inserting::insert;
 
+// Enters a label into a fresh block of four cells and writes the root.
+fn label_root(name: &[u8], label: &[u8]) {
+    let mut block = [0u8; 128];
+    format(&mut block);
+    insert(&mut block, label, 0);
+    print::word(name, word_at(&block, 96));
+}
+
 // Labels of 28, 29, 48 and 49 bytes in a fresh block of four cells.
 pub fn labels() {
     let label = [0x41u8; 49];
+    label_root(b"28 bytes root ", &label[..28]);
+    label_root(b"29 bytes root ", &label[..29]);
+    label_root(b"48 bytes root ", &label[..48]);
     let mut block = [0u8; 128];
-    format(&mut block);
-    insert(&mut block, &label[..28], 0);
-    print::word(b"28 bytes root ", word_at(&block, 96));
-    format(&mut block);
-    insert(&mut block, &label[..29], 0);
-    print::word(b"29 bytes root ", word_at(&block, 96));
-    format(&mut block);
-    insert(&mut block, &label[..48], 0);
-    print::word(b"48 bytes root ", word_at(&block, 96));
     format(&mut block);
     print::number(
         b"49 bytes answer ",
