@@ -50,21 +50,21 @@ module _ (before : List ℕ) (size : ℕ) where
       }
 
   -- a key in 48 bytes, zero past it
-  module _ (whole : length before ≡ 48) (room : size ≤ 48) where
+  module _ (whole : length before ≡ keyLimit) (room : size ≤ keyLimit) where
     pub key-size : length (take size before) ≡ size
     key-size = length-take-le size before (omega arith)
 
-    padded-length : length (padded (take size before)) ≡ 48
-    unfolding padded keyLimit
+    padded-length : length (padded (take size before)) ≡ keyLimit
+    unfolding padded
     padded-length =
-        length-take-le 48 (take size before ++ zeros 48)
-        (omega (arith, length-append (take size before) (zeros 48), zeros-length 48))
+        length-take-le keyLimit (take size before ++ zeros keyLimit)
+        (omega (arith, length-append (take size before) (zeros keyLimit), zeros-length keyLimit))
 
-    padded-at : (k : ℕ) → k < 48 → getD (padded (take size before)) k 0 ≡ getD (take size before) k 0
-    unfolding padded keyLimit
-    padded-at k h = getD-take 48 (take size before ++ zeros 48) k 0 h ∙ padded-byte (take size before) 48 k
+    padded-at : (k : ℕ) → k < keyLimit → getD (padded (take size before)) k 0 ≡ getD (take size before) k 0
+    unfolding padded
+    padded-at k h = getD-take keyLimit (take size before ++ zeros keyLimit) k 0 h ∙ padded-byte (take size before) keyLimit k
 
-    pub cleared-padded : (i : ℕ) (bytes : List ℕ) → 48 ≤ i → Cleared before size i bytes → bytes ≡ padded (take size before)
+    pub cleared-padded : (i : ℕ) (bytes : List ℕ) → keyLimit ≤ i → Cleared before size i bytes → bytes ≡ padded (take size before)
     cleared-padded i bytes ends c = ext-getD 0 bytes (padded (take size before)) (c .long ∙ whole ∙ sym padded-length) byte
       where
         byte : (k : ℕ) → k < length bytes → getD bytes k 0 ≡ getD (padded (take size before)) k 0

@@ -2,7 +2,7 @@
 -- its condition.
 use mathlib.Core.Path.{_≡_, refl, sym, ap, _∙_, subst}
 use mathlib.Core.Logic.{_≢_, _⊎_, ⊎-elim, _↔_}
-use mathlib.Core.Bool.{Bool, true, false, not}
+use mathlib.Core.Bool.{Bool, true, false, not, cond}
 use mathlib.Core.List.{List, [], _++_}
 use mathlib.Core.Option.{Option, none, some}
 use Prim.Native.Nat.{ℕ, _≤_}
@@ -11,7 +11,6 @@ use lib.Dec.{eqb}
 use lib.ListN.{length, take}
 use lib.Seq.{take-take, take-append-le, take-length}
 use borrow.Author.Tests.{eq-eqb, ne-eqb, not-true, not-false}
-use Rattle.cells.specs.Choice.{pick}
 use Rattle.cells.specs.Bytes.{zeros}
 use Rattle.cells.specs.Memory.{memoryOf}
 use Rattle.cells.proofs.Choice.{never, absurd-bool, absurd-false}
@@ -45,10 +44,10 @@ pub exactly : {answer number k : ℕ} {C D : Type 0} → answer ≡ number → E
 exactly same x there back = record { only = λ e. there (x .only (sym same ∙ e)); given = λ d. same ∙ x .given (back d) }
 
 -- what is beside an answer is chosen by whether that is 0
-pub chosen-done : {A : Type 0} (n : ℕ) (done other : A) → n ≡ 0 → pick (eqb n 0) done other ≡ done
+pub chosen-done : {A : Type 0} (n : ℕ) (done other : A) → n ≡ 0 → cond (eqb n 0) done other ≡ done
 chosen-done n done other e = rw (eq-eqb n 0 e)
 
-pub chosen-no : {A : Type 0} (n : ℕ) (done other : A) → n ≢ 0 → pick (eqb n 0) done other ≡ other
+pub chosen-no : {A : Type 0} (n : ℕ) (done other : A) → n ≢ 0 → cond (eqb n 0) done other ≡ other
 chosen-no n done other e = rw (ne-eqb n 0 e)
 
 -- a value is missing or there
@@ -114,7 +113,7 @@ module _ (b key : List ℕ) where
   unfolding get
   get-number = refl
 
-  get-value : get b key .value ≡ pick (eqb (firstRefusal (getRefusals b key)) 0) (valueOr (shown b key)) 0
+  get-value : get b key .value ≡ cond (eqb (firstRefusal (getRefusals b key)) 0) (valueOr (shown b key)) 0
   unfolding get
   get-value = refl
 
@@ -168,7 +167,7 @@ pub record NextTable (b key : List ℕ) (r : Next) : Type 0 where
   pub bad-key : Exactly (r .answer) 3 ((badSize b ≡ false) × ((sound b ≡ true) × (overLong key ≡ true)))
   pub absent : Exactly (r .answer) 11 (Asked b (overLong key) × ((k : List ℕ) → keyBefore key k ≡ true → shown b k ≡ none))
   pub found : (k : List ℕ) → r ≡ record { answer = 0; size = length k; key = padded k } ↔ Asked b (overLong key) × LeastAbove b key k
-  pub zero : r .answer ≢ 0 → (r .size ≡ 0) × (r .key ≡ zeros 48)
+  pub zero : r .answer ≢ 0 → (r .size ≡ 0) × (r .key ≡ zeros keyLimit)
 
 -- a key no longer than the limit is read back from its 48 bytes
 padded-back : (k : List ℕ) → length k ≤ keyLimit → take (length k) (padded k) ≡ k
@@ -178,8 +177,8 @@ padded-back k fits =
     ∙ take-append-le (length k) k (zeros keyLimit) (omega arith)
     ∙ take-length k
 
-padded-none : padded [] ≡ zeros 48
-unfolding padded zeros keyLimit
+padded-none : padded [] ≡ zeros keyLimit
+unfolding padded zeros
 padded-none = refl
 
 key-is : (o : Option Entry) (e : Entry) → o ≡ some e → keyOr o ≡ e .key
@@ -224,7 +223,7 @@ module _ (b key : List ℕ) (valid : sound b ≡ true) where
 module _ (b key : List ℕ) where
   -- the key beside the answer, before it is padded
   abbrev besideKey : List ℕ
-  besideKey = pick (eqb (firstRefusal (nextRefusals b key)) 0) (keyOr (nextEntry key (shownEntries b))) []
+  besideKey = cond (eqb (firstRefusal (nextRefusals b key)) 0) (keyOr (nextEntry key (shownEntries b))) []
 
   next-number : nextKey b key .answer ≡ firstRefusal (nextRefusals b key)
   unfolding nextKey
@@ -262,7 +261,7 @@ module _ (b key : List ℕ) where
       ∙ key-is (nextEntry key (shownEntries b)) (n .0) (n .1 .0) ∙ n .1 .1 in
       next-parts ∙ (λ i. record { answer = zero i; size = length (beside i); key = padded (beside i) })
 
-  next-zero : nextKey b key .answer ≢ 0 → (nextKey b key .size ≡ 0) × (nextKey b key .key ≡ zeros 48)
+  next-zero : nextKey b key .answer ≢ 0 → (nextKey b key .size ≡ 0) × (nextKey b key .key ≡ zeros keyLimit)
   next-zero n =
       let beside : besideKey ≡ [] =
       chosen-no (firstRefusal (nextRefusals b key)) (keyOr (nextEntry key (shownEntries b))) [] (λ e. n (next-number ∙ e)) in (

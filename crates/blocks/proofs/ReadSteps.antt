@@ -9,7 +9,7 @@ use lib.ListN.{length}
 use borrow.Author.Tests.{not-false}
 use Rattle.cells.specs.Memory.{memoryOf}
 use Rattle.cells.specs.Occurrences.{occurrences}
-use Rattle.nodes.specs.Layout.{Layout, keyLimit}
+use Rattle.nodes.specs.Layout.{Layout, keyLimit, cellLimit}
 use Rattle.trees.specs.Tree.{tree}
 use Rattle.trees.specs.Lookup.{lookup}
 use Rattle.trees.specs.Coded.{Grown}
@@ -47,7 +47,7 @@ module _ (b : List ℕ) (done : validate b ≡ 0) where
     pub block-fits : Fits layout (length b)
     block-fits = layout-fits b layout block-size e
 
-    pub block-room : (layout .cells * 32 ≤ length b) × (layout .cells ≤ 2048)
+    pub block-room : (layout .cells * 32 ≤ length b) × (layout .cells ≤ cellLimit)
     block-room = (omega (arith, block-fits .whole), block-fits .most)
 
     module _ (word : ℕ) (is : word ≡ rootWord layout b) where

@@ -3,18 +3,17 @@ use mathlib.Core.Path.{_≡_, refl, sym, ap, _∙_, subst}
 use mathlib.Core.Logic.{_≢_}
 use mathlib.Core.Bool.{Bool, true, false, _&&_}
 use mathlib.Core.List.{List, [], _∷_}
-use mathlib.Core.Option.{Option, none, some}
+use mathlib.Core.Option.{Option, none, some, bind}
 use Prim.Native.Nat.{ℕ, suc, _+_, _-_, _≤_, _<_}
 use native.Mathlib.Decide.{decLe}
 use native.Mathlib.Omega.{arith}
 use lib.ListN.{length, getD}
 use Rattle.cells.specs.Bytes.{zeros}
-use Rattle.cells.specs.Choice.{bind}
 use Rattle.cells.specs.Memory.{memoryOf}
 use Rattle.cells.specs.Occurrences.{occurrences, all}
 use Rattle.cells.proofs.Choice.{never, bound, absurd-false}
 use Rattle.cells.proofs.Words.{zeros-length, zeros-byte}
-use Rattle.nodes.specs.Layout.{Layout, usable, keyLimit}
+use Rattle.nodes.specs.Layout.{Layout, usable, keyLimit, cellLimit}
 use Rattle.nodes.specs.Pointer.{pointer}
 use Rattle.nodes.proofs.Pointers.{usable-inside}
 use Rattle.trees.specs.Root.{isRoot, rootTree, onceVisited, validRoot, cellsOf, rootCells}
@@ -70,19 +69,19 @@ module _ (layout : Layout) (b : List ℕ) (word stamp : ℕ) (before after : Lis
 
 -- the roots before are valid and have stamps below the next one; those left decide
 pub record Walked (layout : Layout) (b : List ℕ) (left : List ℕ) (stamp : ℕ) (stamps : List ℕ) : Type 0 where
-  pub size : length stamps ≡ 2048
+  pub size : length stamps ≡ cellLimit
   pub verdict : all (validRoot layout (memoryOf b)) (roots layout b) ≡ all (validRoot layout (memoryOf b)) left
   pub clear : (c : ℕ) → getD stamps c 0 ≡ 0 → occurrences c (reachedFrom layout (memoryOf b) left) ≡ 0 → occurrences c (reachable layout b) ≡ 0
   pub unreached : (c : ℕ) → occurrences c (reachable layout b) ≡ 0 → (getD stamps c 0 ≡ 0) × (occurrences c (reachedFrom layout (memoryOf b) left) ≡ 0)
   pub fresh : (c : ℕ) → getD stamps c 0 < stamp
 
 module _ (layout : Layout) (b : List ℕ) where
-  pub walk-starts : (stamps : List ℕ) → stamps ≡ zeros 2048 → Walked layout b (rootWord layout b ∷ slotRoots layout b (slots layout) 1) 1 stamps
+  pub walk-starts : (stamps : List ℕ) → stamps ≡ zeros cellLimit → Walked layout b (rootWord layout b ∷ slotRoots layout b (slots layout) 1) 1 stamps
   unfolding roots
   walk-starts stamps e =
-      let empty : (c : ℕ) → getD stamps c 0 ≡ 0 = λ c. ap (λ (l : List ℕ). getD l c 0) e ∙ zeros-byte 2048 c in
+      let empty : (c : ℕ) → getD stamps c 0 ≡ 0 = λ c. ap (λ (l : List ℕ). getD l c 0) e ∙ zeros-byte cellLimit c in
       record {
-        size = ap length e ∙ zeros-length 2048;
+        size = ap length e ∙ zeros-length cellLimit;
         verdict = refl;
         clear = λ c z away. away;
         unreached = λ c away. (empty c, away);
@@ -94,7 +93,7 @@ module _ (layout : Layout) (b : List ℕ) where
   walk-skips left stamp stamps w =
       record { size = w .size; verdict = w .verdict; clear = w .clear; unreached = w .unreached; fresh = λ c. omega (arith, w .fresh c) }
 
-  module _ (word : ℕ) (left : List ℕ) (stamp : ℕ) (before after : List ℕ) (passed : Bool) (room : layout .cells ≤ 2048)
+  module _ (word : ℕ) (left : List ℕ) (stamp : ℕ) (before after : List ℕ) (passed : Bool) (room : layout .cells ≤ cellLimit)
       (walked : Walked layout b (word ∷ left) stamp before) (judged : Judged (rootTree layout (memoryOf b) word) stamp before after passed) where
     inside : layout .cells ≤ length before
     inside = omega (arith, walked .size)
@@ -143,8 +142,8 @@ module _ (layout : Layout) (b : List ℕ) where
         }
 
 -- the first root
-module _ (layout : Layout) (b : List ℕ) (word : ℕ) (stamps after : List ℕ) (passed : Bool) (room : layout .cells ≤ 2048)
-    (is : word ≡ rootWord layout b) (empty : stamps ≡ zeros 2048) (judged : Judged (rootTree layout (memoryOf b) word) 1 stamps after passed) where
+module _ (layout : Layout) (b : List ℕ) (word : ℕ) (stamps after : List ℕ) (passed : Bool) (room : layout .cells ≤ cellLimit)
+    (is : word ≡ rootWord layout b) (empty : stamps ≡ zeros cellLimit) (judged : Judged (rootTree layout (memoryOf b) word) 1 stamps after passed) where
   first-walk : Walked layout b (word ∷ slotRoots layout b (slots layout) 1) 1 stamps
   first-walk = subst (λ (w : ℕ). Walked layout b (w ∷ slotRoots layout b (slots layout) 1) 1 stamps) (sym is) (walk-starts layout b stamps empty)
 
@@ -172,7 +171,7 @@ module _ (layout : Layout) (b : List ℕ) where
       let cells : slotTree layout b slot ≡ rootTree layout (memoryOf b) word = rw (on, e) in
       judged-same (slotTree layout b slot) stamp before after (rootTree layout (memoryOf b) word) passed cells judged
 
-  module _ (left rest slot stamp : ℕ) (before after : List ℕ) (passed : Bool) (room : layout .cells ≤ 2048) (more : left ≡ rest + 1)
+  module _ (left rest slot stamp : ℕ) (before after : List ℕ) (passed : Bool) (room : layout .cells ≤ cellLimit) (more : left ≡ rest + 1)
       (walked : Walked layout b (slotRoots layout b left slot) stamp before) (judged : Judged (slotTree layout b slot) stamp before after passed) where
     one-more : left ≡ suc rest
     one-more = omega arith

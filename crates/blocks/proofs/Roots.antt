@@ -12,7 +12,7 @@ use Rattle.cells.specs.Memory.{Memory, memoryOf}
 use Rattle.cells.specs.Occurrences.{occurrences, all}
 use Rattle.cells.proofs.Choice.{absurd-bool, absurd-false, both, both-left, both-right, all-join, all-head, all-tail}
 use Rattle.cells.proofs.Occurrences.{occurrences-none, occurrences-append, distinct-most, most-distinct, Agree}
-use Rattle.nodes.specs.Layout.{Layout, usable, keyLimit}
+use Rattle.nodes.specs.Layout.{Layout, usable, keyLimit, cellLimit}
 use Rattle.nodes.specs.Pointer.{Pointer, pointer}
 use Rattle.nodes.specs.Pointer.Pointer.{nothing, leaf, chain, split, sparse, prefix, invalid}
 use Rattle.nodes.proofs.Pointers.{names, usable-inside, pointer-zero}
@@ -66,7 +66,7 @@ module _ (layout : Layout) (m : Memory) (word : ℕ) where
     root-cells = ap cellsOf (root-tree root ∙ found)
 
 -- the word of a root is below 2^32
-root-small : (layout : Layout) (word : ℕ) → layout .cells ≤ 2048 → (p : Pointer) → pointer layout word ≡ p → isRoot p ≡ true → word < 4294967296
+root-small : (layout : Layout) (word : ℕ) → layout .cells ≤ cellLimit → (p : Pointer) → pointer layout word ≡ p → isRoot p ≡ true → word < 4294967296
 unfolding isRoot
 root-small layout word small nothing named root = omega (arith, names layout word nothing named)
 root-small layout word small (leaf v) named root = absurd-false root
@@ -79,7 +79,7 @@ root-small layout word small (sparse c) named root =
 root-small layout word small (prefix c) named root = absurd-false root
 root-small layout word small invalid named root = absurd-false root
 
-pub root-bound : (layout : Layout) (word : ℕ) → layout .cells ≤ 2048 → isRoot (pointer layout word) ≡ true → word < 4294967296
+pub root-bound : (layout : Layout) (word : ℕ) → layout .cells ≤ cellLimit → isRoot (pointer layout word) ≡ true → word < 4294967296
 root-bound layout word small root = root-small layout word small (pointer layout word) refl root
 
 -- NONE is a root that reaches nothing
@@ -100,7 +100,7 @@ pub record RootKept (layout : Layout) (m m′ : Memory) (word : ℕ) : Type 0 wh
   pub cells : rootCells layout m′ word ≡ rootCells layout m word
   pub table : (key : List ℕ) → lookup layout m′ word key ≡ lookup layout m word key
 
-module _ (layout : Layout) (small : layout .cells ≤ 2048) (m m′ : Memory) (bytes : (c : ℕ) → IsBytes (m c)) (word : ℕ)
+module _ (layout : Layout) (small : layout .cells ≤ cellLimit) (m m′ : Memory) (bytes : (c : ℕ) → IsBytes (m c)) (word : ℕ)
     (valid : validRoot layout m word ≡ true) where
   pub root-kept : Agree m m′ (rootCells layout m word) → RootKept layout m m′ word
   root-kept agree =

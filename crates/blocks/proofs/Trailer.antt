@@ -14,7 +14,7 @@ use Rattle.cells.specs.Memory.{memoryOf}
 use Rattle.cells.proofs.Choice.{absurd-bool, absurd-false, both, both-left, both-right}
 use Rattle.cells.proofs.Words.{word-agree}
 use Rattle.cells.proofs.Memory.{memory-byte, memory-alike}
-use Rattle.nodes.specs.Layout.{Layout}
+use Rattle.nodes.specs.Layout.{Layout, cellLimit}
 use Rattle.blocks.specs.Trailer.{badSize, trailerAt, layoutOf, rootWord, slots, validSlot, slotAt, slotWord, bitsAt, slotBit, inUse, everySlot, idleIsZero, validTrailer}
 
 -- two tests fail together just where each of them does
@@ -39,7 +39,7 @@ either-join false b h = h refl
 pub record Sized (b : List ℕ) : Type 0 where
   pub whole : length b ≡ layoutOf b .cells * 32
   pub least : 4 ≤ layoutOf b .cells
-  pub most : layoutOf b .cells ≤ 2048
+  pub most : layoutOf b .cells ≤ cellLimit
 
 pub layout-cells : (b : List ℕ) → layoutOf b .cells ≡ length b / 32
 unfolding layoutOf
@@ -51,7 +51,7 @@ sized b good =
     let parts : not (eqb (length b % 32) 0) || ltb (length b / 32) 4 ≡ false = either-left _ _ good in
     let rest : length b % 32 ≡ 0 = eqb-true _ 0 (not-false _ (either-left _ _ parts)) in
     let low : 4 ≤ length b / 32 = ltb-false _ _ (either-right (not (eqb (length b % 32) 0)) _ parts) in
-    let high : length b / 32 ≤ 2048 = ltb-false _ _ (either-right (not (eqb (length b % 32) 0) || ltb (length b / 32) 4) _ good) in
+    let high : length b / 32 ≤ cellLimit = ltb-false _ _ (either-right (not (eqb (length b % 32) 0) || ltb (length b / 32) 4) _ good) in
     record {
       whole = omega (arith, layout-cells b, rest);
       least = omega (arith, layout-cells b, low);

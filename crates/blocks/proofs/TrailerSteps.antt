@@ -13,7 +13,7 @@ use lib.Pow.{pow-pos}
 use borrow.Author.Tests.{eq-eqb, ne-eqb, lt-ltb, le-ltb, lt-leb, le-leb}
 use Rattle.cells.specs.Word.{wordAt}
 use Rattle.cells.proofs.Choice.{both}
-use Rattle.nodes.specs.Layout.{Layout}
+use Rattle.nodes.specs.Layout.{Layout, cellLimit}
 use Rattle.blocks.specs.Trailer.{badSize, layoutOf, slots, validSlot, slotWord, trailerOf, trailerAt, inUse, everySlot, idleIsZero, validTrailer}
 use Rattle.blocks.specs.Fits.{Fits}
 use Rattle.blocks.proofs.Trailer.{sized, layout-cells, slot-low, slot-high, slots-three, every-slot, TrailerParts, trailer-parts}
@@ -28,7 +28,7 @@ module _ (b : List ℕ) where
   unfolding badSize
   size-small e h = rw (eq-eqb (length b % 32) 0 e, lt-ltb (length b / 32) 4 h)
 
-  pub size-other : length b % 32 ≡ 0 → 4 ≤ length b / 32 → badSize b ≡ ltb 2048 (length b / 32)
+  pub size-other : length b % 32 ≡ 0 → 4 ≤ length b / 32 → badSize b ≡ ltb cellLimit (length b / 32)
   unfolding badSize
   size-other e h = rw (eq-eqb (length b % 32) 0 e, le-ltb (length b / 32) 4 h)
 
@@ -42,7 +42,7 @@ pub layout-is : (b : List ℕ) (edition : ℕ) → edition ≡ wordAt b (trailer
 unfolding layoutOf
 layout-is b edition e = ap (λ (n : ℕ). record { edition = n; cells = length b / 32 }) e
 
-pub size-facts : (b : List ℕ) → badSize b ≡ false → (length b ≡ length b / 32 * 32) × (4 ≤ length b / 32) × (length b / 32 ≤ 2048)
+pub size-facts : (b : List ℕ) → badSize b ≡ false → (length b ≡ length b / 32 * 32) × (4 ≤ length b / 32) × (length b / 32 ≤ cellLimit)
 size-facts b good =
     let s = sized b good in
     (omega (arith, layout-cells b, s .whole), omega (arith, layout-cells b, s .least), omega (arith, layout-cells b, s .most))

@@ -1,11 +1,10 @@
 -- The calls that only read: validation, look-up, the next key. 01: "A no returns zeros beside its number."
-use mathlib.Core.Bool.{Bool, true, false, not}
+use mathlib.Core.Bool.{Bool, true, false, not, cond}
 use mathlib.Core.List.{List, [], _∷_, _++_}
 use mathlib.Core.Option.{Option, none, some}
 use Prim.Native.Nat.{ℕ}
 use lib.Dec.{eqb}
 use lib.ListN.{length, take}
-use Rattle.cells.specs.Choice.{pick}
 use Rattle.cells.specs.Bytes.{zeros}
 use Rattle.cells.specs.Memory.{memoryOf}
 use Rattle.nodes.specs.Layout.{keyLimit}
@@ -47,7 +46,7 @@ getRefusals block key = blockRefusals block ++ (refusal 3 (badKey key) ∷ refus
 unfoldable pub get : List ℕ → List ℕ → Found
 get block key =
     let answer = firstRefusal (getRefusals block key) in
-    record { answer = answer; value = pick (eqb answer 0) (valueOr (shown block key)) 0 }
+    record { answer = answer; value = cond (eqb answer 0) (valueOr (shown block key)) 0 }
 
 -- the pairs that the root shows, in order
 abbrev pub shownEntries : List ℕ → List Entry
@@ -74,5 +73,5 @@ nextRefusals block key = blockRefusals block ++ (refusal 3 (overLong key) ∷ re
 unfoldable pub nextKey : List ℕ → List ℕ → Next
 nextKey block key =
     let answer = firstRefusal (nextRefusals block key) in
-    let found = pick (eqb answer 0) (keyOr (nextEntry key (shownEntries block))) [] in
+    let found = cond (eqb answer 0) (keyOr (nextEntry key (shownEntries block))) [] in
     record { answer = answer; size = length found; key = padded found }

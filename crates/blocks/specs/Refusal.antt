@@ -1,10 +1,9 @@
 -- 01: "The lowest number that applies to the call is given."
-use mathlib.Core.Bool.{Bool, _||_}
+use mathlib.Core.Bool.{Bool, _||_, cond}
 use mathlib.Core.List.{List, [], _∷_}
 use Prim.Native.Nat.{ℕ}
 use lib.Dec.{ltb, eqb}
 use lib.ListN.{length}
-use Rattle.cells.specs.Choice.{pick}
 use Rattle.nodes.specs.Layout.{keyLimit}
 
 -- a number of 01's table and whether its situation is there
@@ -18,7 +17,7 @@ refusal number applies = record { number = number; applies = applies }
 -- the number of the first that applies, 0 where none does
 unfoldable pub firstRefusal : List Refusal → ℕ
 firstRefusal [] = 0
-firstRefusal (r ∷ rs) = let later = firstRefusal rs in pick (r .applies) (r .number) later
+firstRefusal (r ∷ rs) = let later = firstRefusal rs in cond (r .applies) (r .number) later
 
 -- a call's answer number and the block that it leaves
 pub record Changed : Type 0 where
@@ -35,7 +34,7 @@ pub record Inserted : Type 0 where
 abbrev pub changedBy : List Refusal → List ℕ → List ℕ → Changed
 changedBy refusals block new =
     let answer = firstRefusal refusals in
-    record { answer = answer; block = pick (eqb answer 0) new block }
+    record { answer = answer; block = cond (eqb answer 0) new block }
 
 -- 01, answer 3: "label empty (but not for the next label) or over 48"
 unfoldable pub overLong : List ℕ → Bool

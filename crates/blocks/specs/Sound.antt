@@ -1,8 +1,7 @@
 -- 01: "A book is sound when its trailer, the root's tree and each held mark's tree obey all this."
-use mathlib.Core.Bool.{Bool, _&&_}
+use mathlib.Core.Bool.{Bool, _&&_, cond}
 use mathlib.Core.List.{List, [], _∷_, _++_}
 use Prim.Native.Nat.{ℕ, zero, suc, _+_}
-use Rattle.cells.specs.Choice.{pick}
 use Rattle.cells.specs.Memory.{Memory, memoryOf}
 use Rattle.cells.specs.Occurrences.{all}
 use Rattle.nodes.specs.Layout.{Layout}
@@ -14,7 +13,7 @@ unfoldable pub slotRoots : Layout → List ℕ → ℕ → ℕ → List ℕ
 slotRoots layout block zero slot = []
 slotRoots layout block (suc count) slot =
     let later = slotRoots layout block count (slot + 1) in
-    pick (inUse layout block slot) (slotWord layout block slot ∷ later) later
+    cond (inUse layout block slot) (slotWord layout block slot ∷ later) later
 
 -- the root, then the snapshots in use
 unfoldable pub roots : Layout → List ℕ → List ℕ

@@ -5,11 +5,11 @@ use Prim.Native.Nat.{ℕ, zero, suc, _+_, _-_, _*_, _/_, _%_, _^_}
 use lib.Dec.{leb, ltb, eqb}
 use lib.ListN.{length, getD}
 use Rattle.cells.specs.Word.{wordAt}
-use Rattle.nodes.specs.Layout.{Layout}
+use Rattle.nodes.specs.Layout.{Layout, cellLimit}
 
 -- 01, answer 1: "length no multiple of 32, or n outside 4 to 2,048"
 unfoldable pub badSize : List ℕ → Bool
-badSize block = not (eqb (length block % 32) 0) || ltb (length block / 32) 4 || ltb 2048 (length block / 32)
+badSize block = not (eqb (length block % 32) 0) || ltb (length block / 32) 4 || ltb cellLimit (length block / 32)
 
 -- where the trailer of so many cells begins
 abbrev pub trailerOf : ℕ → ℕ

@@ -1,7 +1,7 @@
 // What the calls answer.
 ghost use mathlib.Core.Path.{_≡_};
 ghost use Rattle.blocks.specs.Answers.{refusalNumber};
-use trees::KEY_LIMIT;
+use nodes::layout::KEY_LIMIT;
 
 // Why a call did nothing, in the order of the answer numbers.
 pub enum Refusal {

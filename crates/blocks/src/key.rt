@@ -1,7 +1,7 @@
 // What a key may be.
 ghost use mathlib.Core.Path.{_≡_};
 ghost use Rattle.blocks.specs.Refusal.{badKey, overLong};
-use trees::KEY_LIMIT;
+use nodes::layout::KEY_LIMIT;
 
 // Whether a key has more bytes than a key may have.
 pub fn is_over_long(key: &[u8]) -> bool

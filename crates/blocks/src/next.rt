@@ -2,6 +2,7 @@
 ghost use mathlib.Core.Path.{_≡_};
 ghost use Prim.Native.Nat.{_≤_};
 ghost use lib.ListN.{length, take};
+ghost use Rattle.nodes.specs.Layout.{keyLimit};
 ghost use Rattle.blocks.specs.Answers.{refusalNumber, nextOutcome, refusedNext};
 ghost use Rattle.blocks.specs.Read.{padded, nextKey};
 use crate::answer::ChangeAnswer;
@@ -11,7 +12,7 @@ use crate::key::is_over_long;
 use crate::trailer_fields::layout_of;
 use crate::trailer_fields::root_word;
 use crate::validate::validate;
-use trees::KEY_LIMIT;
+use nodes::layout::KEY_LIMIT;
 use trees::next_key::next_after;
 
 // The answer that gives no key.
@@ -27,12 +28,12 @@ fn refused_next(refusal: Refusal) -> NextAnswer
 
 // The 48 bytes of a key that stands in the first of them, zero past it.
 fn padded_key(bytes: [u8; KEY_LIMIT], size: usize) -> [u8; KEY_LIMIT]
-    requires { ⌜ size ≤ 48 ⌝ }
+    requires { ⌜ size ≤ keyLimit ⌝ }
     ensures { λ r. ⌜ (length (take size bytes) ≡ size) × (r ≡ padded (take size bytes)) ⌝ }
 {
     let mut key = bytes;
     let mut i = size;
-    while i < 48 {
+    while i < KEY_LIMIT {
         key[i] = 0;
         i += 1;
     }

@@ -5,6 +5,7 @@ ghost use Prim.Native.Nat.{_≤_};
 ghost use lib.ListN.{length};
 ghost use Rattle.blocks.specs.Trailer.{badSize, layoutOf, rootWord, slots, validSlot, slotWord, inUse, everySlot, idleIsZero, validTrailer, trailerAt, slotAt};
 ghost use Rattle.blocks.specs.Fits.{Fits};
+ghost use Rattle.nodes.specs.Layout.{cellLimit};
 use cells::word_at;
 use nodes::layout::Layout;
 
@@ -20,12 +21,12 @@ pub fn is_bad_size(block: &[u8]) -> bool
     if cells < 4 {
         return true;
     }
-    2048 < cells
+    CELL_LIMIT < cells
 }
 
 // Where the trailer begins.
 pub fn trailer_at(layout: Layout) -> usize
-    requires { ⌜ (1 ≤ layout .cells) × (layout .cells ≤ 2048) ⌝ }
+    requires { ⌜ (1 ≤ layout .cells) × (layout .cells ≤ cellLimit) ⌝ }
     ensures { λ r. ⌜ r ≡ trailerAt layout ⌝ }
 {
     (layout.cells - 1) * 32
@@ -68,7 +69,7 @@ pub fn is_valid_slot(layout: Layout, slot: usize) -> bool
 
 // Where the word of a slot stands.
 pub fn slot_at(layout: Layout, slot: usize) -> usize
-    requires { ⌜ (1 ≤ layout .cells) × (layout .cells ≤ 2048) × (validSlot layout slot ≡ true) ⌝ }
+    requires { ⌜ (1 ≤ layout .cells) × (layout .cells ≤ cellLimit) × (validSlot layout slot ≡ true) ⌝ }
     ensures { λ r. ⌜ r ≡ slotAt layout slot ⌝ }
 {
     trailer_at(layout) + 4 * slot

@@ -10,6 +10,7 @@ ghost use Rattle.blocks.specs.Fits.{Fits};
 ghost use Rattle.blocks.specs.Read.{validate};
 ghost use Rattle.blocks.specs.Stamps.{slotTree, Validated};
 ghost use Rattle.blocks.specs.Trailer.{validSlot};
+ghost use Rattle.nodes.specs.Layout.{cellLimit};
 use crate::answer::ChangeAnswer;
 use crate::answer::Refusal;
 use crate::trailer_fields::is_bad_size;
@@ -42,7 +43,7 @@ fn slot_check(layout: Layout, block: &[u8], stamps: &mut [u8; CELL_LIMIT], slot:
 
 // Whether a block of the size of its layout is sound; the stamps of a sound block tell which cells its roots reach.
 pub fn is_sound(layout: Layout, block: &[u8], stamps: &mut [u8; CELL_LIMIT]) -> bool
-    requires { ⌜ Fits layout (length (now block)) × (now stamps ≡ zeros 2048) ⌝ }
+    requires { ⌜ Fits layout (length (now block)) × (now stamps ≡ zeros cellLimit) ⌝ }
     ensures { λ r. ⌜ Validated layout (now (block .entry)) (now (stamps .exit)) r ⌝ }
 {
     if !is_valid_trailer(layout, block) {

@@ -1,12 +1,11 @@
 -- Laws of choosing, of steps that may have no result, and of tests.
 use mathlib.Core.Path.{_≡_, refl, subst}
-use mathlib.Core.Bool.{Bool, true, false, _&&_, not}
+use mathlib.Core.Bool.{Bool, true, false, _&&_, not, cond}
 use mathlib.Core.List.{List, [], _∷_}
-use mathlib.Core.Option.{Option, none, some}
+use mathlib.Core.Option.{Option, none, some, bind}
 use Prim.Native.Nat.{ℕ}
 use native.Mathlib.Omega.{arith}
 use lib.Dec.{T}
-use Rattle.cells.specs.Choice.{pick, bind}
 use Rattle.cells.specs.Occurrences.{all}
 
 -- a step without a result has none
@@ -31,11 +30,11 @@ unfolding bind
 keep f first second = rw first second
 
 -- a result behind a test: the test decided for it
-pub kept : {A : Type 0} (t : Bool) {a : Option A} {b : A} → pick t a none ≡ some b → (t ≡ true) × (a ≡ some b)
+pub kept : {A : Type 0} (t : Bool) {a : Option A} {b : A} → cond t a none ≡ some b → (t ≡ true) × (a ≡ some b)
 kept true e = (refl, e)
 kept false e = never e
 
-pub kept-not : {A : Type 0} (t : Bool) {a : Option A} {b : A} → pick t none a ≡ some b → (t ≡ false) × (a ≡ some b)
+pub kept-not : {A : Type 0} (t : Bool) {a : Option A} {b : A} → cond t none a ≡ some b → (t ≡ false) × (a ≡ some b)
 kept-not true e = never e
 kept-not false e = (refl, e)
 

@@ -1,7 +1,7 @@
 -- Laws of counting a number in a list, and of memories that are alike on the cells of a list.
 use mathlib.Core.Path.{_≡_, refl, sym, ap, _∙_}
 use mathlib.Core.Logic.{_≢_}
-use mathlib.Core.Bool.{Bool, true}
+use mathlib.Core.Bool.{Bool, true, cond}
 use mathlib.Core.List.{List, [], _∷_, _++_}
 use Prim.Native.Nat.{ℕ, zero, suc, _+_, _≤_, _<_}
 use native.Mathlib.Decide.{decLe, ℕ-discrete}
@@ -10,7 +10,6 @@ use native.Mathlib.Omega.{arith}
 use lib.Dec.{leb, eqb}
 use lib.ListN.{length, getD}
 use borrow.Author.Tests.{eq-eqb, ne-eqb, le-leb, leb-true}
-use Rattle.cells.specs.Choice.{pick}
 use Rattle.cells.specs.Memory.{Memory}
 use Rattle.cells.specs.Occurrences.{occurrences, all, distinct}
 use Rattle.cells.proofs.Choice.{all-join, all-head, all-tail}
@@ -20,10 +19,10 @@ pub occurrences-append : (c : ℕ) (xs ys : List ℕ) → occurrences c (xs ++ y
 unfolding occurrences
 occurrences-append c [] ys = sym (zero-add _)
 occurrences-append c (x ∷ xs) ys =
-    ap (λ (k : ℕ). pick (eqb c x) 1 0 + k) (occurrences-append c xs ys) ∙ sym (add-assoc (pick (eqb c x) 1 0) _ _)
+    ap (λ (k : ℕ). cond (eqb c x) 1 0 + k) (occurrences-append c xs ys) ∙ sym (add-assoc (cond (eqb c x) 1 0) _ _)
 
 -- one more element counts one where it is the number, and else nothing
-pub occurrences-cons : (c x : ℕ) (xs : List ℕ) → occurrences c (x ∷ xs) ≡ pick (eqb c x) 1 0 + occurrences c xs
+pub occurrences-cons : (c x : ℕ) (xs : List ℕ) → occurrences c (x ∷ xs) ≡ cond (eqb c x) 1 0 + occurrences c xs
 unfolding occurrences
 occurrences-cons c x xs = refl
 

@@ -1,14 +1,13 @@
 -- The law of the verdict: each answer of 01's table is given exactly under its condition.
 use mathlib.Core.Path.{_≡_, refl, sym, ap, _∙_, subst}
 use mathlib.Core.Logic.{_≢_}
-use mathlib.Core.Bool.{Bool, true, false, not}
+use mathlib.Core.Bool.{Bool, true, false, not, cond}
 use mathlib.Core.List.{List}
 use mathlib.Core.Option.{Option, none, some}
 use Prim.Native.Nat.{ℕ}
 use lib.Dec.{eqb}
 use lib.IntN.{pos}
 use borrow.Author.Tests.{not-true, not-false}
-use Rattle.cells.specs.Choice.{pick}
 use Rattle.cells.specs.Occurrences.{occurrences, all, distinct}
 use Rattle.calendar.specs.declared.Date.{Date}
 use Rattle.calendar.specs.Date.{isDate, unpackedDate, isAfter}
@@ -104,7 +103,7 @@ module _ (block label : List ℕ) (today : Date) (reading : Reading) (sheet : Pr
   unfolding verdict verdictOf number
   verdict-number = refl
 
-  verdict-dose : verdict block label today reading sheet .dose ≡ pick (eqb number 0) (doseOf sheet) (whole (pos 0))
+  verdict-dose : verdict block label today reading sheet .dose ≡ cond (eqb number 0) (doseOf sheet) (whole (pos 0))
   unfolding verdict verdictOf number
   verdict-dose = refl
 

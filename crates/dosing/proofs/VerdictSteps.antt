@@ -1,7 +1,7 @@
 -- The ways through the code of the verdict.
 use mathlib.Core.Path.{_≡_, refl, sym, ap, _∙_}
 use mathlib.Core.Logic.{_≢_}
-use mathlib.Core.Bool.{Bool, true, false, not}
+use mathlib.Core.Bool.{Bool, true, false, not, cond}
 use mathlib.Core.List.{List, [], _∷_, _++_}
 use mathlib.Core.Option.{none}
 use Prim.Native.Nat.{ℕ}
@@ -11,7 +11,6 @@ use lib.Dec.{eqb}
 use lib.IntN.{pos}
 use lib.Ieee.{Float}
 use borrow.Author.Tests.{eq-eqb, ne-eqb}
-use Rattle.cells.specs.Choice.{pick}
 use Rattle.cells.specs.Occurrences.{occurrences}
 use Rattle.calendar.specs.declared.Date.{Date}
 use Rattle.calendar.specs.Date.{isDate, unpackedDate, isAfter}
@@ -74,20 +73,20 @@ module _ (rs : List Refusal) (sheet : ProductSheet) where
   pub verdict-refused : (n : ℕ) → n ≢ 0 → firstRefusal rs ≡ n → verdictOf rs sheet ≡ record { answer = n; dose = whole (pos 0) }
   unfolding verdictOf
   verdict-refused n no-zero e =
-      let beside : pick (eqb (firstRefusal rs) 0) (doseOf sheet) (whole (pos 0)) ≡ whole (pos 0) =
+      let beside : cond (eqb (firstRefusal rs) 0) (doseOf sheet) (whole (pos 0)) ≡ whole (pos 0) =
       chosen-no (firstRefusal rs) (doseOf sheet) (whole (pos 0)) (λ z. no-zero (sym e ∙ z)) in
       λ i. record { answer = e i; dose = beside i }
 
   pub verdict-dosed : (dose : Float) → dose ≡ doseOf sheet → firstRefusal rs ≡ 0 → verdictOf rs sheet ≡ record { answer = 0; dose = dose }
   unfolding verdictOf
   verdict-dosed dose is e =
-      let beside : pick (eqb (firstRefusal rs) 0) (doseOf sheet) (whole (pos 0)) ≡ dose =
+      let beside : cond (eqb (firstRefusal rs) 0) (doseOf sheet) (whole (pos 0)) ≡ dose =
       chosen-done (firstRefusal rs) (doseOf sheet) (whole (pos 0)) e ∙ sym is in
       λ i. record { answer = e i; dose = beside i }
 
 verdict-same : (rs qs : List Refusal) (sheet : ProductSheet) → firstRefusal rs ≡ firstRefusal qs → verdictOf rs sheet ≡ verdictOf qs sheet
 unfolding verdictOf
-verdict-same rs qs sheet e = λ i. record { answer = e i; dose = pick (eqb (e i) 0) (doseOf sheet) (whole (pos 0)) }
+verdict-same rs qs sheet e = λ i. record { answer = e i; dose = cond (eqb (e i) 0) (doseOf sheet) (whole (pos 0)) }
 
 -- inputs that are not refused leave it to what follows
 pub inputs-passed : (today : Date) (reading : Reading) (sheet : ProductSheet) (rest : List Refusal) → firstRefusal (inputRefusals today reading sheet) ≡ 0
@@ -129,13 +128,13 @@ module _ (n inputs : ℕ) where
   unfolding refusedVerdict
   refused-input m missed no-zero e =
       let other : inputs ≢ 0 = λ z. no-zero (sym e ∙ z) in
-      let is : pick (eqb n 11) (pick (eqb inputs 0) 11 inputs) n ≡ m = rw (eq-eqb n 11 missed, ne-eqb inputs 0 other) e in
+      let is : cond (eqb n 11) (cond (eqb inputs 0) 11 inputs) n ≡ m = rw (eq-eqb n 11 missed, ne-eqb inputs 0 other) e in
       λ i. record { answer = is i; dose = whole (pos 0) }
 
   pub refused-missing : n ≡ 11 → inputs ≡ 0 → refusedVerdict n inputs ≡ record { answer = n; dose = whole (pos 0) }
   unfolding refusedVerdict
   refused-missing missed e =
-      let is : pick (eqb n 11) (pick (eqb inputs 0) 11 inputs) n ≡ n = rw (eq-eqb n 11 missed, eq-eqb inputs 0 e) (sym missed) in
+      let is : cond (eqb n 11) (cond (eqb inputs 0) 11 inputs) n ≡ n = rw (eq-eqb n 11 missed, eq-eqb inputs 0 e) (sym missed) in
       λ i. record { answer = is i; dose = whole (pos 0) }
 
 module _ (block label : List ℕ) (today : Date) (reading : Reading) (sheet : ProductSheet) where
@@ -169,7 +168,7 @@ module _ (block label : List ℕ) (today : Date) (reading : Reading) (sheet : Pr
 
   -- the look-up is refused
   missing-number : (value : ℕ) → firstRefusal (afterThree true value)
-      ≡ pick (eqb (firstRefusal (inputRefusals today reading sheet)) 0) 11 (firstRefusal (inputRefusals today reading sheet))
+      ≡ cond (eqb (firstRefusal (inputRefusals today reading sheet)) 0) 11 (firstRefusal (inputRefusals today reading sheet))
   missing-number value = elim (ℕ-discrete (firstRefusal (inputRefusals today reading sheet)) 0) [
     | yes z ↦ inputs-passed today reading sheet _ z ∙ first-holds _ _ refl ∙ sym (chosen-done _ 11 (firstRefusal (inputRefusals today reading sheet)) z)
     | no n ↦ refused-earlier (inputRefusals today reading sheet) _ n ∙ sym (chosen-no _ 11 (firstRefusal (inputRefusals today reading sheet)) n)

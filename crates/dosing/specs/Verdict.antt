@@ -1,11 +1,10 @@
 -- The verdict. 01: "The desk takes label, today, a reading and a product sheet".
-use mathlib.Core.Bool.{Bool, not}
+use mathlib.Core.Bool.{Bool, not, cond}
 use mathlib.Core.List.{List, [], _∷_, _++_}
 use Prim.Native.Nat.{ℕ}
 use lib.Dec.{eqb}
 use lib.IntN.{pos}
 use lib.Ieee.{Float}
-use Rattle.cells.specs.Choice.{pick}
 use Rattle.calendar.specs.declared.Date.{Date}
 use Rattle.calendar.specs.Date.{isDate, unpackedDate, isAfter}
 use Rattle.blocks.specs.Refusal.{Refusal, refusal, firstRefusal, badKey}
@@ -41,7 +40,7 @@ verdictRefusals block label today badSheet badReading outside =
 unfoldable pub verdictOf : List Refusal → ProductSheet → Verdict
 verdictOf refusals sheet =
     let answer = firstRefusal refusals in
-    record { answer = answer; dose = pick (eqb answer 0) (doseOf sheet) (whole (pos 0)) }
+    record { answer = answer; dose = cond (eqb answer 0) (doseOf sheet) (whole (pos 0)) }
 
 unfoldable pub verdict : List ℕ → List ℕ → Date → Reading → ProductSheet → Verdict
 verdict block label today reading sheet =

@@ -1,10 +1,9 @@
 -- What the code's verdict means, and the parts of it that the code judges one after the other.
-use mathlib.Core.Bool.{not}
+use mathlib.Core.Bool.{not, cond}
 use mathlib.Core.List.{List, [], _∷_}
 use Prim.Native.Nat.{ℕ}
 use lib.Dec.{eqb}
 use lib.IntN.{pos}
-use Rattle.cells.specs.Choice.{pick}
 use Rattle.calendar.specs.declared.Date.{Date}
 use Rattle.calendar.specs.Date.{isDate, unpackedDate, isAfter}
 use Rattle.blocks.specs.Refusal.{Refusal, refusal}
@@ -35,4 +34,4 @@ heldRefusals value today reading gate =
 -- the verdict where the look-up is refused, by its number and the one of the inputs: 8, 9 and 10 come before 11 and after all else
 unfoldable pub refusedVerdict : ℕ → ℕ → Verdict
 refusedVerdict lookup inputs =
-    record { answer = pick (eqb lookup 11) (pick (eqb inputs 0) 11 inputs) lookup; dose = whole (pos 0) }
+    record { answer = cond (eqb lookup 11) (cond (eqb inputs 0) 11 inputs) lookup; dose = whole (pos 0) }

@@ -1,13 +1,12 @@
 -- What a callee answered, told in numbers.
 use mathlib.Core.Path.{_≡_, refl, sym, ap, _∙_}
-use mathlib.Core.Bool.{Bool, true, false}
+use mathlib.Core.Bool.{Bool, true, false, cond}
 use mathlib.Core.List.{List, []}
 use mathlib.Core.Option.{Option, none, some}
 use Prim.Native.Nat.{ℕ, _≤_}
 use native.Mathlib.Omega.{arith}
 use lib.Dec.{eqb}
 use lib.ListN.{length}
-use Rattle.cells.specs.Choice.{pick}
 use Rattle.cells.specs.Memory.{memoryOf}
 use Rattle.nodes.specs.Layout.{keyLimit}
 use Rattle.trees.specs.Entries.{Entry, nextEntry}
@@ -30,7 +29,7 @@ pub next-told : (next : Next) (told : NextAnswer) (r : ℕ) → next ≡ nextOut
 next-told next told r e is = e ∙ (λ i. record { answer = sym is i; size = told .size; key = told .key })
 
 -- no key is longer than the limit
-short : (there : Bool) (o : Option Entry) → ((e : Entry) → o ≡ some e → length (e .key) ≤ keyLimit) → length (pick there (keyOr o) []) ≤ keyLimit
+short : (there : Bool) (o : Option Entry) → ((e : Entry) → o ≡ some e → length (e .key) ≤ keyLimit) → length (cond there (keyOr o) []) ≤ keyLimit
 unfolding keyOr
 short true none fits = omega arith
 short true (some e) fits = fits e refl
@@ -42,8 +41,7 @@ next-size block key =
     short (eqb (firstRefusal (nextRefusals block key)) 0) (nextEntry key (shownEntries block))
     (next-short (layoutOf block) (memoryOf block) keyLimit (rootWord (layoutOf block) block) key)
 
-pub size-fits : (block key : List ℕ) (told : NextAnswer) → nextKey block key ≡ nextOutcome told → told .size ≤ 48
-unfolding keyLimit
+pub size-fits : (block key : List ℕ) (told : NextAnswer) → nextKey block key ≡ nextOutcome told → told .size ≤ keyLimit
 size-fits block key told e =
     let size : nextKey block key .size ≡ told .size = ap (λ (n : Next). n .size) e in
     omega (arith, size, next-size block key)

@@ -12,7 +12,7 @@ use store::formatting::format;
 use store::snapshots::release;
 use store::snapshots::restore;
 use store::snapshots::snapshot;
-use trees::KEY_LIMIT;
+use nodes::layout::KEY_LIMIT;
 
 // The answer number of a change.
 fn change_number(answer: ChangeAnswer) -> u8

@@ -8,7 +8,6 @@ use Prim.Native.Nat.{ℕ}
 use lib.Ieee.{Float}
 use native.Mathlib.Omega.{arith}
 use borrow.Author.Tests.{eq-eqb, ne-eqb}
-use Rattle.cells.specs.Choice.{pick}
 use Rattle.calendar.specs.Date.{yearOf, monthOf, dayOf, dateOf}
 use Rattle.dosing.specs.declared.temperature.Reading.{Reading}
 use Rattle.dosing.specs.declared.temperature.Reading.the-variants.{Celsius, Fahrenheit}
@@ -20,13 +19,14 @@ use Rattle.firmware.specs.Choices.{Choices, Injective, ours}
 use Rattle.firmware.specs.NumberCalls.{ReadingNumbers, SheetNumbers, gateOf, readingOf, verdictNumbers}
 use Rattle.firmware.specs.Named.{gateOr, readingOr}
 use Rattle.firmware.proofs.NamedKinds.{verdict-named}
+use mathlib.Core.Bool.{cond}
 
 module _ (choices : Choices) (differ : Injective choices) (low high : Float) where
   pub names-any : gateOf choices (choices .anyGate) low high ≡ some Any
   unfolding gateOf
   names-any = rw (eq-eqb (choices .anyGate) (choices .anyGate) refl)
 
-  pub names-at-least : gateOf choices (choices .atLeastGate) low high ≡ some (AtLeast (pick (choices .atLeastIsLow) low high))
+  pub names-at-least : gateOf choices (choices .atLeastGate) low high ≡ some (AtLeast (cond (choices .atLeastIsLow) low high))
   unfolding gateOf
   names-at-least =
       rw (ne-eqb (choices .atLeastGate) (choices .anyGate) (λ e. differ .anyAtLeast (sym e)), eq-eqb (choices .atLeastGate) (choices .atLeastGate) refl)

@@ -1,7 +1,7 @@
 -- The gate and the reading of a number, and why a number that names none may be judged as one off the scale.
 use mathlib.Core.Path.{_≡_, refl, sym, ap}
 use mathlib.Core.Logic.{_≢_}
-use mathlib.Core.Bool.{Bool, true, false, not}
+use mathlib.Core.Bool.{Bool, true, false, not, cond}
 use mathlib.Core.List.{List}
 use mathlib.Core.Option.{Option, none, some}
 use Prim.Native.Nat.{ℕ}
@@ -10,7 +10,6 @@ use lib.IntN.{pos}
 use lib.Ieee as Ieee
 use lib.Ieee.{Float}
 use borrow.Author.Tests.{ne-eqb}
-use Rattle.cells.specs.Choice.{pick}
 use Rattle.calendar.specs.declared.Date.{Date}
 use Rattle.blocks.specs.Refusal.{Refusal, firstRefusal}
 use Rattle.dosing.specs.declared.temperature.Reading.{Reading}
@@ -74,7 +73,7 @@ unnamed-reading = rw off-scale
 verdict-by : (rs qs : List Refusal) (sheet other : ProductSheet) → firstRefusal rs ≡ firstRefusal qs → doseOf sheet ≡ doseOf other
     → verdictOf rs sheet ≡ verdictOf qs other
 unfolding verdictOf
-verdict-by rs qs sheet other e d = λ i. record { answer = e i; dose = pick (eqb (e i) 0) (d i) (whole (pos 0)) }
+verdict-by rs qs sheet other e d = λ i. record { answer = e i; dose = cond (eqb (e i) 0) (d i) (whole (pos 0)) }
 
 module _ (block label : List ℕ) (today : Date) where
   -- what comes after a refusal is not asked

@@ -1,11 +1,10 @@
 -- 01: "Controller firmware in C calls entering, look-up and the desk with numbers and byte blocks."
-use mathlib.Core.Bool.{Bool, true, not}
+use mathlib.Core.Bool.{Bool, true, not, cond}
 use mathlib.Core.List.{List}
 use mathlib.Core.Option.{Option, none, some}
 use Prim.Native.Nat.{ℕ}
 use lib.Dec.{eqb}
 use lib.Ieee.{Float}
-use Rattle.cells.specs.Choice.{pick}
 use Rattle.calendar.specs.Date.{yearOf, monthOf, dayOf, dateOf}
 use Rattle.blocks.specs.Refusal.{Inserted}
 use Rattle.blocks.specs.Read.{Found, get}
@@ -29,14 +28,14 @@ getNumbers block key = get block key
 -- the gate of a number. 01: "a limit that the gate kind doesn't use isn't judged"
 unfoldable pub gateOf : Choices → ℕ → Float → Float → Option TemperatureGate
 gateOf choices kind low high =
-    pick (eqb kind (choices .anyGate)) (some Any)
-    (pick (eqb kind (choices .atLeastGate)) (some (AtLeast (pick (choices .atLeastIsLow) low high)))
-    (pick (eqb kind (choices .betweenGate)) (some (Between low high)) none))
+    cond (eqb kind (choices .anyGate)) (some Any)
+    (cond (eqb kind (choices .atLeastGate)) (some (AtLeast (cond (choices .atLeastIsLow) low high)))
+    (cond (eqb kind (choices .betweenGate)) (some (Between low high)) none))
 
 unfoldable pub readingOf : Choices → ℕ → Float → Option Reading
 readingOf choices unit degrees =
-    pick (eqb unit (choices .celsiusUnit)) (some (Celsius degrees))
-    (pick (eqb unit (choices .fahrenheitUnit)) (some (Fahrenheit degrees)) none)
+    cond (eqb unit (choices .celsiusUnit)) (some (Celsius degrees))
+    (cond (eqb unit (choices .fahrenheitUnit)) (some (Fahrenheit degrees)) none)
 
 -- 01: "There a number that names no gate kind is answer 8"
 unfoldable pub badSheetNumbers : Option TemperatureGate → Float → Float → Bool

@@ -1,10 +1,9 @@
 -- The invariant of a run: a block beside its ledger; and how it follows for the block that a call leaves.
 use mathlib.Core.Path.{_≡_, refl, sym, ap, _∙_, subst}
-use mathlib.Core.Bool.{Bool, true, false}
+use mathlib.Core.Bool.{Bool, true, false, cond}
 use mathlib.Core.List.{List}
 use mathlib.Core.Option.{Option, none, some}
 use Prim.Native.Nat.{ℕ}
-use Rattle.cells.specs.Choice.{pick}
 use Rattle.cells.specs.Bytes.{IsBytes}
 use Rattle.cells.proofs.Choice.{never}
 use Rattle.nodes.specs.Layout.{Layout}
@@ -46,12 +45,12 @@ holds-none shows = record { when-none = λ e. refl; when-some = λ t e. never e;
 
 -- one slot replaced, the others as they were
 pub holds-replaced : (here : Bool) {used old : Bool} {shows showed : Table} {table was : Option Table} → SlotHolds used shows table → SlotHolds old showed was
-    → SlotHolds (pick here used old) (pick here shows showed) (pick here table was)
+    → SlotHolds (cond here used old) (cond here shows showed) (cond here table was)
 holds-replaced true new kept = new
 holds-replaced false new kept = kept
 
 pub holds-dropped : (here : Bool) {old : Bool} {showed : Table} {was : Option Table} → SlotHolds old showed was
-    → SlotHolds (pick here false old) showed (pick here none was)
+    → SlotHolds (cond here false old) showed (cond here none was)
 holds-dropped true kept = holds-none _
 holds-dropped false kept = kept
 

@@ -1,7 +1,7 @@
 -- Laws of encoded calls: what the bytes at the front say, by the tests that the code makes, and that keys are bytes.
 use mathlib.Core.Path.{_≡_, refl, subst}
 use mathlib.Core.Logic.{_≢_}
-use mathlib.Core.Bool.{Bool, true, false}
+use mathlib.Core.Bool.{Bool, true, false, cond}
 use mathlib.Core.List.{List, [], _∷_}
 use mathlib.Core.Option.{Option, none, some}
 use Prim.Native.Nat.{ℕ, zero, suc, _+_, _≤_, _<_}
@@ -9,7 +9,6 @@ use native.Mathlib.Omega.{arith}
 use lib.Dec.{leb, eqb}
 use lib.ListN.{length, getD, take, drop}
 use borrow.Author.Tests.{le-leb, lt-leb, leb-true, ne-eqb}
-use Rattle.cells.specs.Choice.{pick}
 use Rattle.cells.specs.Bytes.{IsBytes}
 use Rattle.cells.specs.Word.{wordAt}
 use Rattle.cells.proofs.Words.{bytes-take, bytes-drop}
@@ -17,9 +16,9 @@ use Rattle.history.specs.Calls.{Call, inserting, snapshotting, restoring
 use Rattle.history.specs.Encoded.{Decoded, decodeInsert, decodeSlot, decodeCall, following, decoded}
 
 -- a choice between nothing and nothing
-pick-none : (t : Bool) {a b : Option Decoded} → a ≡ none → b ≡ none → pick t a b ≡ none
-pick-none true a b = a
-pick-none false a b = b
+cond-none : (t : Bool) {a b : Option Decoded} → a ≡ none → b ≡ none → cond t a b ≡ none
+cond-none true a b = a
+cond-none false a b = b
 
 module _ (bytes : List ℕ) where
   -- too few bytes, and enough of them
@@ -43,10 +42,10 @@ module _ (bytes : List ℕ) where
   pub call-short : length bytes < 5 → decodeCall bytes ≡ none
   unfolding decodeCall
   call-short h =
-      pick-none (eqb (getD bytes 0 0) 1) (insert-short (omega (arith, h)))
-      (pick-none (eqb (getD bytes 0 0) 2) (slot-short snapshotting h)
-      (pick-none (eqb (getD bytes 0 0) 3) (slot-short restoring h)
-      (pick-none (eqb (getD bytes 0 0) 4) (slot-short releasing h) refl)))
+      cond-none (eqb (getD bytes 0 0) 1) (insert-short (omega (arith, h)))
+      (cond-none (eqb (getD bytes 0 0) 2) (slot-short snapshotting h)
+      (cond-none (eqb (getD bytes 0 0) 3) (slot-short restoring h)
+      (cond-none (eqb (getD bytes 0 0) 4) (slot-short releasing h) refl)))
 
   -- the tags
   pub tag-insert : getD bytes 0 0 ≡ 1 → decodeCall bytes ≡ decodeInsert bytes
@@ -79,14 +78,14 @@ abbrev TakenIf : List ℕ → Option Decoded → Type 0
 TakenIf bytes none = Unit {0}
 TakenIf bytes (some d) = Taken bytes d
 
-pick-taken : (bytes : List ℕ) (t : Bool) (a b : Option Decoded) → TakenIf bytes a → TakenIf bytes b → TakenIf bytes (pick t a b)
-pick-taken bytes true a b first second = first
-pick-taken bytes false a b first second = second
+cond-taken : (bytes : List ℕ) (t : Bool) (a b : Option Decoded) → TakenIf bytes a → TakenIf bytes b → TakenIf bytes (cond t a b)
+cond-taken bytes true a b first second = first
+cond-taken bytes false a b first second = second
 
-test-taken : (bytes : List ℕ) (n m : ℕ) (d : Decoded) → (n ≤ m → Taken bytes d) → TakenIf bytes (pick (leb n m) (some d) none)
+test-taken : (bytes : List ℕ) (n m : ℕ) (d : Decoded) → (n ≤ m → Taken bytes d) → TakenIf bytes (cond (leb n m) (some d) none)
 test-taken bytes n m d f = go (leb n m) refl
   where
-    go : (t : Bool) → leb n m ≡ t → TakenIf bytes (pick t (some d) none)
+    go : (t : Bool) → leb n m ≡ t → TakenIf bytes (cond t (some d) none)
     go true e = f (leb-true n m e)
     go false e = tt
 
@@ -109,13 +108,13 @@ module _ (bytes : List ℕ) where
   unfolding decodeCall
   call-taken =
       let tag : ℕ = getD bytes 0 0 in
-      let fourth : Option Decoded = pick (eqb tag 4) (decodeSlot releasing bytes) none in
-      let third : Option Decoded = pick (eqb tag 3) (decodeSlot restoring bytes) fourth in
-      let second : Option Decoded = pick (eqb tag 2) (decodeSlot snapshotting bytes) third in
-      pick-taken bytes (eqb tag 1) (decodeInsert bytes) second insert-taken
-      (pick-taken bytes (eqb tag 2) (decodeSlot snapshotting bytes) third (slot-taken snapshotting tt)
-      (pick-taken bytes (eqb tag 3) (decodeSlot restoring bytes) fourth (slot-taken restoring tt)
-      (pick-taken bytes (eqb tag 4) (decodeSlot releasing bytes) none (slot-taken releasing tt) tt)))
+      let fourth : Option Decoded = cond (eqb tag 4) (decodeSlot releasing bytes) none in
+      let third : Option Decoded = cond (eqb tag 3) (decodeSlot restoring bytes) fourth in
+      let second : Option Decoded = cond (eqb tag 2) (decodeSlot snapshotting bytes) third in
+      cond-taken bytes (eqb tag 1) (decodeInsert bytes) second insert-taken
+      (cond-taken bytes (eqb tag 2) (decodeSlot snapshotting bytes) third (slot-taken snapshotting tt)
+      (cond-taken bytes (eqb tag 3) (decodeSlot restoring bytes) fourth (slot-taken restoring tt)
+      (cond-taken bytes (eqb tag 4) (decodeSlot releasing bytes) none (slot-taken releasing tt) tt)))
 
   pub call-takes : (d : Decoded) → decodeCall bytes ≡ some d → Taken bytes d
   call-takes d e = subst (λ (o : Option Decoded). TakenIf bytes o) e call-taken

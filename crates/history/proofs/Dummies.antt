@@ -69,7 +69,7 @@ unfolding callsOpen
 insert-fits more = omega (arith, more)
 
 ledger-zero : (number : ℕ) → number ≢ 7 → ledgerAnswers (slots (layoutOf fresh)) emptyLedger (fedBy (onlyFormats number) fresh (insertOne ∷ [])) ≡ 0 ∷ []
-unfolding ledgerAnswers fedBy onlyFormats outcome gotNoRoom noteCall noteInsert badNewKey badKey overLong keyLimit badValue
+unfolding ledgerAnswers fedBy onlyFormats outcome gotNoRoom noteCall noteInsert badNewKey badKey overLong badValue
 ledger-zero number other = rw (ne-eqb number 7 other)
 
 answers-number : (number : ℕ) → answersOf (onlyFormats number) fresh (insertOne ∷ []) ≡ number ∷ []

@@ -1,14 +1,13 @@
 -- One call of `ours` beside a ledger: the answer is the ledger's, the invariant holds after, and what is said of each call.
 use mathlib.Core.Path.{_≡_, refl, sym, ap, _∙_, subst}
 use mathlib.Core.Logic.{_≢_}
-use mathlib.Core.Bool.{Bool, true, false}
+use mathlib.Core.Bool.{Bool, true, false, cond}
 use mathlib.Core.List.{List}
 use mathlib.Core.Option.{Option, none, some}
 use Prim.Native.Nat.{ℕ, _≤_}
 use native.Mathlib.Omega.{arith}
 use lib.Dec.{eqb}
 use lib.ListN.{length}
-use Rattle.cells.specs.Choice.{pick}
 use Rattle.cells.specs.Bytes.{IsBytes}
 use Rattle.cells.specs.Memory.{memoryOf}
 use Rattle.cells.specs.Occurrences.{occurrences}
@@ -58,25 +57,25 @@ module _ (count : ℕ) (b : List ℕ) (l : Ledger) (beside : Beside count b l) (
       record { answers = e; beside = beside-after count b b′ (beside .counts) present used held a l′ shows holds; kept = a .kept; size = a .same-length; refused = refused }
 
   -- the ways of an insertion, by whether 3, 4 and 7 apply
-  insert-ways : (x y z : Bool) (l′ : Ledger) → answer ≡ pick x 3 (pick y 4 (pick z 7 0)) → (answer ≡ 0 → Step count b answer b′ (done l′))
-      → Step count b answer b′ (pick x (unaltered 3 l) (pick y (unaltered 4 l) (pick (eqb answer 7) (unaltered 7 l) (done l′))))
+  insert-ways : (x y z : Bool) (l′ : Ledger) → answer ≡ cond x 3 (cond y 4 (cond z 7 0)) → (answer ≡ 0 → Step count b answer b′ (done l′))
+      → Step count b answer b′ (cond x (unaltered 3 l) (cond y (unaltered 4 l) (cond (eqb answer 7) (unaltered 7 l) (done l′))))
   insert-ways true y z l′ e new = step-refused 3 (omega arith) e
   insert-ways false true z l′ e new = step-refused 4 (omega arith) e
   insert-ways false false true l′ e new =
-      subst (λ (a : ℕ). Step count b answer b′ (pick (eqb a 7) (unaltered 7 l) (done l′))) (sym e) (step-refused 7 (omega arith) e)
+      subst (λ (a : ℕ). Step count b answer b′ (cond (eqb a 7) (unaltered 7 l) (done l′))) (sym e) (step-refused 7 (omega arith) e)
   insert-ways false false false l′ e new =
-      subst (λ (a : ℕ). Step count b answer b′ (pick (eqb a 7) (unaltered 7 l) (done l′))) (sym e) (new e)
+      subst (λ (a : ℕ). Step count b answer b′ (cond (eqb a 7) (unaltered 7 l) (done l′))) (sym e) (new e)
 
   -- of a snapshot, by whether the slot is valid
-  snapshot-ways : (x : Bool) (l′ : Ledger) → answer ≡ pick x 0 5 → (answer ≡ 0 → Step count b answer b′ (done l′))
-      → Step count b answer b′ (pick x (done l′) (unaltered 5 l))
+  snapshot-ways : (x : Bool) (l′ : Ledger) → answer ≡ cond x 0 5 → (answer ≡ 0 → Step count b answer b′ (done l′))
+      → Step count b answer b′ (cond x (done l′) (unaltered 5 l))
   snapshot-ways true l′ e new = new e
   snapshot-ways false l′ e new = step-refused 5 (omega arith) e
 
   -- of a call on a slot in use, by what the ledger has in it
-  used-ways : (x u : Bool) (shows : Table) (table : Option Table) (next : Table → Ledger) → answer ≡ pick x (pick u 0 6) 5 → (x ≡ true → SlotHolds u shows table)
+  used-ways : (x u : Bool) (shows : Table) (table : Option Table) (next : Table → Ledger) → answer ≡ cond x (cond u 0 6) 5 → (x ≡ true → SlotHolds u shows table)
       → (answer ≡ 0 → (t : Table) → ((key : List ℕ) → shows key ≡ t key) → Step count b answer b′ (done (next t)))
-      → Step count b answer b′ (pick x (noteHeld l table next) (unaltered 5 l))
+      → Step count b answer b′ (cond x (noteHeld l table next) (unaltered 5 l))
   unfolding noteHeld
   used-ways false u shows table next e holds new = step-refused 5 (omega arith) e
   used-ways true true shows none next e holds new = absurd-bool (holds refl .when-none refl)
@@ -87,7 +86,7 @@ module _ (count : ℕ) (b : List ℕ) (l : Ledger) (beside : Beside count b l) (
 -- updating equal tables
 update-same : (t t′ : Table) (key : List ℕ) (value : ℕ) → ((k : List ℕ) → t k ≡ t′ k) → (k : List ℕ) → update t key value k ≡ update t′ key value k
 unfolding update
-update-same t t′ key value same k = ap (λ (o : Option ℕ). pick (sameKey key k) (some value) o) (same k)
+update-same t t′ key value same k = ap (λ (o : Option ℕ). cond (sameKey key k) (some value) o) (same k)
 
 module _ (count : ℕ) (b : List ℕ) (l : Ledger) (beside : Beside count b l) where
   -- an insertion
@@ -112,7 +111,7 @@ module _ (count : ℕ) (b : List ℕ) (l : Ledger) (beside : Beside count b l) w
     unfolding noteSnapshot
     snapshot-step =
         let l′ : Ledger = record { present = l .present; held = withHeld (l .held) slot (some (l .present)) } in
-        subst (λ (x : Bool). Step count b (snapshot b slot .answer) (snapshot b slot .block) (pick x (done l′) (unaltered 5 l))) (sym ledger-slot-is)
+        subst (λ (x : Bool). Step count b (snapshot b slot .answer) (snapshot b slot .block) (cond x (done l′) (unaltered 5 l))) (sym ledger-slot-is)
         (snapshot-ways count b l beside _ _ (snapshot-refused b slot) (validSlot (layoutOf b) slot) l′
         (snapshot-answer b slot (beside .agrees .size) (beside .agrees .valid))
         (λ e. step-done count b l beside _ _ (snapshot-refused b slot) _ _ _ e (snapshot-law b slot (beside .bytes) e) l′
@@ -121,11 +120,11 @@ module _ (count : ℕ) (b : List ℕ) (l : Ledger) (beside : Beside count b l) w
 
     -- a call on a slot in use
     module _ (answer : ℕ) (b′ : List ℕ) (refused : answer ≢ 0 → b′ ≡ b)
-        (is : answer ≡ pick (validSlot (layoutOf b) slot) (pick (inUse (layoutOf b) b slot) 0 6) 5) (next : Table → Ledger)
+        (is : answer ≡ cond (validSlot (layoutOf b) slot) (cond (inUse (layoutOf b) b slot) 0 6) 5) (next : Table → Ledger)
         (new : answer ≡ 0 → (t : Table) → ((key : List ℕ) → slotShown b slot key ≡ t key) → Step count b answer b′ (done (next t))) where
-      used-step : Step count b answer b′ (pick (ledgerSlot count slot) (noteHeld l (l .held slot) next) (unaltered 5 l))
+      used-step : Step count b answer b′ (cond (ledgerSlot count slot) (noteHeld l (l .held slot) next) (unaltered 5 l))
       used-step =
-          subst (λ (x : Bool). Step count b answer b′ (pick x (noteHeld l (l .held slot) next) (unaltered 5 l))) (sym ledger-slot-is)
+          subst (λ (x : Bool). Step count b answer b′ (cond x (noteHeld l (l .held slot) next) (unaltered 5 l))) (sym ledger-slot-is)
           (used-ways count b l beside answer b′ refused (validSlot (layoutOf b) slot) (inUse (layoutOf b) b slot) (slotShown b slot) (l .held slot) next is
           (slot-holds count b l beside slot) new)
 

@@ -1,13 +1,12 @@
 -- Demand 3 of a run of encoded calls.
 use mathlib.Core.Path.{_≡_, refl, sym, ap, _∙_, subst}
-use mathlib.Core.Bool.{Bool, true, false}
+use mathlib.Core.Bool.{Bool, true, false, cond}
 use mathlib.Core.List.{List, [], _∷_}
 use Prim.Native.Nat.{ℕ, suc}
 use lib.Dec.{eqb}
 use lib.ListN.{length, drop}
 use lib.Seq.{take-at}
 use borrow.Author.Tests.{eqb-true}
-use Rattle.cells.specs.Choice.{pick}
 use Rattle.cells.specs.Bytes.{IsBytes}
 use Rattle.cells.proofs.Choice.{absurd-false}
 use Rattle.store.specs.Format.{format}
@@ -51,7 +50,7 @@ module _ (start bytes answers : List ℕ) (all : IsBytes bytes) where
         each = λ before call rest is. at-call start done before call rest (subst KeysAreBytes is keys);
       }
 
-  upheld-either : (t : Bool) → eqb (format start .answer) 0 ≡ t → (o : RunOutcome) → o ≡ pick t (runOver (format start .block) bytes answers) (runOutcome RunAnswer.BadSize start answers)
+  upheld-either : (t : Bool) → eqb (format start .answer) 0 ≡ t → (o : RunOutcome) → o ≡ cond t (runOver (format start .block) bytes answers) (runOutcome RunAnswer.BadSize start answers)
       → (count : ℕ) (stop : Stop) → o .answer ≡ RunAnswer.Ran count stop → Upheld start (callsRun bytes answers) count (o .block) (o .answers)
   upheld-either true t o is count stop e =
       subst (λ (p : RunOutcome). Upheld start (callsRun bytes answers) count (p .block) (p .answers)) (sym is)

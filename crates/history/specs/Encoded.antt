@@ -7,10 +7,10 @@ use mathlib.Core.Option.{Option, none, some}
 use Prim.Native.Nat.{ℕ, zero, suc, _+_}
 use lib.Dec.{leb, eqb}
 use lib.ListN.{length, getD, take, drop}
-use Rattle.cells.specs.Choice.{pick}
 use Rattle.cells.specs.Word.{wordAt}
 use Rattle.history.specs.Calls.{Call, inserting, snapshotting, restoring, releasing}
 use Rattle.history.specs.declared.runner.Stop.{Stop}
+use mathlib.Core.Bool.{cond}
 
 -- a call and how many bytes encode it
 pub record Decoded : Type 0 where
@@ -21,22 +21,22 @@ pub record Decoded : Type 0 where
 unfoldable pub decodeInsert : List ℕ → Option Decoded
 decodeInsert bytes =
     let size = getD bytes 1 0 in
-    pick (leb (size + 6) (length bytes))
+    cond (leb (size + 6) (length bytes))
     (some (record { call = inserting (take size (drop 2 bytes)) (wordAt bytes (size + 2)); taken = size + 6 }))
     none
 
 -- a call on a slot, likewise
 unfoldable pub decodeSlot : (ℕ → Call) → List ℕ → Option Decoded
-decodeSlot call bytes = pick (leb 5 (length bytes)) (some (record { call = call (wordAt bytes 1); taken = 5 })) none
+decodeSlot call bytes = cond (leb 5 (length bytes)) (some (record { call = call (wordAt bytes 1); taken = 5 })) none
 
 -- the call at the front of some bytes; none where they encode none: another tag, or too few bytes
 unfoldable pub decodeCall : List ℕ → Option Decoded
 decodeCall bytes =
     let tag = getD bytes 0 0 in
-    pick (eqb tag 1) (decodeInsert bytes)
-    (pick (eqb tag 2) (decodeSlot snapshotting bytes)
-    (pick (eqb tag 3) (decodeSlot restoring bytes)
-    (pick (eqb tag 4) (decodeSlot releasing bytes) none)))
+    cond (eqb tag 1) (decodeInsert bytes)
+    (cond (eqb tag 2) (decodeSlot snapshotting bytes)
+    (cond (eqb tag 3) (decodeSlot restoring bytes)
+    (cond (eqb tag 4) (decodeSlot releasing bytes) none)))
 
 -- what follows a decoded call, or what is said where there is none
 unfoldable pub following : {A : Type 0} → A → Option Decoded → (Decoded → A) → A
@@ -51,10 +51,10 @@ decoded (suc room) bytes = following [] (decodeCall bytes) (λ d. d .call ∷ de
 -- why there are no more calls than that: the bytes are at their end; there is no room for one more answer; or the bytes
 -- that are left encode no call
 unfoldable pub stopped : ℕ → List ℕ → Stop
-stopped zero bytes = pick (eqb (length bytes) 0) Stop.AtEnd Stop.Full
+stopped zero bytes = cond (eqb (length bytes) 0) Stop.AtEnd Stop.Full
 stopped (suc room) bytes =
     let later = following Stop.NoCall (decodeCall bytes) (λ d. stopped room (drop (d .taken) bytes)) in
-    pick (eqb (length bytes) 0) Stop.AtEnd later
+    cond (eqb (length bytes) 0) Stop.AtEnd later
 
 -- computed: 41 with 0, a snapshot in slot 1, then a byte that is no tag; with room for one answer; and the bytes used up
 abbrev sample : List ℕ

@@ -1,10 +1,9 @@
 -- 01, "The ledger of demand 3": "The ledger never looks into the book."
-use mathlib.Core.Bool.{Bool, false, _&&_}
+use mathlib.Core.Bool.{Bool, false, _&&_, cond}
 use mathlib.Core.List.{List, [], _∷_}
 use mathlib.Core.Option.{Option, none, some}
 use Prim.Native.Nat.{ℕ}
 use lib.Dec.{leb, eqb}
-use Rattle.cells.specs.Choice.{pick}
 use Rattle.trees.specs.Lookup.{Table, emptyTable, update}
 use Rattle.blocks.specs.Refusal.{badNewKey, badValue}
 use Rattle.history.specs.Calls.{Call, inserting, snapshotting, restoring, releasing, Implementation, outcome}
@@ -37,15 +36,15 @@ done ledger = record { answer = 0; ledger = ledger }
 
 -- the slots with what one of them now has
 abbrev pub withHeld : (ℕ → Option Table) → ℕ → Option Table → ℕ → Option Table
-withHeld held slot table s = pick (eqb s slot) table (held s)
+withHeld held slot table s = cond (eqb s slot) table (held s)
 
 -- 01: "Entering: 3 or 4 where that no applies to the arguments, the lower first; else 7 if that was fed; else 0, and the
 -- label has this value, in place of any older one."
 unfoldable pub noteInsert : Ledger → List ℕ → ℕ → Bool → Noted
 noteInsert ledger key value noRoom =
-    pick (badNewKey key) (unaltered 3 ledger)
-    (pick (badValue value) (unaltered 4 ledger)
-    (pick noRoom (unaltered 7 ledger)
+    cond (badNewKey key) (unaltered 3 ledger)
+    (cond (badValue value) (unaltered 4 ledger)
+    (cond noRoom (unaltered 7 ledger)
     (done (record { present = update (ledger .present) key value; held = ledger .held }))))
 
 -- 01: "each lawful slot (one that doesn't get 5)"
@@ -55,7 +54,7 @@ ledgerSlot slots slot = leb 1 slot && leb slot slots
 -- 01: "Marking: 5 if the slot isn't lawful; else 0, and the slot holds the present table, in place of any older one."
 unfoldable pub noteSnapshot : ℕ → Ledger → ℕ → Noted
 noteSnapshot slots ledger slot =
-    pick (ledgerSlot slots slot)
+    cond (ledgerSlot slots slot)
     (done (record { present = ledger .present; held = withHeld (ledger .held) slot (some (ledger .present)) }))
     (unaltered 5 ledger)
 
@@ -67,14 +66,14 @@ noteHeld ledger (some table) next = done (next table)
 -- 01: "Going back: 5 likewise; else 6 if the slot has nothing; else 0, and the present table is the slot's, which the slot keeps."
 unfoldable pub noteRestore : ℕ → Ledger → ℕ → Noted
 noteRestore slots ledger slot =
-    pick (ledgerSlot slots slot)
+    cond (ledgerSlot slots slot)
     (noteHeld ledger (ledger .held slot) (λ table. record { present = table; held = ledger .held }))
     (unaltered 5 ledger)
 
 -- 01: "Dropping: 5 and 6 likewise; else 0, and the slot has nothing."
 unfoldable pub noteRelease : ℕ → Ledger → ℕ → Noted
 noteRelease slots ledger slot =
-    pick (ledgerSlot slots slot)
+    cond (ledgerSlot slots slot)
     (noteHeld ledger (ledger .held slot) (λ table. record { present = ledger .present; held = withHeld (ledger .held) slot none }))
     (unaltered 5 ledger)
 

@@ -5,7 +5,6 @@ use mathlib.Core.Option.{Option, none, some}
 use Prim.Native.Nat.{ℕ}
 use lib.Dec.{eqb}
 use lib.ListN.{length, take, drop}
-use Rattle.cells.specs.Choice.{pick}
 use Rattle.blocks.specs.Trailer.{layoutOf, slots}
 use Rattle.blocks.specs.Refusal.{Changed}
 use Rattle.blocks.specs.declared.answer.InsertAnswer.{InsertAnswer}
@@ -18,6 +17,7 @@ use Rattle.history.specs.Encoded.{Decoded, decoded, stopped}
 use Rattle.history.specs.declared.runner.Stop.{Stop}
 use Rattle.history.specs.declared.runner.Stepped.{Stepped}
 use Rattle.history.specs.declared.runner.RunAnswer.{RunAnswer}
+use mathlib.Core.Bool.{cond}
 
 -- the answer number of an insertion
 abbrev pub insertNumber : InsertAnswer → ℕ
@@ -66,7 +66,7 @@ runOver fresh bytes answers =
 -- the block is formatted and the calls are run; where its size is bad nothing is altered
 unfoldable pub runCalls : List ℕ → List ℕ → List ℕ → RunOutcome
 runCalls start bytes answers =
-    pick (eqb (format start .answer) 0) (runOver (format start .block) bytes answers) (runOutcome RunAnswer.BadSize start answers)
+    cond (eqb (format start .answer) 0) (runOver (format start .block) bytes answers) (runOutcome RunAnswer.BadSize start answers)
 
 -- the conclusion of demand 3 for a list, over the block and the answer bytes that a run left
 pub record Upheld (start : List ℕ) (calls : List Call) (count : ℕ) (block answers : List ℕ) : Type 0 where

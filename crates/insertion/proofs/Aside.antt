@@ -13,7 +13,7 @@ use Rattle.cells.specs.Memory.{Memory}
 use Rattle.cells.specs.Occurrences.{occurrences}
 use Rattle.cells.proofs.Choice.{never, both-left}
 use Rattle.cells.proofs.Occurrences.{occurrences-later, Agree, agree-less}
-use Rattle.nodes.specs.Layout.{Layout}
+use Rattle.nodes.specs.Layout.{Layout, cellLimit}
 use Rattle.nodes.specs.Pointer.{Pointer, pointer}
 use Rattle.nodes.specs.Pointer.Pointer.{nothing, leaf, chain, split, sparse, prefix, invalid}
 use Rattle.nodes.specs.Prefix.{prefixValue, prefixLink, validPrefix}
@@ -102,7 +102,7 @@ abbrev pub nodeSet : Layout → (ℕ → ℕ) → Memory → ℕ → ℕ → Bui
 nodeSet layout number m w x b =
     putBack layout number (valueAside layout m (pointer layout w)) (setChild layout number m (pointer layout (wordAside layout m (pointer layout w) w)) x b)
 
-module _ (layout : Layout) (small : layout .cells ≤ 2048) (number : ℕ → ℕ) (m m′ : Memory)
+module _ (layout : Layout) (small : layout .cells ≤ cellLimit) (number : ℕ → ℕ) (m m′ : Memory)
     (bytes : (c : ℕ) → IsBytes (m c)) (whole : (c : ℕ) → length (m c) ≡ 32) where
   pub node-held : (w x : ℕ) (b : Built) → Held layout number m′ (nodeSet layout number m w x b) → Held layout number m′ b
   node-held w x b held =

@@ -1,7 +1,7 @@
 -- 01: "for m label bytes at most 4m + 10" cells are allocated, whatever the memory holds; and at least one for a tree.
 use mathlib.Core.Path.{_≡_, refl, sym, ap, _∙_, subst}
 use mathlib.Core.Logic.{_≢_, _⊎_, inl, inr}
-use mathlib.Core.Bool.{Bool, true, false}
+use mathlib.Core.Bool.{Bool, true, false, cond}
 use mathlib.Core.List.{List, [], _∷_}
 use mathlib.Core.Option.{Option, none, some}
 use native.Mathlib.Omega.{arith}
@@ -9,7 +9,6 @@ use Prim.Native.Nat.{ℕ, zero, suc, _+_, _*_, _≤_}
 use lib.Dec.{eqb, ltb}
 use lib.ListN.{length}
 use borrow.Author.Tests.{ltb-false}
-use Rattle.cells.specs.Choice.{pick}
 use Rattle.cells.specs.Memory.{Memory}
 use Rattle.cells.proofs.Choice.{never}
 use Rattle.nodes.specs.Layout.{Layout}
@@ -33,9 +32,9 @@ unfolding positionOf childFrom
 no-position bytes zero from x h = refl
 no-position bytes (suc count) from x h = go (eqb x (sparseCharacter bytes from)) h (no-position bytes count (from + 1) x)
   where
-    go : (t : Bool) → from + suc count ≤ pick t from (positionOf bytes count (from + 1) x)
+    go : (t : Bool) → from + suc count ≤ cond t from (positionOf bytes count (from + 1) x)
         → (from + 1 + count ≤ positionOf bytes count (from + 1) x → childFrom bytes count (from + 1) x ≡ 0)
-        → pick t (sparseWord bytes from) (childFrom bytes count (from + 1) x) ≡ 0
+        → cond t (sparseWord bytes from) (childFrom bytes count (from + 1) x) ≡ 0
     go true h later = absurd (omega arith)
     go false h later = later (omega arith)
 
@@ -70,7 +69,7 @@ module _ (number : ℕ → ℕ) where
   chainSet-most bytes cell place x b = go (eqb x (chainCharacter bytes place))
     where
       go : (t : Bool)
-          → length (pick t (chainOver number x b) (allocate number 30 (sparsePair x (b .word) (chainCharacter bytes place) (chainChild bytes cell place)) (b .cells)) .cells)
+          → length (cond t (chainOver number x b) (allocate number 30 (sparsePair x (b .word) (chainCharacter bytes place) (chainChild bytes cell place)) (b .cells)) .cells)
           ≤ 1 + length (b .cells)
       go true = chainOver-most x b
       go false = omega arith
@@ -84,8 +83,8 @@ module _ (number : ℕ → ℕ) where
     where
       after : Bool → Bool → Built
       after t u =
-          pick t (allocate number 30 (replacedCell bytes (positionOf bytes (sparseCount bytes) 0 x) (b .word)) (b .cells))
-          (pick u (allocate number 30 (appendedCell bytes x (b .word)) (b .cells)) (splitOf number (withChild (sparseChild bytes) x (b .word)) (b .cells)))
+          cond t (allocate number 30 (replacedCell bytes (positionOf bytes (sparseCount bytes) 0 x) (b .word)) (b .cells))
+          (cond u (allocate number 30 (appendedCell bytes x (b .word)) (b .cells)) (splitOf number (withChild (sparseChild bytes) x (b .word)) (b .cells)))
 
       go : (t u : Bool) → ltb (positionOf bytes (sparseCount bytes) 0 x) (sparseCount bytes) ≡ t
           → (length (after t u .cells) ≤ 1 + length (b .cells)) ⊎ (Lacks bytes x × (length (after t u .cells) ≤ length (b .cells) + 13))
@@ -204,7 +203,7 @@ module _ (number : ℕ → ℕ) where
       where
         go : (t : Bool)
             → 1
-            ≤ length (pick t (chainOver number x b) (allocate number 30 (sparsePair x (b .word) (chainCharacter bytes place) (chainChild bytes cell place)) (b .cells)) .cells)
+            ≤ length (cond t (chainOver number x b) (allocate number 30 (sparsePair x (b .word) (chainCharacter bytes place) (chainChild bytes cell place)) (b .cells)) .cells)
         go true = chainOver-least x b
         go false = omega arith
 
@@ -215,8 +214,8 @@ module _ (number : ℕ → ℕ) where
         go : (t u : Bool)
             → 1
             ≤ length
-            (pick t (allocate number 30 (replacedCell bytes (positionOf bytes (sparseCount bytes) 0 x) (b .word)) (b .cells))
-            (pick u (allocate number 30 (appendedCell bytes x (b .word)) (b .cells)) (splitOf number (withChild (sparseChild bytes) x (b .word)) (b .cells))) .cells)
+            (cond t (allocate number 30 (replacedCell bytes (positionOf bytes (sparseCount bytes) 0 x) (b .word)) (b .cells))
+            (cond u (allocate number 30 (appendedCell bytes x (b .word)) (b .cells)) (splitOf number (withChild (sparseChild bytes) x (b .word)) (b .cells))) .cells)
         go true u = omega arith
         go false true = omega arith
         go false false = omega arith

@@ -1,13 +1,12 @@
 -- Every cell that a build allocates is 32 bytes.
 use mathlib.Core.Path.{_≡_, _∙_}
-use mathlib.Core.Bool.{Bool, true, false}
+use mathlib.Core.Bool.{Bool, true, false, cond}
 use mathlib.Core.List.{List, [], _∷_}
 use mathlib.Core.Option.{Option, none, some}
 use native.Mathlib.Omega.{arith}
 use Prim.Native.Nat.{ℕ, zero, suc, _+_, _-_, _*_, _/_, _<_}
 use lib.Dec.{eqb, ltb}
 use lib.ListN.{length, set, length-set}
-use Rattle.cells.specs.Choice.{pick}
 use Rattle.cells.specs.Bytes.{IsBytes}
 use Rattle.cells.specs.Word.{withWord}
 use Rattle.cells.specs.Memory.{Memory, memoryOf}
@@ -51,9 +50,9 @@ pub blank-cell : IsCell blank
 unfolding blank
 blank-cell = record { size = zeros-length 32; bytes = bytes-zeros 32 }
 
-pick-cell : (t : Bool) {s s′ : List ℕ} → IsCell s → IsCell s′ → IsCell (pick t s s′)
-pick-cell true a b = a
-pick-cell false a b = b
+cond-cell : (t : Bool) {s s′ : List ℕ} → IsCell s → IsCell s′ → IsCell (cond t s s′)
+cond-cell true a b = a
+cond-cell false a b = b
 
 -- each new cell is 32 bytes
 pub chain-cell : (x word : ℕ) → x < 256 → IsCell (chainCell x word)
@@ -71,7 +70,7 @@ pair-cell x word y other small small′ =
 
 pub sparsePair-cell : (x word y other : ℕ) → x < 256 → y < 256 → IsCell (sparsePair x word y other)
 unfolding sparsePair
-sparsePair-cell x word y other small small′ = pick-cell (ltb x y) (pair-cell x word y other small small′) (pair-cell y other x word small′ small)
+sparsePair-cell x word y other small small′ = cond-cell (ltb x y) (pair-cell x word y other small small′) (pair-cell y other x word small′ small)
 
 without-cell : (count from : ℕ) (s : List ℕ) → IsCell s → IsCell (withoutCharacters count from s)
 unfolding withoutCharacters
@@ -98,13 +97,13 @@ unfolding headCopy
 headCopy-cell s = word-cell _ 28 _ (word-cell _ 24 _ (word-cell _ 20 _ (word-cell _ 16 _ blank-cell)))
 
 -- each step of a build keeps its cells of 32 bytes
-pick-whole : (t : Bool) (a b : Built) → Whole (a .cells) → Whole (b .cells) → Whole (pick t a b .cells)
-pick-whole true a b p q = p
-pick-whole false a b p q = q
+cond-whole : (t : Bool) (a b : Built) → Whole (a .cells) → Whole (b .cells) → Whole (cond t a b .cells)
+cond-whole true a b p q = p
+cond-whole false a b p q = q
 
-pick-row : (t : Bool) (a b : Row) → Whole (a .cells) → Whole (b .cells) → Whole (pick t a b .cells)
-pick-row true a b p q = p
-pick-row false a b p q = q
+cond-row : (t : Bool) (a b : Row) → Whole (a .cells) → Whole (b .cells) → Whole (cond t a b .cells)
+cond-row true a b p q = p
+cond-row false a b p q = q
 
 rows-whole : (make : ℕ → List (List ℕ) → Row) → ((i : ℕ) (cells : List (List ℕ)) → Whole cells → Whole (make i cells .cells))
     → (count i : ℕ) (cells : List (List ℕ)) → Whole cells → Whole (rows make count i cells .cells)
@@ -119,7 +118,7 @@ module _ (number : ℕ → ℕ) where
 
   table-whole : (words : ℕ → ℕ) (cells : List (List ℕ)) → Whole cells → Whole (tableRow number words cells .cells)
   unfolding tableRow
-  table-whole words cells h = pick-row (someWord words 8 0) _ _ (words-cell words 8 0 blank blank-cell, h) h
+  table-whole words cells h = cond-row (someWord words 8 0) _ _ (words-cell words 8 0 blank blank-cell, h) h
 
   mid-whole : (child : ℕ → ℕ) (i : ℕ) (cells : List (List ℕ)) → Whole cells → Whole (midRow number child i cells .cells)
   unfolding midRow endRow
@@ -143,21 +142,21 @@ module _ (number : ℕ → ℕ) where
   module _ (layout : Layout) (m : Memory) (each : (c : ℕ) → IsCell (m c)) where
     tableCopy-cell : (word : ℕ) → IsCell (tableCopy m word)
     unfolding tableCopy
-    tableCopy-cell word = pick-cell (eqb word 0) blank-cell (each (word / 32))
+    tableCopy-cell word = cond-cell (eqb word 0) blank-cell (each (word / 32))
 
     setChild-whole : (p : Pointer) (x : ℕ) (b : Built) → x < 256 → Whole (b .cells) → Whole (setChild layout number m p x b .cells)
     unfolding setChild chainSet sparseSet splitCopied
     setChild-whole nothing x b small h = chainOver-whole x b small h
     setChild-whole (leaf v) x b small h = chainOver-whole x b small h
     setChild-whole (chain c k) x b small h =
-        pick-whole (eqb x (chainCharacter (m c) k)) _ _ (chainOver-whole x b small h)
+        cond-whole (eqb x (chainCharacter (m c) k)) _ _ (chainOver-whole x b small h)
         (allocate-whole 30 _ (b .cells) (sparsePair-cell x (b .word) (chainCharacter (m c) k) _ small (each c .bytes .below k)) h)
     setChild-whole (split c) x b small h =
         allocate-whole 28 _ _ (word-cell _ _ _ (headCopy-cell (m c))) (word-cell _ _ _ (tableCopy-cell _), (word-cell _ _ _ (tableCopy-cell _), h))
     setChild-whole (sparse c) x b small h =
-        pick-whole (ltb (positionOf (m c) (sparseCount (m c)) 0 x) (sparseCount (m c))) _ _
+        cond-whole (ltb (positionOf (m c) (sparseCount (m c)) 0 x) (sparseCount (m c))) _ _
         (allocate-whole 30 _ (b .cells) (word-cell _ _ _ (sparseCopy-cell (m c) (each c))) h)
-        (pick-whole (ltb (sparseCount (m c)) 6) _ _ (allocate-whole 30 _ (b .cells) (appended-cell (m c) x (b .word) small (each c)) h)
+        (cond-whole (ltb (sparseCount (m c)) 6) _ _ (allocate-whole 30 _ (b .cells) (appended-cell (m c) x (b .word) small (each c)) h)
         (splitOf-whole _ (b .cells) h))
     setChild-whole (prefix c) x b small h = h
     setChild-whole invalid x b small h = h

@@ -1,7 +1,7 @@
 -- A chain over a new child: in a new cell, or by one more character in the child's cell.
 use mathlib.Core.Path.{_≡_, refl, sym, ap, _∙_, subst}
 use mathlib.Core.Logic.{_≢_}
-use mathlib.Core.Bool.{Bool, true, false}
+use mathlib.Core.Bool.{Bool, true, false, cond}
 use mathlib.Core.List.{List, [], _∷_}
 use mathlib.Core.Option.{some}
 use Prim.Native.Nat.{ℕ, zero, suc, _+_, _≤_, _<_}
@@ -10,14 +10,13 @@ use lib.Dec.{eqb}
 use lib.ListN.{length, getD, set, length-set}
 use lib.Seq.{getD-set-same, getD-set-other}
 use borrow.Author.Tests.{eqb-false, lt-ltb}
-use Rattle.cells.specs.Choice.{pick}
 use Rattle.cells.specs.Bytes.{zeros}
 use Rattle.cells.specs.Word.{wordAt, withWord}
 use Rattle.cells.specs.Memory.{Memory}
 use Rattle.cells.specs.Occurrences.{occurrences}
 use Rattle.cells.proofs.Occurrences.{occurrences-none}
 use Rattle.cells.proofs.Words.{word-agree, recombine}
-use Rattle.nodes.specs.Layout.{Layout, usable}
+use Rattle.nodes.specs.Layout.{Layout, usable, cellLimit}
 use Rattle.nodes.specs.Pointer.{pointer, byKind, wordTo}
 use Rattle.nodes.specs.Chain.{chainChild}
 use Rattle.nodes.specs.Node.{Node, oneChild, chainNode, plain}
@@ -51,11 +50,11 @@ chain-node-child bytes c k x w y character child = ap (λ a. oneChild a (chainCh
 pub one-child : (child : ℕ → ℕ) (x w : ℕ) → ((y : ℕ) → y ≢ x → child y ≡ 0) → (y : ℕ) → oneChild x w y ≡ withChild child x w y
 one-child child x w only y = go (eqb y x) refl
   where
-    go : (t : Bool) → eqb y x ≡ t → pick t w 0 ≡ pick t w (child y)
+    go : (t : Bool) → eqb y x ≡ t → cond t w 0 ≡ cond t w (child y)
     go true e = refl
     go false e = sym (only y (eqb-false y x e))
 
-module _ (layout : Layout) (small : layout .cells ≤ 2048) (number : ℕ → ℕ) (m′ : Memory) where
+module _ (layout : Layout) (small : layout .cells ≤ cellLimit) (number : ℕ → ℕ) (m′ : Memory) where
   -- an allocated chain whose character is x and whose child word is w
   module _ (Y : Node) (x : ℕ) (only : (y : ℕ) → y ≢ x → Y .child y ≡ 0) (w : ℕ) (nonzero : w ≢ 0) where
     chain-node-reads : (kind : ℕ) (bytes : List ℕ) (cells : List (List ℕ)) → kind < 28 → usable layout (number (length cells)) ≡ true

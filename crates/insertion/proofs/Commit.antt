@@ -14,7 +14,7 @@ use Rattle.cells.specs.Writes.{written, cellWrites}
 use Rattle.cells.specs.Occurrences.{occurrences}
 use Rattle.cells.proofs.Occurrences.{occurrences-append, occurrences-same, occurrences-here, occurrences-later, Agree}
 use Rattle.cells.proofs.CellWrites.{written-length, written-append, cell-written-same, cell-written-other}
-use Rattle.nodes.specs.Layout.{Layout, usable}
+use Rattle.nodes.specs.Layout.{Layout, usable, cellLimit}
 use Rattle.nodes.proofs.Pointers.{usable-low, usable-inside}
 use Rattle.insertion.specs.Commit.{numberFrom, buildWrites, memoryWith}
 use Rattle.insertion.proofs.Claims.{numbers, Holds}
@@ -132,7 +132,7 @@ getD-stands (x ∷ xs) (suc i) past = later (getD-stands xs i past)
 
 module _ (layout : Layout) (free : List ℕ) (each : (c : ℕ) → 1 ≤ occurrences c free → usable layout c ≡ true) where
   -- they are a numbering, in a block of usual size
-  pub numbering-free : 2 ≤ layout .cells → layout .cells ≤ 2048 → Numbering (numberFrom layout free)
+  pub numbering-free : 2 ≤ layout .cells → layout .cells ≤ cellLimit → Numbering (numberFrom layout free)
   unfolding numberFrom
   numbering-free some-cells small = record { low = λ i. low i (getD-stands free i (layout .cells - 1)); high = λ i. high i (getD-stands free i (layout .cells - 1)) }
     where

@@ -1,7 +1,7 @@
 -- The number of cells that a build allocates depends neither on the numbering nor on the value.
 use mathlib.Core.Path.{_≡_, refl, sym, ap, _∙_, subst}
 use mathlib.Core.Logic.{_≢_}
-use mathlib.Core.Bool.{Bool, true, false}
+use mathlib.Core.Bool.{Bool, true, false, cond}
 use mathlib.Core.List.{List, [], _∷_}
 use mathlib.Core.Option.{Option, none, some}
 use native.Mathlib.Omega.{arith}
@@ -9,7 +9,6 @@ use Prim.Native.Nat.{ℕ, zero, suc, _+_, _-_, _*_, _≤_, _<_}
 use lib.Dec.{eqb, ltb}
 use lib.ListN.{length}
 use borrow.Author.Tests.{ne-eqb, lt-ltb}
-use Rattle.cells.specs.Choice.{pick}
 use Rattle.cells.specs.Memory.{Memory}
 use Rattle.cells.proofs.Pointers.{kind-of-made}
 use Rattle.nodes.specs.Layout.{Layout}
@@ -43,7 +42,7 @@ room-same c c′ k small small′ h =
 abbrev BothNone : ℕ → ℕ → Type 0
 BothNone word word′ = eqb word 0 ≡ eqb word′ 0
 
-none-pick : (t : Bool) (p q p′ q′ : ℕ) → BothNone p p′ → BothNone q q′ → BothNone (pick t p q) (pick t p′ q′)
+none-pick : (t : Bool) (p q p′ q′ : ℕ) → BothNone p p′ → BothNone q q′ → BothNone (cond t p q) (cond t p′ q′)
 none-pick true p q p′ q′ a b = a
 none-pick false p q p′ q′ a b = b
 
@@ -74,9 +73,9 @@ pub record Alike (b b′ : Built) : Type 0 where
   pub room : roomOf b ≡ roomOf b′
   pub bothNone : eqb (b .word) 0 ≡ eqb (b′ .word) 0
 
-pick-alike : (t : Bool) {a b a′ b′ : Built} → Alike a a′ → Alike b b′ → Alike (pick t a b) (pick t a′ b′)
-pick-alike true p q = p
-pick-alike false p q = q
+cond-alike : (t : Bool) {a b a′ b′ : Built} → Alike a a′ → Alike b b′ → Alike (cond t a b) (cond t a′ b′)
+cond-alike true p q = p
+cond-alike false p q = q
 
 module _ (number number′ : ℕ → ℕ) (n : Numbering number) (n′ : Numbering number′) where
   made-alike : (i i′ k : ℕ) → BothNone (wordTo (number i) k) (wordTo (number′ i′) k)
@@ -104,8 +103,8 @@ module _ (number number′ : ℕ → ℕ) (n : Numbering number) (n′ : Numberi
     where
       go : (t : Bool)
           → RowsAlike
-          (pick t (record { words = λ _. wordTo (number (length cells)) 28; cells = withWords words 8 0 blank ∷ cells }) (record { words = λ _. 0; cells = cells }))
-          (pick t (record { words = λ _. wordTo (number′ (length cells′)) 28; cells = withWords words′ 8 0 blank ∷ cells′ }) (record { words = λ _. 0; cells = cells′ }))
+          (cond t (record { words = λ _. wordTo (number (length cells)) 28; cells = withWords words 8 0 blank ∷ cells }) (record { words = λ _. 0; cells = cells }))
+          (cond t (record { words = λ _. wordTo (number′ (length cells′)) 28; cells = withWords words′ 8 0 blank ∷ cells′ }) (record { words = λ _. 0; cells = cells′ }))
       go true = record { words = λ y. made-alike (length cells) (length cells′) 28; count = ap suc e }
       go false = record { words = λ y. refl; count = e }
 
@@ -153,13 +152,13 @@ module _ (number number′ : ℕ → ℕ) (n : Numbering number) (n′ : Numberi
   chainSet-alike : (bytes : List ℕ) (cell place x : ℕ) (b b′ : Built) → Alike b b′ → Alike (chainSet number bytes cell place x b) (chainSet number′ bytes cell place x b′)
   unfolding chainSet
   chainSet-alike bytes cell place x b b′ a =
-      pick-alike (eqb x (chainCharacter bytes place)) (chainOver-alike x b b′ a) (allocate-alike 30 _ _ (b .cells) (b′ .cells) (omega arith) (a .count))
+      cond-alike (eqb x (chainCharacter bytes place)) (chainOver-alike x b b′ a) (allocate-alike 30 _ _ (b .cells) (b′ .cells) (omega arith) (a .count))
 
   sparseSet-alike : (bytes : List ℕ) (x : ℕ) (b b′ : Built) → Alike b b′ → Alike (sparseSet number bytes x b) (sparseSet number′ bytes x b′)
   unfolding sparseSet
   sparseSet-alike bytes x b b′ a =
-      pick-alike (ltb (positionOf bytes (sparseCount bytes) 0 x) (sparseCount bytes)) (allocate-alike 30 _ _ (b .cells) (b′ .cells) (omega arith) (a .count))
-      (pick-alike (ltb (sparseCount bytes) 6) (allocate-alike 30 _ _ (b .cells) (b′ .cells) (omega arith) (a .count))
+      cond-alike (ltb (positionOf bytes (sparseCount bytes) 0 x) (sparseCount bytes)) (allocate-alike 30 _ _ (b .cells) (b′ .cells) (omega arith) (a .count))
+      (cond-alike (ltb (sparseCount bytes) 6) (allocate-alike 30 _ _ (b .cells) (b′ .cells) (omega arith) (a .count))
       (splitOf-alike _ _ (λ y. none-pick (eqb y x) _ _ _ _ (a .bothNone) refl) (b .cells) (b′ .cells) (a .count)))
 
   splitCopied-alike : (m : Memory) (c x : ℕ) (b b′ : Built) → Alike b b′ → Alike (splitCopied number m c x b) (splitCopied number′ m c x b′)

@@ -12,7 +12,7 @@ use Rattle.cells.specs.Bytes.{IsBytes}
 use Rattle.cells.specs.Memory.{Memory}
 use Rattle.cells.specs.Occurrences.{occurrences}
 use Rattle.cells.proofs.Occurrences.{occurrences-append, Agree, agree-less}
-use Rattle.nodes.specs.Layout.{Layout}
+use Rattle.nodes.specs.Layout.{Layout, cellLimit}
 use Rattle.nodes.specs.Split.{under}
 use Rattle.nodes.specs.Node.{Node, read}
 use Rattle.nodes.proofs.Gather.{gather-at, gather-change, under-word, under-frame}
@@ -38,7 +38,7 @@ module _ (table : Table) (x : ℕ) (key : List ℕ) (value : ℕ) where
   unfolding update sameKey
   update-other y k other = rw (ne-eqb x y (λ e. other (sym e)))
 
-module _ (layout : Layout) (small : layout .cells ≤ 2048) (number : ℕ → ℕ) (m m′ : Memory) (bytes : (c : ℕ) → IsBytes (m c)) where
+module _ (layout : Layout) (small : layout .cells ≤ cellLimit) (number : ℕ → ℕ) (m m′ : Memory) (bytes : (c : ℕ) → IsBytes (m c)) where
   -- the node X of the old tree, and the tree `a` below its child x
   module _ (d w : ℕ) (cs : List ℕ) (found : tree layout m (suc d) w ≡ some cs) (agree : Agree m m′ cs)
       (X : Node) (node : read layout m w ≡ some X) (x : ℕ) (near : x < 256)

@@ -13,7 +13,7 @@ use Rattle.cells.specs.Bytes.{IsBytes}
 use Rattle.cells.specs.Memory.{Memory}
 use Rattle.cells.specs.Occurrences.{occurrences, select}
 use Rattle.cells.proofs.Occurrences.{Agree}
-use Rattle.nodes.specs.Layout.{Layout, usable}
+use Rattle.nodes.specs.Layout.{Layout, usable, cellLimit}
 use Rattle.nodes.specs.Pointer.{pointer}
 use Rattle.trees.specs.Tree.{tree}
 use Rattle.trees.specs.Lookup.{lookup, update}
@@ -72,7 +72,7 @@ apart-once old new both most old-once new-once apart = elim (decLe 1 old) [
 ]
 
 -- free is a list of usable cells, none of them twice; the memories differ in usable cells by the allocated ones at their numbers
-module _ (layout : Layout) (small : layout .cells ≤ 2048) (free : List ℕ) (each : (c : ℕ) → 1 ≤ occurrences c free → usable layout c ≡ true)
+module _ (layout : Layout) (small : layout .cells ≤ cellLimit) (free : List ℕ) (each : (c : ℕ) → 1 ≤ occurrences c free → usable layout c ≡ true)
     (once : (c : ℕ) → occurrences c free ≤ 1) (m m′ : Memory) (bytes : (c : ℕ) → IsBytes (m c)) (whole : (c : ℕ) → length (m c) ≡ 32) where
   module _ (b : Built) (enough : length (b .cells) ≤ length free)
       (same : (c : ℕ) → usable layout c ≡ true → m′ c ≡ memoryWith (numberFrom layout free) m (b .cells) c) where

@@ -11,7 +11,7 @@ use Rattle.cells.specs.Memory.{Memory}
 use Rattle.cells.specs.Occurrences.{occurrences}
 use Rattle.cells.proofs.Choice.{never}
 use Rattle.cells.proofs.Occurrences.{occurrences-none, occurrences-append, occurrences-later, Agree, agree-less}
-use Rattle.nodes.specs.Layout.{Layout}
+use Rattle.nodes.specs.Layout.{Layout, cellLimit}
 use Rattle.nodes.specs.Pointer.{Pointer, pointer, leafWord}
 use Rattle.nodes.specs.Pointer.Pointer.{nothing, leaf, chain, split, sparse, prefix, invalid}
 use Rattle.nodes.specs.Prefix.{prefixLink}
@@ -53,7 +53,7 @@ unfolding leafWord
 leaf-word-nonzero value clear = omega arith
 
 -- a word that names a chain, sparse or split is small
-pub plain-small : (layout : Layout) → layout .cells ≤ 2048 → (m : Memory) (w : ℕ) (p : Pointer) (Z : Node) → pointer layout w ≡ p
+pub plain-small : (layout : Layout) → layout .cells ≤ cellLimit → (m : Memory) (w : ℕ) (p : Pointer) (Z : Node) → pointer layout w ≡ p
     → plain layout m p ≡ some Z → w < 2147483648
 unfolding plain
 plain-small layout small m w nothing Z named e = never e
@@ -67,7 +67,7 @@ plain-small layout small m w (sparse c) Z named e =
 plain-small layout small m w (prefix c) Z named e = never e
 plain-small layout small m w invalid Z named e = never e
 
-module _ (layout : Layout) (small : layout .cells ≤ 2048) (number : ℕ → ℕ) (m m′ : Memory) (bytes : (c : ℕ) → IsBytes (m c))
+module _ (layout : Layout) (small : layout .cells ≤ cellLimit) (number : ℕ → ℕ) (m m′ : Memory) (bytes : (c : ℕ) → IsBytes (m c))
     (value : ℕ) (clear : value < 2147483648) (d w : ℕ) (cs : List ℕ) (found : tree layout m d w ≡ some cs) (agree : Agree m m′ cs) where
   -- the table of a new node with the value and with the old children's tables
   end-table : (u : ℕ) (N : Node) → read layout m′ u ≡ some N → N .value ≡ some value

@@ -13,7 +13,7 @@ use Rattle.cells.specs.Memory.{Memory}
 use Rattle.cells.proofs.Choice.{never, absurd-false}
 use Rattle.cells.proofs.Words.{bytes-tail}
 use Rattle.cells.proofs.Occurrences.{Agree, agree-less}
-use Rattle.nodes.specs.Layout.{Layout}
+use Rattle.nodes.specs.Layout.{Layout, cellLimit}
 use Rattle.nodes.specs.Pointer.{Pointer, pointer}
 use Rattle.nodes.specs.Pointer.Pointer.{nothing, leaf, chain, split, sparse, prefix, invalid}
 use Rattle.nodes.specs.Node.{Node, plain, read}
@@ -88,7 +88,7 @@ descend layout m m′ d w x cs near found agree =
       agree-below = agree-less m m′ cs (l .0) (λ c h. omega (arith, l .2 c)) agree;
     }
 
-module _ (layout : Layout) (small : layout .cells ≤ 2048) (number : ℕ → ℕ) (m m′ : Memory)
+module _ (layout : Layout) (small : layout .cells ≤ cellLimit) (number : ℕ → ℕ) (m m′ : Memory)
     (bytes : (c : ℕ) → IsBytes (m c)) (whole : (c : ℕ) → length (m c) ≡ 32) (value : ℕ) (clear : value < 2147483648) where
   pub law : (key : List ℕ) → IsBytes key → (d w : ℕ) (cs : List ℕ) → length key ≤ d → tree layout m d w ≡ some cs → Agree m m′ cs
       → Held layout number m′ (build layout number m w key value)

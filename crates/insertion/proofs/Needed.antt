@@ -10,12 +10,11 @@ use lib.Dec.{eqb}
 use lib.ListN.{length}
 use borrow.Author.Tests.{eq-eqb}
 use Rattle.cells.specs.Bytes.{IsBytes}
-use Rattle.cells.specs.Choice.{pick}
 use Rattle.cells.specs.Word.{withWord}
 use Rattle.cells.specs.Memory.{Memory}
 use Rattle.cells.proofs.Words.{bytes-tail}
 use Rattle.cells.proofs.Occurrences.{occurrences-later, Agree, agree-less, agree-head, agree-tail}
-use Rattle.nodes.specs.Layout.{Layout}
+use Rattle.nodes.specs.Layout.{Layout, cellLimit}
 use Rattle.nodes.specs.Pointer.{Pointer, pointer, wordTo}
 use Rattle.nodes.specs.Pointer.Pointer.{nothing, leaf, chain, split, sparse, prefix, invalid}
 use Rattle.nodes.specs.Split.{headWord, under, midCells, headCells, wordBelow}
@@ -33,6 +32,7 @@ use Rattle.insertion.specs.SplitBuild.{splitCopied}
 use Rattle.insertion.specs.SetChild.{chainSet, sparseSet, setChild}
 use Rattle.insertion.specs.Build.{wordAside, valueAside, putBack, childOf, pathCopy, valueAt, build, cellsNeeded}
 use Rattle.insertion.proofs.Aside.{child-of, nodeSet}
+use mathlib.Core.Bool.{cond}
 
 -- the cells of a split's copy, by the bytes that they are copied from
 abbrev copied : (ℕ → ℕ) → ℕ → Built → List ℕ → List ℕ → List ℕ → Built
@@ -50,7 +50,7 @@ module _ (layout : Layout) (m m′ : Memory) where
   unfolding tableCopy
   copy-same w same = elim (ℕ-discrete w 0) [
     | yes zero-word ↦ rw (eq-eqb w 0 zero-word)
-    | no other ↦ ap (λ s. pick (eqb w 0) blank s) (sym (same other))
+    | no other ↦ ap (λ s. cond (eqb w 0) blank s) (sym (same other))
   ]
 
   module _ (number : ℕ → ℕ) (x : ℕ) (near : x < 256) (b : Built) where
@@ -142,7 +142,7 @@ module _ (layout : Layout) (m m′ : Memory) where
       ap (λ s. allocate number 31 (prefixCell value (prefixLink s)) []) (sym (agree-head m m′ c (q .0 .footprint) agree′))
   valueAt-frame number value w invalid X e agree = refl
 
-module _ (layout : Layout) (small : layout .cells ≤ 2048) (m : Memory) (bytes : (c : ℕ) → IsBytes (m c)) (m′ : Memory) where
+module _ (layout : Layout) (small : layout .cells ≤ cellLimit) (m : Memory) (bytes : (c : ℕ) → IsBytes (m c)) (m′ : Memory) where
   -- the build framing law
   pub build-frame : (number : ℕ → ℕ) (value : ℕ) (key : List ℕ) → IsBytes key → (d w : ℕ) (cs : List ℕ) → length key ≤ d
       → tree layout m d w ≡ some cs → Agree m m′ cs → build layout number m′ w key value ≡ build layout number m w key value

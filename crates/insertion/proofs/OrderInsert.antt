@@ -1,7 +1,7 @@
 -- A digit put into the digits of a number, walked from the lowest: what each stop and each step says of the whole.
 use mathlib.Core.Path.{_≡_, sym, ap, _∙_}
 use mathlib.Core.Logic.{_≢_}
-use mathlib.Core.Bool.{true}
+use mathlib.Core.Bool.{true, cond}
 use mathlib.Core.List.{List, [], _∷_}
 use native.Mathlib.Decide.{ℕ-discrete}
 use native.Mathlib.Omega.{arith}
@@ -9,7 +9,6 @@ use Prim.Native.Nat.{ℕ, _+_, _-_, _*_, _/_, _%_, _≤_, _<_}
 use lib.Dec.{eqb}
 use lib.ListN.{length}
 use borrow.Author.Tests.{ne-eqb}
-use Rattle.cells.specs.Choice.{pick}
 use Rattle.cells.specs.Occurrences.{occurrences}
 use Rattle.cells.proofs.Occurrences.{occurrences-cons}
 use Rattle.order_words.specs.Digits.{digits, encode, orderDigits}
@@ -67,7 +66,7 @@ module _ (character : ℕ → ℕ) (x k : ℕ) where
       six d o = elim (ℕ-discrete d k) [
         | yes e ↦ omega arith
         | no n ↦
-            let p : _≡_ {A = ℕ} (pick (eqb d k) 1 0) 0 = rw (ne-eqb d k n) in
+            let p : _≡_ {A = ℕ} (cond (eqb d k) 1 0) 0 = rw (ne-eqb d k n) in
             digits-below-six left rest d (omega (arith, o, occurrences-withDigit character x k d (digits left rest), occurrences-cons d k (digits left rest)))
       ]
 

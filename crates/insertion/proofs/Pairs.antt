@@ -1,7 +1,7 @@
 -- A chain with another character: a sparse cell of two children in rising order.
 use mathlib.Core.Path.{_≡_, refl, sym, ap, _∙_}
 use mathlib.Core.Logic.{_≢_}
-use mathlib.Core.Bool.{Bool, true, false}
+use mathlib.Core.Bool.{Bool, true, false, cond}
 use mathlib.Core.List.{List, [], _∷_, map}
 use Prim.Native.Nat.{ℕ, _≤_, _<_}
 use native.Mathlib.Decide.{decLt}
@@ -9,7 +9,6 @@ use native.Mathlib.Omega.{arith}
 use lib.Dec.{eqb}
 use lib.ListN.{length}
 use borrow.Author.Tests.{eqb-true, ne-eqb, lt-ltb, le-ltb}
-use Rattle.cells.specs.Choice.{pick}
 use Rattle.cells.specs.Bytes.{zeros}
 use Rattle.cells.specs.Word.{wordAt, withWord}
 use Rattle.cells.specs.Memory.{Memory}
@@ -17,7 +16,7 @@ use Rattle.cells.specs.Occurrences.{occurrences, all}
 use Rattle.cells.proofs.Words.{recombine}
 use Rattle.order_words.specs.Digits.{digits}
 use Rattle.order_words.specs.Order.{eachOnce, place, validDigits, rising}
-use Rattle.nodes.specs.Layout.{Layout}
+use Rattle.nodes.specs.Layout.{Layout, cellLimit}
 use Rattle.nodes.specs.Pointer.{byKind}
 use Rattle.nodes.specs.Sparse.{someWord, everyWord, sparseWord, sparseCharacter, sparseDigits, validSparse, childFrom, sparseChild}
 use Rattle.nodes.specs.Node.{Node, oneChild, sparseNode, plain}
@@ -72,22 +71,22 @@ module _ (a u b v : ℕ) (rise : a < b) (u-nonzero : u ≢ 0) (v-nonzero : v ≢
   unfolding validSparse
   pair-valid = rw (pair-digits a u b v, pair-order, pair-words, pair-others a u b v, pair-rising)
 
-  pub pair-child : (y : ℕ) → sparseChild (pairCell a u b v) y ≡ pick (eqb y a) u (pick (eqb y b) v 0)
+  pub pair-child : (y : ℕ) → sparseChild (pairCell a u b v) y ≡ cond (eqb y a) u (cond (eqb y b) v 0)
   unfolding childFrom
   pair-child y =
       rw (pair-digits a u b v, pair-first-character a u b v, pair-second-character a u b v, pair-first a u b v u-small, pair-second a u b v v-small)
 
 -- the order in which two different characters are asked for does not matter
-pick-swap : (y x a w u : ℕ) → x ≢ a → pick (eqb y a) u (pick (eqb y x) w 0) ≡ pick (eqb y x) w (pick (eqb y a) u 0)
-pick-swap y x a w u different = go (eqb y a) (eqb y x) refl refl
+cond-swap : (y x a w u : ℕ) → x ≢ a → cond (eqb y a) u (cond (eqb y x) w 0) ≡ cond (eqb y x) w (cond (eqb y a) u 0)
+cond-swap y x a w u different = go (eqb y a) (eqb y x) refl refl
   where
-    go : (s t : Bool) → eqb y a ≡ s → eqb y x ≡ t → pick s u (pick t w 0) ≡ pick t w (pick s u 0)
+    go : (s t : Bool) → eqb y a ≡ s → eqb y x ≡ t → cond s u (cond t w 0) ≡ cond t w (cond s u 0)
     go true true p q = absurd (different (sym (eqb-true y x q) ∙ eqb-true y a p))
     go true false p q = refl
     go false true p q = refl
     go false false p q = refl
 
-module _ (layout : Layout) (small : layout .cells ≤ 2048) (number : ℕ → ℕ) (m′ : Memory) where
+module _ (layout : Layout) (small : layout .cells ≤ cellLimit) (number : ℕ → ℕ) (m′ : Memory) where
   -- a sparse cell just allocated whose children are those of Y and the new one
   pub sparse-allocated : (Y : Node) (x : ℕ) (b : Built) (bytes : List ℕ) → validSparse bytes ≡ true
       → ((y : ℕ) → sparseChild bytes y ≡ withChild (Y .child) x (b .word) y)
@@ -121,12 +120,12 @@ module _ (layout : Layout) (small : layout .cells ≤ 2048) (number : ℕ → �
         sparse-allocated Y x b (sparsePair x (b .word) a u)
         (ap validSparse is ∙ pair-valid x (b .word) a u first (fine .nonzero) u-nonzero (fine .small) u-small)
         (λ y. ap (λ s. sparseChild s y) is ∙ pair-child x (b .word) a u first (fine .nonzero) u-nonzero (fine .small) u-small y
-        ∙ ap (pick (eqb y x) (b .word)) (sym (child y))) held
+        ∙ ap (cond (eqb y x) (b .word)) (sym (child y))) held
     | no later ↦
         let is : sparsePair x (b .word) a u ≡ pairCell a u x (b .word) = rw (le-ltb x a (omega arith)) in
         let rise : a < x = omega arith in
         sparse-allocated Y x b (sparsePair x (b .word) a u)
         (ap validSparse is ∙ pair-valid a u x (b .word) rise u-nonzero (fine .nonzero) u-small (fine .small))
         (λ y. ap (λ s. sparseChild s y) is ∙ pair-child a u x (b .word) rise u-nonzero (fine .nonzero) u-small (fine .small) y
-        ∙ pick-swap y x a (b .word) u different ∙ ap (pick (eqb y x) (b .word)) (sym (child y))) held
+        ∙ cond-swap y x a (b .word) u different ∙ ap (cond (eqb y x) (b .word)) (sym (child y))) held
   ]

@@ -1,6 +1,6 @@
 -- A value put back over a node by a new prefix cell.
 use mathlib.Core.Path.{_≡_, refl, sym, ap, _∙_}
-use mathlib.Core.Bool.{true}
+use mathlib.Core.Bool.{true, cond}
 use mathlib.Core.List.{List, [], _∷_}
 use mathlib.Core.Option.{Option, none, some}
 use Prim.Native.Nat.{ℕ, _+_, _≤_, _<_}
@@ -8,14 +8,13 @@ use native.Mathlib.Omega.{arith}
 use lib.Dec.{eqb}
 use lib.ListN.{length, getD}
 use borrow.Author.Tests.{lt-ltb}
-use Rattle.cells.specs.Choice.{pick}
 use Rattle.cells.specs.Bytes.{zeros}
 use Rattle.cells.specs.Word.{wordAt, withWord}
 use Rattle.cells.specs.Memory.{Memory}
 use Rattle.cells.specs.Occurrences.{occurrences}
 use Rattle.cells.proofs.Occurrences.{occurrences-append}
 use Rattle.cells.proofs.Words.{recombine}
-use Rattle.nodes.specs.Layout.{Layout}
+use Rattle.nodes.specs.Layout.{Layout, cellLimit}
 use Rattle.nodes.specs.Pointer.{pointer, byKind}
 use Rattle.nodes.specs.Pointer.Pointer.{prefix}
 use Rattle.nodes.specs.Prefix.{prefixValue, prefixLink, validPrefix}
@@ -53,7 +52,7 @@ prefix-reads layout m′ c v w linked clear small here reads =
     prefix-join layout m′ c linked (ap validPrefix here ∙ prefix-cell-valid v w clear) (ap (λ u. plain layout m′ (pointer layout u)) link ∙ reads)
     ∙ ap (λ u. some (prefixed u c linked)) value
 
-module _ (layout : Layout) (small : layout .cells ≤ 2048) (number : ℕ → ℕ) (m′ : Memory) where
+module _ (layout : Layout) (small : layout .cells ≤ cellLimit) (number : ℕ → ℕ) (m′ : Memory) where
   -- the same of a prefix cell just allocated
   pub prefix-allocated : (v w : ℕ) (cells : List (List ℕ)) (linked : Node) → v < 2147483648 → w < 4294967296
       → plain layout m′ (pointer layout w) ≡ some linked → Held layout number m′ (allocate number 31 (prefixCell v w) cells)
@@ -82,7 +81,7 @@ module _ (layout : Layout) (small : layout .cells ≤ 2048) (number : ℕ → �
         node = p .node;
         reads = read-is layout m′ (r .word) _ refl ∙ plain-read layout m′ _ (p .node) (p .reads);
         value = p .value ∙ sym had;
-        child = λ y near. p .child y near ∙ ap (pick (eqb y x) (b .word)) (sym (children y));
+        child = λ y near. p .child y near ∙ ap (cond (eqb y x) (b .word)) (sym (children y));
         most = λ c. omega (arith, p .most c, visits c);
         least = p .least;
         fine = p .fine;
@@ -100,7 +99,7 @@ module _ (layout : Layout) (small : layout .cells ≤ 2048) (number : ℕ → �
         node = prefixed v (number (length (r .cells))) (p .node);
         reads = q .0;
         value = sym had;
-        child = λ y near. p .child y near ∙ ap (pick (eqb y x) (b .word)) (sym (children y));
+        child = λ y near. p .child y near ∙ ap (cond (eqb y x) (b .word)) (sym (children y));
         most = λ c. omega (arith, p .most c, visits c, here c, more c);
         least = λ c. omega (arith, p .least c, here c, more c);
         fine = q .1;

@@ -1,18 +1,17 @@
 -- Laws of the room before a chain, and of a cell just allocated.
 use mathlib.Core.Path.{_≡_, refl, sym, subst}
 use mathlib.Core.Logic.{_≢_}
-use mathlib.Core.Bool.{Bool, true, false, _&&_}
+use mathlib.Core.Bool.{Bool, true, false, _&&_, cond}
 use mathlib.Core.List.{List, [], _∷_}
 use Prim.Native.Nat.{ℕ, zero, suc, _+_, _*_, _%_, _≤_, _<_}
 use native.Mathlib.Omega.{arith}
 use lib.Dec.{ltb}
 use lib.ListN.{length}
 use borrow.Author.Tests.{lt-ltb, le-ltb}
-use Rattle.cells.specs.Choice.{pick}
 use Rattle.cells.specs.Memory.{Memory}
 use Rattle.cells.specs.Occurrences.{occurrences}
 use Rattle.cells.proofs.Pointers.{kind-of-made}
-use Rattle.nodes.specs.Layout.{Layout, usable}
+use Rattle.nodes.specs.Layout.{Layout, usable, cellLimit}
 use Rattle.nodes.specs.Pointer.{pointer, byKind, wordTo}
 use Rattle.nodes.proofs.Pointers.{usable-low, usable-inside, made}
 use Rattle.insertion.specs.Built.{Built, unowned, allocate, room, roomOf}
@@ -24,13 +23,13 @@ unfolding room
 room-unowned word = refl
 
 -- the room is never more than the kind
-pick-most : (t : Bool) (k : ℕ) → pick t k 0 ≤ k
-pick-most true k = omega arith
-pick-most false k = omega arith
+cond-most : (t : Bool) (k : ℕ) → cond t k 0 ≤ k
+cond-most true k = omega arith
+cond-most false k = omega arith
 
 pub room-most : (own : Bool) (word : ℕ) → room own word ≤ word % 32
 unfolding room
-room-most own word = pick-most (own && ltb word 2147483648 && ltb (word % 32) 28) (word % 32)
+room-most own word = cond-most (own && ltb word 2147483648 && ltb (word % 32) 28) (word % 32)
 
 pub room-below : (own : Bool) (c k : ℕ) → room own (wordTo c k) ≤ k
 room-below own c k = omega (arith, room-most own (c * 32 + k))
@@ -46,7 +45,7 @@ pub room-other : (c k : ℕ) → 28 ≤ k → k < 32 → room true (wordTo c k) 
 unfolding room
 room-other c k other kind = go (ltb (c * 32 + k) 2147483648)
   where
-    go : (t : Bool) → pick (true && t && ltb ((c * 32 + k) % 32) 28) ((c * 32 + k) % 32) 0 ≡ 0
+    go : (t : Bool) → cond (true && t && ltb ((c * 32 + k) % 32) 28) ((c * 32 + k) % 32) 0 ≡ 0
     go true = let here : (c * 32 + k) % 32 ≡ k = kind-of-made c k kind in rw (here, le-ltb k 28 other)
     go false = refl
 
@@ -69,7 +68,7 @@ pub allocate-numbers : (number : ℕ → ℕ) (c kind : ℕ) (bytes : List ℕ) 
 unfolding allocate
 allocate-numbers number c kind bytes cells = numbers-more number c bytes cells
 
-module _ (layout : Layout) (small : layout .cells ≤ 2048) (number : ℕ → ℕ) (cells : List (List ℕ)) (free : usable layout (number (length cells)) ≡ true) where
+module _ (layout : Layout) (small : layout .cells ≤ cellLimit) (number : ℕ → ℕ) (cells : List (List ℕ)) (free : usable layout (number (length cells)) ≡ true) where
   -- that of a chain
   pub allocate-room-chain : (kind : ℕ) (bytes : List ℕ) → kind < 28 → roomOf (allocate number kind bytes cells) ≡ kind
   unfolding allocate

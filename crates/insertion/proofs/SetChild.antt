@@ -7,7 +7,7 @@ use Rattle.cells.specs.Bytes.{IsBytes}
 use Rattle.cells.specs.Memory.{Memory}
 use Rattle.cells.proofs.Choice.{never}
 use Rattle.cells.proofs.Occurrences.{Agree}
-use Rattle.nodes.specs.Layout.{Layout}
+use Rattle.nodes.specs.Layout.{Layout, cellLimit}
 use Rattle.nodes.specs.Pointer.{Pointer, pointer}
 use Rattle.nodes.specs.Pointer.Pointer.{nothing, leaf, chain, split, sparse, prefix, invalid}
 use Rattle.nodes.specs.Node.{Node, childless, readAt, read}
@@ -21,7 +21,7 @@ use Rattle.insertion.proofs.ChainSet.{chain-set-placed, chain-set-held}
 use Rattle.insertion.proofs.SparseSet.{sparse-placed, sparse-held}
 use Rattle.insertion.proofs.SplitCopied.{split-placed, split-held}
 
-module _ (layout : Layout) (small : layout .cells ≤ 2048) (number : ℕ → ℕ) (m m′ : Memory)
+module _ (layout : Layout) (small : layout .cells ≤ cellLimit) (number : ℕ → ℕ) (m m′ : Memory)
     (bytes : (c : ℕ) → IsBytes (m c)) (whole : (c : ℕ) → length (m c) ≡ 32) where
   -- by the kind of the word: NONE has no children, a leaf and a prefix have a value
   module _ (w : ℕ) (Y : Node) (x : ℕ) (b : Built) where

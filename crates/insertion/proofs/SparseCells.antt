@@ -9,7 +9,6 @@ use lib.Dec.{eqb}
 use lib.ListN.{length, getD, set, length-set}
 use lib.Seq.{getD-set-same, getD-set-other}
 use borrow.Author.Tests.{eq-eqb, ne-eqb}
-use Rattle.cells.specs.Choice.{pick}
 use Rattle.cells.proofs.Words.{length-withWord, word-agree, byte-other}
 use Rattle.order_words.specs.Digits.{orderDigits}
 use Rattle.order_words.specs.Order.{rising}
@@ -23,6 +22,7 @@ use Rattle.insertion.specs.NewCells.{withoutCharacters, sparseCopy, repl
 use Rattle.insertion.specs.SetChild.{withChild}
 use Rattle.insertion.proofs.SplitWords.{table-set}
 use Rattle.nodes.proofs.SparseChildren.{Sparse, position-has, position-first, child-at, child-alike, child-last}
+use mathlib.Core.Bool.{cond}
 
 -- characters set to zero
 without-length : (count from : ℕ) (bytes : List ℕ) → length (withoutCharacters count from bytes) ≡ length bytes
@@ -75,9 +75,9 @@ module _ (bytes : List ℕ) (whole : length bytes ≡ 32) (most : sparseCount by
     pub replaced-length : length (replacedCell bytes p w) ≡ 32
     replaced-length = length-withWord (sparseCopy bytes) (4 * p) w ∙ copy-length
 
-    pub replaced-word : w < 4294967296 → (q : ℕ) → q < 6 → sparseWord (replacedCell bytes p w) q ≡ pick (eqb q p) w (sparseWord bytes q)
+    pub replaced-word : w < 4294967296 → (q : ℕ) → q < 6 → sparseWord (replacedCell bytes p w) q ≡ cond (eqb q p) w (sparseWord bytes q)
     replaced-word small q near =
-        table-set (sparseCopy bytes) p w q copy-length (omega arith) small ∙ ap (pick (eqb q p) w) (copy-word q near)
+        table-set (sparseCopy bytes) p w q copy-length (omega arith) small ∙ ap (cond (eqb q p) w) (copy-word q near)
 
     pub replaced-byte : (j : ℕ) → 24 ≤ j → (j < 24 + sparseCount bytes) ⊎ (30 ≤ j) → getD (replacedCell bytes p w) j 0 ≡ getD bytes j 0
     replaced-byte j behind kept = byte-other (sparseCopy bytes) (4 * p) w j (inr (omega arith)) ∙ copy-byte j kept
@@ -90,10 +90,10 @@ module _ (bytes : List ℕ) (whole : length bytes ≡ 32) (most : sparseCount by
     replaced-digits = rw (replaced-byte 30 (omega arith) (inr (omega arith)), replaced-byte 31 (omega arith) (inr (omega arith)))
 
 -- a word chosen by position: the one put there, or the one of before
-chosen-here : (words : ℕ → ℕ) (w p q : ℕ) → q ≡ p → pick (eqb q p) w (words q) ≡ w
+chosen-here : (words : ℕ → ℕ) (w p q : ℕ) → q ≡ p → cond (eqb q p) w (words q) ≡ w
 chosen-here words w p q same = rw (eq-eqb q p same)
 
-chosen-other : (words : ℕ → ℕ) (w p q : ℕ) → q ≢ p → pick (eqb q p) w (words q) ≡ words q
+chosen-other : (words : ℕ → ℕ) (w p q : ℕ) → q ≢ p → cond (eqb q p) w (words q) ≡ words q
 chosen-other words w p q other = rw (ne-eqb q p other)
 
 -- a valid cell with the word of one of its positions replaced
@@ -174,7 +174,7 @@ module _ (bytes : List ℕ) (whole : length bytes ≡ 32) (cell : Sparse bytes (
     appended-character d near =
         appended-byte (24 + d) (omega arith) (omega arith) ∙ replaced-character bytes whole most (sparseCount bytes) w room d near
 
-    appended-word : (q : ℕ) → q < 6 → sparseWord (appendedCell bytes x w) q ≡ pick (eqb q (sparseCount bytes)) w (sparseWord bytes q)
+    appended-word : (q : ℕ) → q < 6 → sparseWord (appendedCell bytes x w) q ≡ cond (eqb q (sparseCount bytes)) w (sparseWord bytes q)
     appended-word q near =
         word-agree (appendedCell bytes x w) (replacedCell bytes (sparseCount bytes) w) (4 * q) (4 * q)
         (λ r inside. appended-byte (4 * q + r) (omega arith) (omega arith))

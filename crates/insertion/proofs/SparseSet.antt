@@ -1,7 +1,7 @@
 -- Setting a child of a sparse node.
 use mathlib.Core.Path.{_≡_, refl, subst}
 use mathlib.Core.Logic.{_≢_}
-use mathlib.Core.Bool.{Bool, true, false}
+use mathlib.Core.Bool.{Bool, true, false, cond}
 use mathlib.Core.List.{List}
 use mathlib.Core.Option.{some}
 use Prim.Native.Nat.{ℕ, _≤_, _<_}
@@ -9,10 +9,9 @@ use native.Mathlib.Omega.{arith}
 use lib.Dec.{ltb}
 use lib.ListN.{length}
 use borrow.Author.Tests.{ltb-true, ltb-false}
-use Rattle.cells.specs.Choice.{pick}
 use Rattle.cells.specs.Bytes.{IsBytes}
 use Rattle.cells.specs.Memory.{Memory}
-use Rattle.nodes.specs.Layout.{Layout}
+use Rattle.nodes.specs.Layout.{Layout, cellLimit}
 use Rattle.nodes.specs.Pointer.Pointer.{sparse}
 use Rattle.nodes.specs.Sparse.{sparseCharacter, sparseDigits, sparseCount, validSparse, positionOf, sparseChild}
 use Rattle.nodes.specs.Node.{Node, sparseNode, plain}
@@ -44,7 +43,7 @@ module _ (number : ℕ → ℕ) (bytes : List ℕ) (x : ℕ) (b : Built) where
   abbrev divided : Built
   divided = splitOf number (withChild (sparseChild bytes) x (b .word)) (b .cells)
 
-module _ (layout : Layout) (small : layout .cells ≤ 2048) (number : ℕ → ℕ) (m m′ : Memory)
+module _ (layout : Layout) (small : layout .cells ≤ cellLimit) (number : ℕ → ℕ) (m m′ : Memory)
     (bytes : (c : ℕ) → IsBytes (m c)) (whole : (c : ℕ) → length (m c) ≡ 32) where
   module _ (c : ℕ) (valid : validSparse (m c) ≡ true) (x : ℕ) (character : x < 256) (b : Built) (fine : Fine layout number b) where
     abbrev Sets : Built → Type 0
@@ -76,12 +75,12 @@ module _ (layout : Layout) (small : layout .cells ≤ 2048) (number : ℕ → �
     unfolding sparseSet
     set-placed held = go (ltb (position (m c) x) (sparseCount (m c))) refl held
       where
-        more : (t : Bool) → ltb (sparseCount (m c)) 6 ≡ t → sparseCount (m c) ≤ position (m c) x → Sets (pick t (appended number (m c) x b) (divided number (m c) x b))
+        more : (t : Bool) → ltb (sparseCount (m c)) 6 ≡ t → sparseCount (m c) ≤ position (m c) x → Sets (cond t (appended number (m c) x b) (divided number (m c) x b))
         more true e lacks held = appended-placed lacks (ltb-true (sparseCount (m c)) 6 e) held
         more false e lacks held = divided-placed held
 
         go : (t : Bool) → ltb (position (m c) x) (sparseCount (m c)) ≡ t
-            → Sets (pick t (replaced number (m c) x b) (pick (ltb (sparseCount (m c)) 6) (appended number (m c) x b) (divided number (m c) x b)))
+            → Sets (cond t (replaced number (m c) x b) (cond (ltb (sparseCount (m c)) 6) (appended number (m c) x b) (divided number (m c) x b)))
         go true e held = replaced-placed (ltb-true (position (m c) x) (sparseCount (m c)) e) held
         go false e held = more (ltb (sparseCount (m c)) 6) refl (ltb-false (position (m c) x) (sparseCount (m c)) e) held
 
@@ -97,7 +96,7 @@ module _ (layout : Layout) (small : layout .cells ≤ 2048) (number : ℕ → �
   unfolding sparseSet
   sparse-held c x b held = go (ltb (position (m c) x) (sparseCount (m c))) (ltb (sparseCount (m c)) 6) held
     where
-      go : (t u : Bool) → Held layout number m′ (pick t (replaced number (m c) x b) (pick u (appended number (m c) x b) (divided number (m c) x b))) → Held layout number m′ b
+      go : (t u : Bool) → Held layout number m′ (cond t (replaced number (m c) x b) (cond u (appended number (m c) x b) (divided number (m c) x b))) → Held layout number m′ b
       go true u held = allocate-before layout number m′ 0x1E (replacedCell (m c) (position (m c) x) (b .word)) b held
       go false true held = allocate-before layout number m′ 0x1E (appendedCell (m c) x (b .word)) b held
       go false false held = splitOf-held layout number m′ (withChild (sparseChild (m c)) x (b .word)) b held

@@ -1,7 +1,7 @@
 -- A split of some children is at most an end for each of them, four mids and a head.
 use mathlib.Core.Path.{_≡_, refl, ap}
 use mathlib.Core.Logic.{_≢_}
-use mathlib.Core.Bool.{Bool, true, false}
+use mathlib.Core.Bool.{Bool, true, false, cond}
 use mathlib.Core.List.{List, _∷_}
 use native.Mathlib.Omega.{arith}
 use native.Mathlib.Decide.{ℕ-discrete}
@@ -9,7 +9,6 @@ use Prim.Native.Nat.{ℕ, zero, suc, _+_, _*_, _≤_, _<_}
 use lib.Dec.{eqb}
 use lib.ListN.{length}
 use borrow.Author.Tests.{eq-eqb, ne-eqb}
-use Rattle.cells.specs.Choice.{pick}
 use Rattle.cells.proofs.Choice.{absurd-false}
 use Rattle.nodes.specs.Pointer.{wordTo}
 use Rattle.nodes.specs.Sparse.{someWord, sparseCharacter, sparseWord, sparseCount, childFrom, sparseChild}
@@ -22,7 +21,7 @@ use Rattle.insertion.specs.SetChild.{withChild}
 -- how many words are pointers, of so many from one on
 unfoldable pub pointers : (ℕ → ℕ) → ℕ → ℕ → ℕ
 pointers words zero from = 0
-pointers words (suc count) from = pick (eqb (words from) 0) 0 1 + pointers words count (from + 1)
+pointers words (suc count) from = cond (eqb (words from) 0) 0 1 + pointers words count (from + 1)
 
 -- counted in two parts, or from another place
 pointers-cut : (words : ℕ → ℕ) (count more total from to : ℕ) → total ≡ count + more → to ≡ from + count
@@ -53,8 +52,8 @@ unfolding someWord pointers
 pointers-some words zero from e = absurd-false e
 pointers-some words (suc count) from e = go (eqb (words from) 0) e (pointers-some words count (from + 1))
   where
-    go : (t : Bool) → pick t (someWord words count (from + 1)) true ≡ true
-        → (someWord words count (from + 1) ≡ true → 1 ≤ pointers words count (from + 1)) → 1 ≤ pick t 0 1 + pointers words count (from + 1)
+    go : (t : Bool) → cond t (someWord words count (from + 1)) true ≡ true
+        → (someWord words count (from + 1) ≡ true → 1 ≤ pointers words count (from + 1)) → 1 ≤ cond t 0 1 + pointers words count (from + 1)
     go true e later = let r = later e in omega (arith, r)
     go false e later = omega arith
 
@@ -73,7 +72,7 @@ module _ (words : ℕ → ℕ) (x word : ℕ) where
     | no other ↦ rw (ne-eqb from x other) (let later = pointers-with count (from + 1) in omega (arith, later))
   ]
     where
-      one : (t u : Bool) (k : ℕ) → pick t 0 1 + k ≤ 1 + (pick u 0 1 + k)
+      one : (t u : Bool) (k : ℕ) → cond t 0 1 + k ≤ 1 + (cond u 0 1 + k)
       one true true k = omega arith
       one true false k = omega arith
       one false true k = omega arith
@@ -95,7 +94,7 @@ module _ (number : ℕ → ℕ) where
   table-most words cells = go (someWord words 8 0) (pointers-some words 8 0)
     where
       go : (t : Bool) → (t ≡ true → 1 ≤ pointers words 8 0)
-          → length (pick {A = Row} t (record { words = λ _. wordTo (number (length cells)) 28; cells = withWords words 8 0 blank ∷ cells }) (record { words = λ _. 0; cells = cells }) .cells)
+          → length (cond {A = Row} t (record { words = λ _. wordTo (number (length cells)) 28; cells = withWords words 8 0 blank ∷ cells }) (record { words = λ _. 0; cells = cells }) .cells)
           ≤ length cells + pointers words 8 0
       go true h = let r = h refl in omega (arith, r)
       go false h = omega arith
@@ -105,7 +104,7 @@ module _ (number : ℕ → ℕ) where
   table-one words cells = go (someWord words 8 0)
     where
       go : (t : Bool)
-          → length (pick {A = Row} t (record { words = λ _. wordTo (number (length cells)) 28; cells = withWords words 8 0 blank ∷ cells }) (record { words = λ _. 0; cells = cells }) .cells)
+          → length (cond {A = Row} t (record { words = λ _. wordTo (number (length cells)) 28; cells = withWords words 8 0 blank ∷ cells }) (record { words = λ _. 0; cells = cells }) .cells)
           ≤ 1 + length cells
       go true = omega arith
       go false = omega arith

@@ -10,7 +10,7 @@ use lib.ListN.{length}
 use Rattle.cells.specs.Memory.{Memory}
 use Rattle.cells.specs.Occurrences.{occurrences}
 use Rattle.cells.proofs.Occurrences.{occurrences-append}
-use Rattle.nodes.specs.Layout.{Layout, usable}
+use Rattle.nodes.specs.Layout.{Layout, usable, cellLimit}
 use Rattle.nodes.specs.Pointer.{pointer, byKind, wordTo}
 use Rattle.nodes.specs.Split.{headWord, tableWord, validHead, validTable, gather, under, endCells, midCells, headCells, wordBelow, splitChild}
 use Rattle.nodes.specs.Node.{Node, plain, splitNode}
@@ -26,7 +26,7 @@ module _ (layout : Layout) (c : ℕ) (free : usable layout c ≡ true) where
   pub made-nonzero : wordTo c 0x1C ≢ 0
   made-nonzero = omega (arith, usable-low layout c free)
 
-  module _ (small : layout .cells ≤ 2048) where
+  module _ (small : layout .cells ≤ cellLimit) where
     pub made-bounded : wordTo c 0x1C < 4294967296
     made-bounded = omega (arith, usable-inside layout c free)
 
@@ -49,7 +49,7 @@ module _ (layout : Layout) (number : ℕ → ℕ) (m′ : Memory) where
   unfolding allocate
   allocate-older kind bytes cells held = held .1
 
-module _ (layout : Layout) (small : layout .cells ≤ 2048) (number : ℕ → ℕ) (m′ : Memory) where
+module _ (layout : Layout) (small : layout .cells ≤ cellLimit) (number : ℕ → ℕ) (m′ : Memory) where
   -- a head just allocated
   module _ (bytes : List ℕ) (cells : List (List ℕ)) (held : Held layout number m′ (allocate number 0x1C bytes cells)) where
     head-stands : Stands layout m′ 0 (number (length cells)) bytes

@@ -1,7 +1,7 @@
 -- A split copied with one child set.
 use mathlib.Core.Path.{_≡_, refl, sym, ap, _∙_, subst}
 use mathlib.Core.Logic.{_≢_}
-use mathlib.Core.Bool.{true}
+use mathlib.Core.Bool.{true, cond}
 use mathlib.Core.List.{List, [], _∷_}
 use mathlib.Core.Option.{Option, some}
 use native.Mathlib.Decide.{ℕ-discrete}
@@ -10,13 +10,12 @@ use Prim.Native.Nat.{ℕ, _+_, _*_, _/_, _%_, _≤_, _<_}
 use lib.Dec.{eqb}
 use lib.ListN.{length}
 use borrow.Author.Tests.{eq-eqb, ne-eqb}
-use Rattle.cells.specs.Choice.{pick}
 use Rattle.cells.specs.Bytes.{IsBytes}
 use Rattle.cells.specs.Word.{withWord}
 use Rattle.cells.specs.Memory.{Memory}
 use Rattle.cells.specs.Occurrences.{occurrences}
 use Rattle.cells.proofs.Occurrences.{occurrences-append, occurrences-none, occurrences-later, Agree, agree-less, agree-head, agree-tail}
-use Rattle.nodes.specs.Layout.{Layout}
+use Rattle.nodes.specs.Layout.{Layout, cellLimit}
 use Rattle.nodes.specs.Pointer.{wordTo}
 use Rattle.nodes.specs.Pointer.Pointer.{split}
 use Rattle.nodes.specs.Sparse.{someWord}
@@ -36,14 +35,14 @@ use Rattle.insertion.proofs.SplitCells.{made-nonzero, made-bounded, mad
 
 -- words with one of them replaced by a pointer: some word is a pointer, and what is gathered under them
 pub some-replaced : (words words′ : ℕ → ℕ) (count p v : ℕ) → p < count → v ≢ 0
-    → ((q : ℕ) → q < count → words′ q ≡ pick (eqb q p) v (words q)) → someWord words′ count 0 ≡ true
+    → ((q : ℕ) → q < count → words′ q ≡ cond (eqb q p) v (words q)) → someWord words′ count 0 ≡ true
 some-replaced words words′ count p v inside other same =
     let there : words′ p ≡ v = same p inside ∙ rw (eq-eqb p p refl) in
     some-word-is words′ count 0 p (omega arith) (omega arith) (λ e. other (sym there ∙ e))
 
 pub gather-replaced : (m m′ : Memory) (f g : ℕ → Option (List ℕ)) → Framed m m′ f g
     → (words words′ : ℕ → ℕ) (count p v : ℕ) (a new old : List ℕ)
-    → p < count → v ≢ 0 → under f (words p) ≡ some a → g v ≡ some new → ((q : ℕ) → q < count → words′ q ≡ pick (eqb q p) v (words q))
+    → p < count → v ≢ 0 → under f (words p) ≡ some a → g v ≡ some new → ((q : ℕ) → q < count → words′ q ≡ cond (eqb q p) v (words q))
     → gather (λ q. under f (words q)) count 0 ≡ some old → Agree m m′ old
     → (now : List ℕ) × (gather (λ q. under g (words′ q)) count 0 ≡ some now)
     × ((c : ℕ) → occurrences c now + occurrences c a ≡ occurrences c old + occurrences c new)
@@ -89,9 +88,9 @@ module _ (layout : Layout) (m : Memory) where
   -- the children by the words of a new head, mid and end
   module _ (m′ : Memory) (c : ℕ) (cs : List ℕ) (found : headCells layout m c ≡ some cs) (agree : Agree m m′ (c ∷ cs))
       (x word mid end : ℕ) (head : ℕ → ℕ)
-      (heads : (i : ℕ) → i < 4 → head i ≡ pick (eqb i (x / 64)) mid (headWord (m c) i))
-      (mids : (j : ℕ) → j < 8 → wordBelow m′ mid j ≡ pick (eqb j (x / 8 % 8)) end (wordBelow m (headWord (m c) (x / 64)) j))
-      (ends : (k : ℕ) → k < 8 → wordBelow m′ end k ≡ pick (eqb k (x % 8)) word (wordBelow m (wordBelow m (headWord (m c) (x / 64)) (x / 8 % 8)) k)) where
+      (heads : (i : ℕ) → i < 4 → head i ≡ cond (eqb i (x / 64)) mid (headWord (m c) i))
+      (mids : (j : ℕ) → j < 8 → wordBelow m′ mid j ≡ cond (eqb j (x / 8 % 8)) end (wordBelow m (headWord (m c) (x / 64)) j))
+      (ends : (k : ℕ) → k < 8 → wordBelow m′ end k ≡ cond (eqb k (x % 8)) word (wordBelow m (wordBelow m (headWord (m c) (x / 64)) (x / 8 % 8)) k)) where
     -- with the upper bits of another mid, of another end, and of the same end
     other-mid : (y : ℕ) → y < 256 → y / 64 ≢ x / 64 → wordBelow m′ (wordBelow m′ (head (y / 64)) (y / 8 % 8)) (y % 8) ≡ splitChild m c y
     unfolding splitChild
@@ -101,11 +100,11 @@ module _ (layout : Layout) (m : Memory) where
         ∙ sym (split-child-frame layout m m′ c cs found agree y near)
 
     same-mid : (y : ℕ) → y < 256 → y / 64 ≡ x / 64 → wordBelow m′ (head (y / 64)) (y / 8 % 8)
-        ≡ pick (eqb (y / 8 % 8) (x / 8 % 8)) end (wordBelow m (headWord (m c) (y / 64)) (y / 8 % 8))
+        ≡ cond (eqb (y / 8 % 8) (x / 8 % 8)) end (wordBelow m (headWord (m c) (y / 64)) (y / 8 % 8))
     same-mid y near e =
         let new : head (y / 64) ≡ mid = heads (y / 64) (omega arith) ∙ rw (eq-eqb (y / 64) (x / 64) e) in
         ap (λ v. wordBelow m′ v (y / 8 % 8)) new ∙ mids (y / 8 % 8) (omega arith)
-        ∙ ap (λ i. pick (eqb (y / 8 % 8) (x / 8 % 8)) end (wordBelow m (headWord (m c) i) (y / 8 % 8))) (sym e)
+        ∙ ap (λ i. cond (eqb (y / 8 % 8) (x / 8 % 8)) end (wordBelow m (headWord (m c) i) (y / 8 % 8))) (sym e)
 
     other-end : (y : ℕ) → y < 256 → y / 64 ≡ x / 64 → y / 8 % 8 ≢ x / 8 % 8
         → wordBelow m′ (wordBelow m′ (head (y / 64)) (y / 8 % 8)) (y % 8) ≡ splitChild m c y
@@ -122,13 +121,13 @@ module _ (layout : Layout) (m : Memory) where
         ∙ end-below m′ (wordBelow m (headWord (m c) (y / 64)) (y / 8 % 8)) (y % 8) (r .0) (r .1) alike
 
     same-end : (y : ℕ) → y < 256 → y / 64 ≡ x / 64 → y / 8 % 8 ≡ x / 8 % 8
-        → wordBelow m′ (wordBelow m′ (head (y / 64)) (y / 8 % 8)) (y % 8) ≡ pick (eqb (y % 8) (x % 8)) word (splitChild m c y)
+        → wordBelow m′ (wordBelow m′ (head (y / 64)) (y / 8 % 8)) (y % 8) ≡ cond (eqb (y % 8) (x % 8)) word (splitChild m c y)
     unfolding splitChild
     same-end y near e e2 =
         let new : wordBelow m′ (head (y / 64)) (y / 8 % 8) ≡ end = same-mid y near e ∙ rw (eq-eqb (y / 8 % 8) (x / 8 % 8) e2) in
         ap (λ v. wordBelow m′ v (y % 8)) new ∙ ends (y % 8) (omega arith)
-        ∙ ap (λ i. pick (eqb (y % 8) (x % 8)) word (wordBelow m (wordBelow m (headWord (m c) i) (x / 8 % 8)) (y % 8))) (sym e)
-        ∙ ap (λ j. pick (eqb (y % 8) (x % 8)) word (wordBelow m (wordBelow m (headWord (m c) (y / 64)) j) (y % 8))) (sym e2)
+        ∙ ap (λ i. cond (eqb (y % 8) (x % 8)) word (wordBelow m (wordBelow m (headWord (m c) i) (x / 8 % 8)) (y % 8))) (sym e)
+        ∙ ap (λ j. cond (eqb (y % 8) (x % 8)) word (wordBelow m (wordBelow m (headWord (m c) (y / 64)) j) (y % 8))) (sym e2)
 
     pub copied-children : (y : ℕ) → y < 256 → wordBelow m′ (wordBelow m′ (head (y / 64)) (y / 8 % 8)) (y % 8) ≡ withChild (splitChild m c) x word y
     copied-children y near = elim (ℕ-discrete (y / 64) (x / 64)) [
@@ -148,25 +147,25 @@ module _ (layout : Layout) (number : ℕ → ℕ) (m m′ : Memory) where
   unfolding splitCopied allocate
   split-held c x b held = holds-from layout number m′ _ (b .cells) (held .1 .1 .1)
 
-module _ (layout : Layout) (small : layout .cells ≤ 2048) (number : ℕ → ℕ) (m m′ : Memory)
+module _ (layout : Layout) (small : layout .cells ≤ cellLimit) (number : ℕ → ℕ) (m m′ : Memory)
     (bytes : (c : ℕ) → IsBytes (m c)) (whole : (c : ℕ) → length (m c) ≡ 32) where
   -- the words of a mid or end copied, and of a head copied
-  table-copied : (w p v q : ℕ) → p < 8 → v < 4294967296 → tableWord (withWord (tableCopy m w) (4 * p) v) q ≡ pick (eqb q p) v (wordBelow m w q)
+  table-copied : (w p v q : ℕ) → p < 8 → v < 4294967296 → tableWord (withWord (tableCopy m w) (4 * p) v) q ≡ cond (eqb q p) v (wordBelow m w q)
   table-copied w p v q inside bounded =
-      table-set (tableCopy m w) p v q (tableCopy-length m w (whole (w / 32))) inside bounded ∙ ap (pick (eqb q p) v) (tableCopy-word m w q)
+      table-set (tableCopy m w) p v q (tableCopy-length m w (whole (w / 32))) inside bounded ∙ ap (cond (eqb q p) v) (tableCopy-word m w q)
 
   head-copied : (c p v q : ℕ) → p < 4 → q < 4 → v < 4294967296
-      → headWord (withWord (headCopy (m c)) (0x10 + 4 * p) v) q ≡ pick (eqb q p) v (headWord (m c) q)
+      → headWord (withWord (headCopy (m c)) (0x10 + 4 * p) v) q ≡ cond (eqb q p) v (headWord (m c) q)
   head-copied c p v q inside near bounded =
-      head-set (headCopy (m c)) p v q (headCopy-cell (m c) .size) inside bounded ∙ ap (pick (eqb q p) v) (headCopy-word (m c) q near (bytes c))
+      head-set (headCopy (m c)) p v q (headCopy-cell (m c) .size) inside bounded ∙ ap (cond (eqb q p) v) (headCopy-word (m c) q near (bytes c))
 
   -- a mid or end copied that stands, with a pointer set in it
   module _ (w p v : ℕ) (inside : p < 8) (other : v ≢ 0) (bounded : v < 4294967296) (d : ℕ)
       (stands : Stands layout m′ 0 d (withWord (tableCopy m w) (4 * p) v)) where
-    copy-words : (q : ℕ) → q < 8 → tableWord (m′ d) q ≡ pick (eqb q p) v (wordBelow m w q)
+    copy-words : (q : ℕ) → q < 8 → tableWord (m′ d) q ≡ cond (eqb q p) v (wordBelow m w q)
     copy-words q near = ap (λ l. tableWord l q) (stands .bytes) ∙ table-copied w p v q inside bounded
 
-    copy-below : (q : ℕ) → q < 8 → wordBelow m′ (wordTo d 0x1C) q ≡ pick (eqb q p) v (wordBelow m w q)
+    copy-below : (q : ℕ) → q < 8 → wordBelow m′ (wordTo d 0x1C) q ≡ cond (eqb q p) v (wordBelow m w q)
     copy-below q near = made-below layout d (stands .free) small m′ q ∙ copy-words q near
 
     copy-valid : validTable (m′ d) ≡ true
@@ -223,7 +222,7 @@ module _ (layout : Layout) (small : layout .cells ≤ 2048) (number : ℕ → �
         let M =
         copied-mid mid (x / 8 % 8) (wordTo e 0x1C) (omega arith) e-other e-bounded d mid-stands (at .0) (e ∷ []) (at .1) alike-mid
         (copied-end end (x % 8) (b .word) (omega arith) (fine .nonzero) (fine .small) e end-stands) in
-        let heads : (i : ℕ) → i < 4 → headWord newHead i ≡ pick (eqb i (x / 64)) (wordTo d 0x1C) (headWord (m c) i) =
+        let heads : (i : ℕ) → i < 4 → headWord newHead i ≡ cond (eqb i (x / 64)) (wordTo d 0x1C) (headWord (m c) i) =
         λ i near. head-copied c (x / 64) (wordTo d 0x1C) i (omega arith) near d-bounded in
         let H =
         gather-replaced m m′ (midCells layout m) (midCells layout m′) (mid-frame layout m m′) (headWord (m c)) (headWord newHead) 4 (x / 64) (wordTo d 0x1C)

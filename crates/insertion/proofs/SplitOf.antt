@@ -9,7 +9,7 @@ use Prim.Native.Nat.{ℕ, _+_, _-_, _*_, _/_, _%_, _≤_, _<_}
 use borrow.Author.Tests.{eq-eqb}
 use Rattle.cells.specs.Memory.{Memory}
 use Rattle.cells.proofs.Occurrences.{occurrences-none}
-use Rattle.nodes.specs.Layout.{Layout}
+use Rattle.nodes.specs.Layout.{Layout, cellLimit}
 use Rattle.nodes.specs.Split.{headWord, tableWord, gather, under, endCells, midCells, wordBelow}
 use Rattle.nodes.specs.Node.{Node}
 use Rattle.nodes.proofs.Gather.{gather-same, gather-nil, under-zero}
@@ -20,7 +20,7 @@ use Rattle.insertion.specs.SplitBuild.{Row, rows, endRow, midRow, splitO
 use Rattle.insertion.specs.SetChild.{withChild}
 use Rattle.insertion.proofs.Claims.{Holds, Held, holds-from, Fine, Placed}
 use Rattle.nodes.proofs.WordRows.{some-word-is}
-use Rattle.insertion.proofs.SplitWords.{pick-bounded, head-words, bits-join}
+use Rattle.insertion.proofs.SplitWords.{cond-bounded, head-words, bits-join}
 use Rattle.insertion.proofs.SplitCells.{allocate-older, head-placed, made-below, made-end, made-mid}
 use Rattle.insertion.proofs.SplitRows.{Made, table-holds, rows-holds, rows-made, table-made}
 
@@ -53,7 +53,7 @@ module _ (layout : Layout) (number : ℕ → ℕ) (m′ : Memory) where
   splitOf-held child b held =
       holds-from layout number m′ _ (b .cells) (rows-holds layout number m′ (midRow number child) (mid-holds child) 4 0 (b .cells) (held .1))
 
-module _ (layout : Layout) (small : layout .cells ≤ 2048) (number : ℕ → ℕ) (m′ : Memory) where
+module _ (layout : Layout) (small : layout .cells ≤ cellLimit) (number : ℕ → ℕ) (m′ : Memory) where
   module _ (child : ℕ → ℕ) (bounded : (y : ℕ) → child y < 4294967296) where
     -- the child words below an end, and below a mid
     abbrev EndWords : ℕ → ℕ → ℕ → Type 0
@@ -130,5 +130,5 @@ module _ (layout : Layout) (small : layout .cells ≤ 2048) (number : ℕ → �
       → Placed layout number m′ Y x b (splitOf number (withChild (Y .child) x (b .word)) (b .cells))
   splitOf-with Y x b bounded character fine held =
       let there : withChild (Y .child) x (b .word) x ≡ b .word = rw (eq-eqb x x refl) in
-      splitOf-placed Y x b (withChild (Y .child) x (b .word)) (λ y near. refl) (λ y. pick-bounded (eqb y x) (fine .small) (bounded y)) x character
+      splitOf-placed Y x b (withChild (Y .child) x (b .word)) (λ y near. refl) (λ y. cond-bounded (eqb y x) (fine .small) (bounded y)) x character
       (λ e. fine .nonzero (sym there ∙ e)) held

@@ -1,7 +1,7 @@
 -- Cells of eight words made side by side, and the words that lead to them.
 use mathlib.Core.Path.{_≡_, refl, sym, ap, _∙_, subst}
 use mathlib.Core.Logic.{_≢_}
-use mathlib.Core.Bool.{Bool, true, false}
+use mathlib.Core.Bool.{Bool, true, false, cond}
 use mathlib.Core.List.{List, [], _∷_, _++_}
 use mathlib.Core.Option.{Option, some}
 use native.Mathlib.Decide.{ℕ-discrete}
@@ -10,11 +10,10 @@ use Prim.Native.Nat.{ℕ, zero, suc, _+_, _≤_, _<_}
 use lib.Dec.{eqb}
 use lib.ListN.{length}
 use borrow.Author.Tests.{eq-eqb, ne-eqb}
-use Rattle.cells.specs.Choice.{pick}
 use Rattle.cells.specs.Memory.{Memory}
 use Rattle.cells.specs.Occurrences.{occurrences}
 use Rattle.cells.proofs.Occurrences.{occurrences-append, occurrences-none}
-use Rattle.nodes.specs.Layout.{Layout, usable}
+use Rattle.nodes.specs.Layout.{Layout, usable, cellLimit}
 use Rattle.nodes.specs.Pointer.{wordTo}
 use Rattle.nodes.specs.Sparse.{someWord}
 use Rattle.nodes.specs.Split.{tableWord, validTable, gather, under}
@@ -23,13 +22,13 @@ use Rattle.insertion.specs.NewCells.{blank, withWords}
 use Rattle.insertion.specs.SplitBuild.{Row, tableRow, rows}
 use Rattle.insertion.proofs.Claims.{Holds, numbers, numbers-more}
 use Rattle.nodes.proofs.WordRows.{some-word-is, some-word-at, some-word-not}
-use Rattle.insertion.proofs.SplitWords.{pick-bounded, table-words}
+use Rattle.insertion.proofs.SplitWords.{cond-bounded, table-words}
 use Rattle.insertion.proofs.SplitCells.{made-nonzero, made-bounded}
 
 -- a table's row, by whether some word of it is a pointer
 abbrev tableRowIf : (ℕ → ℕ) → (ℕ → ℕ) → List (List ℕ) → Bool → Row
 tableRowIf number words cells t =
-    pick t (record { words = λ _. wordTo (number (length cells)) 0x1C; cells = withWords words 8 0 blank ∷ cells })
+    cond t (record { words = λ _. wordTo (number (length cells)) 0x1C; cells = withWords words 8 0 blank ∷ cells })
     (record { words = λ _. 0; cells = cells })
 
 module _ (number : ℕ → ℕ) where
@@ -86,7 +85,7 @@ module _ (layout : Layout) (number : ℕ → ℕ) (m′ : Memory) where
         let later : Row = rows make count (i + 1) (make i cells .cells) in
         let R = rows-made count (i + 1) (make i cells .cells) held in
         let O = law i cells (rows-holds make holds count (i + 1) (make i cells .cells) held) in
-        let words : ℕ → ℕ = λ j. pick (eqb j i) (make i cells .words 0) (later .words j) in
+        let words : ℕ → ℕ = λ j. cond (eqb j i) (make i cells .words 0) (later .words j) in
         record {
           cells = O .cells ++ R .cells;
           finds =
@@ -94,14 +93,14 @@ module _ (layout : Layout) (number : ℕ → ℕ) (m′ : Memory) where
               (gather-same (λ j. under found (later .words j)) (λ j. under found (words j)) count (i + 1) (R .cells)
               (λ j a low high e _. let other : j ≢ i = omega arith in rw (ne-eqb j i other) e) (R .finds));
           count = λ c. omega (arith, occurrences-append c (O .cells) (R .cells), O .count c, R .count c);
-          bounded = λ j. pick-bounded (eqb j i) (O .bounded) (R .bounded j);
+          bounded = λ j. cond-bounded (eqb j i) (O .bounded) (R .bounded j);
           good = λ j low high. elim (ℕ-discrete j i) [
             | yes here ↦ rw (eq-eqb j i here) (subst (λ (k : ℕ). Good k (make i cells .words 0)) (sym here) (O .good))
             | no other ↦ rw (ne-eqb j i other) (R .good j (omega arith) (omega arith))
           ];
         }
 
-module _ (layout : Layout) (small : layout .cells ≤ 2048) (number : ℕ → ℕ) (m′ : Memory) where
+module _ (layout : Layout) (small : layout .cells ≤ cellLimit) (number : ℕ → ℕ) (m′ : Memory) where
   -- a table of eight words, the cells below them known
   module _ (found : ℕ → Option (List ℕ)) (Good : ℕ → Type 0) (words : ℕ → ℕ) (bounded : (k : ℕ) → words k < 4294967296)
       (before cells : List (List ℕ)) (below : List ℕ)

@@ -1,7 +1,7 @@
 -- Words written into tables: which word then stands where.
 use mathlib.Core.Path.{_≡_, refl, sym, ap, _∙_, subst}
 use mathlib.Core.Logic.{_≢_, _⊎_, inl, inr}
-use mathlib.Core.Bool.{Bool, true, false}
+use mathlib.Core.Bool.{Bool, true, false, cond}
 use mathlib.Core.List.{List}
 use native.Mathlib.Decide.{decLt, ℕ-discrete}
 use native.Mathlib.Nat.{div-div-eq-div-mul}
@@ -10,7 +10,6 @@ use Prim.Native.Nat.{ℕ, zero, suc, _+_, _*_, _/_, _%_, _≤_, _<_}
 use lib.Dec.{eqb}
 use lib.ListN.{length}
 use borrow.Author.Tests.{eq-eqb, ne-eqb}
-use Rattle.cells.specs.Choice.{pick}
 use Rattle.cells.specs.Bytes.{IsBytes}
 use Rattle.cells.specs.Word.{wordAt, withWord}
 use Rattle.cells.specs.Memory.{Memory}
@@ -21,9 +20,9 @@ use Rattle.insertion.specs.NewCells.{blank, tableCopy, headCopy, withWor
 use Rattle.insertion.proofs.CellBytes.{blank-cell}
 
 -- the chosen of two words is a word
-pub pick-bounded : (t : Bool) {a b : ℕ} → a < 4294967296 → b < 4294967296 → pick t a b < 4294967296
-pick-bounded true p q = p
-pick-bounded false p q = q
+pub cond-bounded : (t : Bool) {a b : ℕ} → a < 4294967296 → b < 4294967296 → cond t a b < 4294967296
+cond-bounded true p q = p
+cond-bounded false p q = q
 
 -- a blank cell
 pub blank-word : (at : ℕ) → wordAt blank at ≡ 0
@@ -33,7 +32,7 @@ blank-word at = rw (zeros-byte 32 at, zeros-byte 32 (at + 1), zeros-byte 32 (at 
 -- one word set, among words that stand side by side
 word-chosen : (l : List ℕ) (at to v p q : ℕ) → at + 4 ≤ length l → v < 4294967296
     → (q ≡ p → to ≡ at) → (q ≢ p → (to + 4 ≤ at) ⊎ (at + 4 ≤ to))
-    → wordAt (withWord l at v) to ≡ pick (eqb q p) v (wordAt l to)
+    → wordAt (withWord l at v) to ≡ cond (eqb q p) v (wordAt l to)
 word-chosen l at to v p q fits small same apart = elim (ℕ-discrete q p) [
   | yes e ↦ rw (eq-eqb q p e) (ap (wordAt (withWord l at v)) (same e) ∙ word-same l at v fits small)
   | no n ↦ rw (ne-eqb q p n) (word-other l at v to (apart n))
@@ -46,7 +45,7 @@ beside base p q n = elim (decLt q p) [
 ]
 
 pub table-set : (l : List ℕ) (p v q : ℕ) → length l ≡ 32 → p < 8 → v < 4294967296
-    → tableWord (withWord l (4 * p) v) q ≡ pick (eqb q p) v (tableWord l q)
+    → tableWord (withWord l (4 * p) v) q ≡ cond (eqb q p) v (tableWord l q)
 table-set l p v q whole inside small =
     word-chosen l (4 * p) (4 * q) v p q (omega arith) small (ap (λ (k : ℕ). 4 * k)) (λ n. apart (beside 0 p q n))
   where
@@ -55,7 +54,7 @@ table-set l p v q whole inside small =
     apart (inr a) = inr (omega arith)
 
 pub head-set : (l : List ℕ) (p v q : ℕ) → length l ≡ 32 → p < 4 → v < 4294967296
-    → headWord (withWord l (0x10 + 4 * p) v) q ≡ pick (eqb q p) v (headWord l q)
+    → headWord (withWord l (0x10 + 4 * p) v) q ≡ cond (eqb q p) v (headWord l q)
 head-set l p v q whole inside small =
     word-chosen l (0x10 + 4 * p) (0x10 + 4 * q) v p q (omega arith) small (ap (λ (k : ℕ). 0x10 + 4 * k)) (beside 0x10 p q)
 
@@ -122,7 +121,7 @@ module _ (m : Memory) (w : ℕ) where
   unfolding tableCopy wordBelow
   tableCopy-word q = go (eqb w 0)
     where
-      go : (t : Bool) → tableWord (pick t blank (m (w / 32))) q ≡ pick t 0 (tableWord (m (w / 32)) q)
+      go : (t : Bool) → tableWord (cond t blank (m (w / 32))) q ≡ cond t 0 (tableWord (m (w / 32)) q)
       go true = blank-word (4 * q)
       go false = refl
 
@@ -130,7 +129,7 @@ module _ (m : Memory) (w : ℕ) where
   unfolding tableCopy
   tableCopy-length whole = go (eqb w 0)
     where
-      go : (t : Bool) → length (pick t blank (m (w / 32))) ≡ 32
+      go : (t : Bool) → length (cond t blank (m (w / 32))) ≡ 32
       go true = blank-cell .size
       go false = whole
 
@@ -139,7 +138,7 @@ childFrom-bounded : (bytes : List ℕ) → IsBytes bytes → (count from y : ℕ
 unfolding childFrom
 childFrom-bounded bytes h zero from y = omega arith
 childFrom-bounded bytes h (suc count) from y =
-    pick-bounded (eqb y (sparseCharacter bytes from)) (word-bound bytes (4 * from) h) (childFrom-bounded bytes h count (from + 1) y)
+    cond-bounded (eqb y (sparseCharacter bytes from)) (word-bound bytes (4 * from) h) (childFrom-bounded bytes h count (from + 1) y)
 
 pub sparseChild-bounded : (bytes : List ℕ) → IsBytes bytes → (y : ℕ) → sparseChild bytes y < 4294967296
 sparseChild-bounded bytes h y = childFrom-bounded bytes h (sparseCount bytes) 0 y

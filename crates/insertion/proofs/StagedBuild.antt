@@ -12,7 +12,6 @@ use Rattle.nodes.specs.Prefix.{prefixLink}
 use Rattle.nodes.specs.Step.{wordStep, childStep}
 use Rattle.nodes.specs.Node.{Node, read}
 use Rattle.nodes.specs.Coded.{pointerOf, stepOf}
-use Rattle.nodes.specs.declared.pointer.Pointer.{Pointer as CodedPointer}
 use Rattle.nodes.specs.declared.pointer.Pointer.the-variants.{Nothing, Leaf, Chain, Split, Sparse, Prefix, Invalid}
 use Rattle.nodes.specs.declared.step.ChildStep.{ChildStep}
 use Rattle.nodes.specs.declared.step.ChildStep.the-variants.{Found, Missing, Broken}

@@ -9,7 +9,6 @@ use Rattle.nodes.specs.Layout.{Layout}
 use Rattle.nodes.specs.Pointer.{Pointer, pointer, leafWord}
 use Rattle.nodes.specs.Prefix.{prefixLink}
 use Rattle.nodes.specs.Coded.{pointerOf, heldOf}
-use Rattle.nodes.specs.declared.pointer.Pointer.{Pointer as CodedPointer}
 use Rattle.nodes.specs.declared.pointer.Pointer.the-variants.{Nothing, Leaf, Chain, Split, Sparse, Prefix, Invalid}
 use Rattle.nodes.specs.declared.value.Value.{Value}
 use Rattle.nodes.specs.declared.value.Value.the-variants.{Held, Empty}

@@ -1,7 +1,7 @@
 -- Rows of cells made side by side in the stage: the definition's rows, one after the other.
 use mathlib.Core.Path.{_≡_, refl, sym, ap, _∙_}
 use mathlib.Core.Logic.{_≢_}
-use mathlib.Core.Bool.{Bool, true, false}
+use mathlib.Core.Bool.{Bool, true, false, cond}
 use mathlib.Core.List.{List, _∷_}
 use native.Mathlib.Decide.{ℕ-discrete}
 use native.Mathlib.Omega.{arith}
@@ -10,7 +10,6 @@ use lib.Dec.{eqb}
 use lib.ListN.{length, getD, set}
 use lib.Seq.{getD-set-same, getD-set-other}
 use borrow.Author.Tests.{eq-eqb, ne-eqb}
-use Rattle.cells.specs.Choice.{pick}
 use Rattle.cells.specs.Word.{withWord}
 use Rattle.nodes.specs.Pointer.{wordTo}
 use Rattle.nodes.specs.Sparse.{someWord}
@@ -79,7 +78,7 @@ module _ (number : ℕ → ℕ) where
     where
       go : (t : Bool)
           → length cells
-          ≤ length (pick {A = Row} t (record { words = λ _. wordTo (number (length cells)) 28; cells = withWords f 8 0 blank ∷ cells }) (record { words = λ _. 0; cells = cells }) .cells)
+          ≤ length (cond {A = Row} t (record { words = λ _. wordTo (number (length cells)) 28; cells = withWords f 8 0 blank ∷ cells }) (record { words = λ _. 0; cells = cells }) .cells)
       go true = omega arith
       go false = omega arith
 
@@ -108,8 +107,8 @@ rows-agree make make′ (suc count) i cells same =
     let moved : rows make′ count (i + 1) (make i cells .cells) ≡ rows make′ count (i + 1) (make′ i cells .cells) =
     ap (rows make′ count (i + 1)) (here .cells) in
     record {
-      words = λ q. ap (λ (w : ℕ). pick (eqb q i) w (rows make count (i + 1) (make i cells .cells) .words q)) (here .words 0)
-          ∙ ap (pick (eqb q i) (make′ i cells .words 0)) (later .words q ∙ ap (λ (r : Row). r .words q) moved);
+      words = λ q. ap (λ (w : ℕ). cond (eqb q i) w (rows make count (i + 1) (make i cells .cells) .words q)) (here .words 0)
+          ∙ ap (cond (eqb q i) (make′ i cells .words 0)) (later .words q ∙ ap (λ (r : Row). r .words q) moved);
       cells = later .cells ∙ ap (λ (r : Row). r .cells) moved;
     }
 
@@ -147,7 +146,7 @@ module _ (make : ℕ → List (List ℕ) → Row) (slot : ℕ → ℕ) (apart : 
       }
     where
       so-far-words : ℕ → ℕ
-      so-far-words q = pick (eqb q j) (make j cells .words 0) (rows make count (j + 1) (make j cells .cells) .words q)
+      so-far-words q = cond (eqb q j) (make j cells .words 0) (rows make count (j + 1) (make j cells .cells) .words q)
 
   pub making-cells : (count j : ℕ) (cells : List (List ℕ)) (array : List ℕ) → Making slot goal (rows make count j cells) j array → count ≡ 0
       → goal .cells ≡ cells

@@ -9,7 +9,7 @@ use lib.Seq.{length-take-le}
 use Rattle.cells.specs.Memory.{Memory}
 use Rattle.cells.specs.Occurrences.{occurrences, select}
 use Rattle.cells.proofs.Occurrences.{occurrences-here, occurrences-later, occurrences-append}
-use Rattle.nodes.specs.Layout.{Layout, usable}
+use Rattle.nodes.specs.Layout.{Layout, usable, cellLimit}
 use Rattle.insertion.specs.Build.{build, cellsNeeded}
 use Rattle.insertion.specs.Commit.{numberFrom}
 use Rattle.insertion.proofs.Claims.{numbers}
@@ -55,7 +55,7 @@ module _ (layout : Layout) (free : List ℕ) (once : (c : ℕ) → occurrences c
       ∙ length-take-le (length cells) free enough
 
 -- as many free cells as the key is counted to need are enough
-pub enough-free : (layout : Layout) → 2 ≤ layout .cells → layout .cells ≤ 2048 → (free : List ℕ)
+pub enough-free : (layout : Layout) → 2 ≤ layout .cells → layout .cells ≤ cellLimit → (free : List ℕ)
     → ((c : ℕ) → 1 ≤ occurrences c free → usable layout c ≡ true) → (m : Memory) (w : ℕ) (key : List ℕ) (value : ℕ) → value < 2147483648
     → cellsNeeded layout m w key ≤ length free → length (build layout (numberFrom layout free) m w key value .cells) ≤ length free
 enough-free layout some-cells small free each m w key value clear fits =

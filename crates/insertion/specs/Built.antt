@@ -1,10 +1,9 @@
 -- What a build has made so far.
-use mathlib.Core.Bool.{Bool, true, false, _&&_}
+use mathlib.Core.Bool.{Bool, true, false, _&&_, cond}
 use mathlib.Core.List.{List, [], _∷_}
 use Prim.Native.Nat.{ℕ, zero, suc, _%_}
 use lib.Dec.{ltb}
 use lib.ListN.{length, set}
-use Rattle.cells.specs.Choice.{pick}
 use Rattle.nodes.specs.Pointer.{wordTo}
 use Rattle.insertion.specs.NewCells.{chainCell}
 
@@ -23,7 +22,7 @@ allocate number kind bytes cells = record { word = wordTo (number (length cells)
 
 -- the free bytes before a chain in a cell that this call allocated; none before any other node
 unfoldable pub room : Bool → ℕ → ℕ
-room own word = pick (own && ltb word 0x80000000 && ltb (word % 32) 0x1C) (word % 32) 0
+room own word = cond (own && ltb word 0x80000000 && ltb (word % 32) 0x1C) (word % 32) 0
 
 abbrev pub roomOf : Built → ℕ
 roomOf b = room (b .own) (b .word)

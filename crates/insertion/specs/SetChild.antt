@@ -3,7 +3,6 @@
 use mathlib.Core.List.{List}
 use Prim.Native.Nat.{ℕ}
 use lib.Dec.{ltb, eqb}
-use Rattle.cells.specs.Choice.{pick}
 use Rattle.cells.specs.Memory.{Memory}
 use Rattle.nodes.specs.Layout.{Layout}
 use Rattle.nodes.specs.Pointer.{Pointer}
@@ -13,16 +12,17 @@ use Rattle.nodes.specs.Sparse.{sparseCount, positionOf, sparseChild}
 use Rattle.insertion.specs.NewCells.{sparsePair, replacedCell, appendedCell}
 use Rattle.insertion.specs.Built.{Built, allocate, chainOver}
 use Rattle.insertion.specs.SplitBuild.{splitOf, splitCopied}
+use mathlib.Core.Bool.{cond}
 
 -- child words with one of them replaced
 abbrev pub withChild : (ℕ → ℕ) → ℕ → ℕ → ℕ → ℕ
-withChild child x word y = pick (eqb y x) word (child y)
+withChild child x word y = cond (eqb y x) word (child y)
 
 -- 01: "Child into NONE, or into a chain with that character" and "Chain with another character"
 unfoldable pub chainSet : (ℕ → ℕ) → List ℕ → ℕ → ℕ → ℕ → Built → Built
 chainSet number bytes cell place x b =
     let pair = sparsePair x (b .word) (chainCharacter bytes place) (chainChild bytes cell place) in
-    pick (eqb x (chainCharacter bytes place)) (chainOver number x b) (allocate number 0x1E pair (b .cells))
+    cond (eqb x (chainCharacter bytes place)) (chainOver number x b) (allocate number 0x1E pair (b .cells))
 
 -- 01: "Sparse: a copy with the child word replaced, or the child appended at the first free position and the order word
 -- extended. A seventh child makes a split of seven instead."
@@ -30,8 +30,8 @@ unfoldable pub sparseSet : (ℕ → ℕ) → List ℕ → ℕ → Built → Buil
 sparseSet number bytes x b =
     let k = sparseCount bytes in
     let position = positionOf bytes k 0 x in
-    pick (ltb position k) (allocate number 0x1E (replacedCell bytes position (b .word)) (b .cells))
-    (pick (ltb k 6) (allocate number 0x1E (appendedCell bytes x (b .word)) (b .cells))
+    cond (ltb position k) (allocate number 0x1E (replacedCell bytes position (b .word)) (b .cells))
+    (cond (ltb k 6) (allocate number 0x1E (appendedCell bytes x (b .word)) (b .cells))
     (splitOf number (withChild (sparseChild bytes) x (b .word)) (b .cells)))
 
 unfoldable pub setChild : Layout → (ℕ → ℕ) → Memory → Pointer → ℕ → Built → Built

@@ -3,7 +3,6 @@ use mathlib.Core.List.{List, _∷_}
 use Prim.Native.Nat.{ℕ, zero, suc, _+_, _-_, _*_, _/_, _%_}
 use lib.Dec.{eqb}
 use lib.ListN.{length}
-use Rattle.cells.specs.Choice.{pick}
 use Rattle.cells.specs.Word.{withWord}
 use Rattle.cells.specs.Memory.{Memory}
 use Rattle.nodes.specs.Pointer.{wordTo}
@@ -11,6 +10,7 @@ use Rattle.nodes.specs.Sparse.{someWord}
 use Rattle.nodes.specs.Split.{headWord, wordBelow}
 use Rattle.insertion.specs.NewCells.{blank, tableCopy, headCopy, withWords}
 use Rattle.insertion.specs.Built.{Built, allocate}
+use mathlib.Core.Bool.{cond}
 
 -- the words of some cells made side by side, and the cells allocated
 pub record Row : Type 0 where
@@ -21,7 +21,7 @@ pub record Row : Type 0 where
 unfoldable pub tableRow : (ℕ → ℕ) → (ℕ → ℕ) → List (List ℕ) → Row
 tableRow number words cells =
     let bytes = withWords words 8 0 blank in
-    pick (someWord words 8 0)
+    cond (someWord words 8 0)
     (record { words = λ _. wordTo (number (length cells)) 0x1C; cells = bytes ∷ cells })
     (record { words = λ _. 0; cells = cells })
 
@@ -31,7 +31,7 @@ rows make zero i cells = record { words = λ _. 0; cells = cells }
 rows make (suc count) i cells =
     let made = make i cells in
     let later = rows make count (i + 1) (made .cells) in
-    record { words = λ j. pick (eqb j i) (made .words 0) (later .words j); cells = later .cells }
+    record { words = λ j. cond (eqb j i) (made .words 0) (later .words j); cells = later .cells }
 
 -- the end of the characters with these five upper bits
 unfoldable pub endRow : (ℕ → ℕ) → (ℕ → ℕ) → ℕ → ℕ → List (List ℕ) → Row

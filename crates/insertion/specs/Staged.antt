@@ -5,19 +5,22 @@ use mathlib.Core.Logic.{_≢_}
 use mathlib.Core.Bool.{true, false}
 use mathlib.Core.List.{List, [], _∷_}
 use mathlib.Core.Option.{some}
-use Prim.Native.Nat.{ℕ, zero, suc, _+_, _≤_, _<_}
+use Prim.Native.Nat.{ℕ, zero, suc, _+_, _-_, _*_, _≤_, _<_}
 use lib.ListN.{length, getD}
 use Rattle.cells.specs.Memory.{Memory, memoryOf}
-use Rattle.nodes.specs.Layout.{Layout}
-use Rattle.nodes.specs.Pointer.{wordTo, leafWord}
+use Rattle.nodes.specs.Layout.{Layout, keyLimit, cellLimit}
+use Rattle.nodes.specs.Pointer.{pointer, wordTo, leafWord}
+use Rattle.nodes.specs.Node.{read}
 use Rattle.trees.specs.Tree.{tree}
 use Rattle.insertion.specs.Built.{Built}
 use Rattle.insertion.specs.SplitBuild.{Row}
+use Rattle.insertion.specs.SetChild.{setChild}
+use Rattle.insertion.specs.Build.{wordAside, valueAside, putBack, childOf}
 use Rattle.insertion.specs.declared.stage.Made.{Made}
 
--- the cells that a stage has room for; 01: "for m label bytes at most 4m + 10", of 48
+-- the cells that a stage has room for; 01: "for m label bytes at most 4m + 10", of the longest
 abbrev pub stageCells : ℕ
-stageCells = 202
+stageCells = 4 * keyLimit + 10
 
 -- the first so many cells of a stage, newest first
 unfoldable pub staged : List ℕ → ℕ → List (List ℕ)
@@ -32,8 +35,8 @@ pub record Put (before after : List ℕ) (cell : ℕ) (bytes : List ℕ) : Type 
 -- what the numbering of cells asks for: a trailer at least, 2048 cells at most, and a free list that its array holds
 pub record Numbered (layout : Layout) (free : ℕ) : Type 0 where
   pub some : 1 ≤ layout .cells
-  pub most : layout .cells ≤ 2048
-  pub listed : free ≤ 2048
+  pub most : layout .cells ≤ cellLimit
+  pub listed : free ≤ cellLimit
 
 -- the build that a small struct and a stage stand for
 abbrev pub builtOf : Made → List ℕ → Built
@@ -70,3 +73,18 @@ pub record HasTree (layout : Layout) (m : Memory) (word left : ℕ) : Type 0 whe
   pub deep : left ≤ depth
   pub cells : List ℕ
   pub valid : tree layout m depth word ≡ some cells
+
+-- one node of a path copied, over what is built below it
+abbrev pub nodeCopy : Layout → (ℕ → ℕ) → Memory → ℕ → ℕ → Built → Built
+nodeCopy layout number m word x below =
+    putBack layout number (valueAside layout m (pointer layout word)) (setChild layout number m (pointer layout (wordAside layout m (pointer layout word) word)) x below)
+
+-- the word that a descent by a key reaches after so many of its characters
+unfoldable pub reached : Layout → Memory → ℕ → List ℕ → ℕ → ℕ
+reached layout m word key zero = word
+reached layout m word key (suc i) = childOf (read layout m (reached layout m word key i)) (getD key i 0)
+
+-- an array that holds the first so many words reached, each with a tree for the rest of the key
+pub record Path (layout : Layout) (m : Memory) (word : ℕ) (key : List ℕ) (size : ℕ) (array : List ℕ) : Type 0 where
+  pub each : (i : ℕ) → i < size → getD array i 0 ≡ reached layout m word key i
+  pub trees : (i : ℕ) → i < size → HasTree layout m (getD array i 0) (length key - i)

@@ -1,15 +1,16 @@
 // The build of one insertion: down by the key, and up again with each node's child set.
 ghost use mathlib.Core.Path.{_≡_};
 ghost use mathlib.Core.Option.{some};
-ghost use Prim.Native.Nat.{_-_, _*_, _≤_, _<_};
-ghost use lib.ListN.{length, take, drop};
+ghost use Prim.Native.Nat.{_*_, _≤_, _<_};
+ghost use lib.ListN.{length, take, set};
 ghost use Rattle.cells.specs.Memory.{memoryOf};
+ghost use Rattle.nodes.specs.Layout.{keyLimit, cellLimit};
 ghost use Rattle.nodes.specs.Pointer.{pointer};
 ghost use Rattle.nodes.specs.Node.{Node, read};
 ghost use Rattle.insertion.specs.SetChild.{setChild};
 ghost use Rattle.insertion.specs.Build.{wordAside, childOf, build};
 ghost use Rattle.insertion.specs.Commit.{numberFrom};
-ghost use Rattle.insertion.specs.Staged.{Numbered, builtOf, Fitting, HasTree};
+ghost use Rattle.insertion.specs.Staged.{Numbered, builtOf, Fitting, HasTree, nodeCopy, reached, Path};
 use crate::chain::chain_over;
 use crate::chain::chain_set;
 use crate::prefix::at_end;
@@ -27,10 +28,11 @@ use nodes::pointer::pointer_of;
 use nodes::step::ChildStep;
 use nodes::step::child_step;
 use nodes::value::value_at;
+use nodes::layout::KEY_LIMIT;
 
 // The child word of a character of a node that is valid; NONE, where the rest of a new key goes on, is known to have none.
 fn child_word(layout: Layout, block: &[u8], word: u32, x: u8) -> u32
-    requires { ⌜ (layout .cells * 32 ≤ length (now block)) × (layout .cells ≤ 2048) × ((node : Node) × (read layout (memoryOf (now block)) word ≡ some node)) ⌝ }
+    requires { ⌜ (layout .cells * 32 ≤ length (now block)) × (layout .cells ≤ cellLimit) × ((node : Node) × (read layout (memoryOf (now block)) word ≡ some node)) ⌝ }
     ensures { λ r. ⌜ r ≡ childOf (read layout (memoryOf (now (block .entry))) word) x ⌝ }
 {
     if word == 0 {
@@ -82,39 +84,71 @@ pub fn set_child(
     }
 }
 
-// The path of a key from a character on copied into the stage, with the value at its end.
-pub fn build_from(
+// One node of the path copied into the stage, over what is built below it: its value set aside, its child set, the value put back.
+fn copy_node(
+    layout: Layout,
+    block: &[u8],
+    numbers: &[u16; CELL_LIMIT],
+    free: usize,
+    stage: &mut [u8; STAGE_SIZE],
+    word: u32,
+    x: u8,
+    below: Made,
+) -> Made
+    requires { ⌜ Numbered layout free × (layout .cells * 32 ≤ length (now block)) × ((node : Node) × (read layout (memoryOf (now block)) word ≡ some node)) × Fitting (nodeCopy layout (numberFrom layout (take free (now numbers))) (memoryOf (now block)) word x (builtOf below (now stage))) ⌝ }
+    ensures { λ r. ⌜ builtOf r (now (stage .exit)) ≡ nodeCopy layout (numberFrom layout (take free (now (numbers .entry)))) (memoryOf (now (block .entry))) word x (builtOf below (now (stage .entry))) ⌝ }
+{
+    let bare = word_aside(layout, block, word);
+    let placed = set_child(layout, block, numbers, free, stage, bare, x, below);
+    let held = value_at(layout, block, word);
+    put_back(layout, numbers, free, stage, held, placed)
+}
+
+// The word of one node of the path.
+fn put_word_of(path: &mut [u32; KEY_LIMIT], at: usize, word: u32)
+    requires { ⌜ at < keyLimit ⌝ }
+    ensures { λ _. ⌜ (length (now (path .entry)) ≡ keyLimit) × (now (path .exit) ≡ set (now (path .entry)) at word) ⌝ }
+{
+    let words = &mut path[..];
+    words[at] = word;
+}
+
+// Down by a key: the word of the node before each character, and the word at the key's end.
+fn descend(layout: Layout, block: &[u8], key: &[u8], word: u32, path: &mut [u32; KEY_LIMIT]) -> u32
+    requires { ⌜ (layout .cells * 32 ≤ length (now block)) × (layout .cells ≤ cellLimit) × (length (now key) ≤ keyLimit) × HasTree layout (memoryOf (now block)) word (length (now key)) ⌝ }
+    ensures { λ r. ⌜ (r ≡ reached layout (memoryOf (now (block .entry))) word (now (key .entry)) (length (now (key .entry)))) × Path layout (memoryOf (now (block .entry))) word (now (key .entry)) (length (now (key .entry))) (now (path .exit)) ⌝ }
+{
+    let mut at = word;
+    let mut i: usize = 0;
+    while i < key.len() {
+        put_word_of(path, i, at);
+        at = child_word(layout, block, at, key[i]);
+        i += 1;
+    }
+    at
+}
+
+// The path of a key copied into the stage, with the value at its end.
+pub fn build(
     layout: Layout,
     block: &[u8],
     numbers: &[u16; CELL_LIMIT],
     free: usize,
     stage: &mut [u8; STAGE_SIZE],
     key: &[u8],
-    i: usize,
     word: u32,
     value: u32,
 ) -> Made
-    requires { ⌜ Numbered layout free × (layout .cells * 32 ≤ length (now block)) × (i ≤ length (now key)) × (length (now key) ≤ 48) × HasTree layout (memoryOf (now block)) word (length (now key) - i) ⌝ }
-    ensures { λ r. ⌜ builtOf r (now (stage .exit)) ≡ build layout (numberFrom layout (take free (now (numbers .entry)))) (memoryOf (now (block .entry))) word (drop i (now (key .entry))) value ⌝ }
+    requires { ⌜ Numbered layout free × (layout .cells * 32 ≤ length (now block)) × (length (now key) ≤ keyLimit) × HasTree layout (memoryOf (now block)) word (length (now key)) ⌝ }
+    ensures { λ r. ⌜ builtOf r (now (stage .exit)) ≡ build layout (numberFrom layout (take free (now (numbers .entry)))) (memoryOf (now (block .entry))) word (now (key .entry)) value ⌝ }
 {
-    if key.len() <= i {
-        return at_end(layout, block, numbers, free, stage, word, value);
+    let mut path = [0u32; KEY_LIMIT];
+    let end = descend(layout, block, key, word, &mut path);
+    let mut made = at_end(layout, block, numbers, free, stage, end, value);
+    let mut i: usize = key.len();
+    while 0 < i {
+        i -= 1;
+        made = copy_node(layout, block, numbers, free, stage, path[i], key[i], made);
     }
-    let x = key[i];
-    let child = child_word(layout, block, word, x);
-    let below = build_from(
-        layout,
-        block,
-        numbers,
-        free,
-        stage,
-        key,
-        i + 1,
-        child,
-        value,
-    );
-    let bare = word_aside(layout, block, word);
-    let placed = set_child(layout, block, numbers, free, stage, bare, x, below);
-    let held = value_at(layout, block, word);
-    put_back(layout, numbers, free, stage, held, placed)
+    made
 }

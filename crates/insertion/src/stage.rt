@@ -13,7 +13,7 @@ use cells::put_word;
 use cells::word_at;
 use nodes::layout::CELL_LIMIT;
 use nodes::layout::Layout;
-use trees::KEY_LIMIT;
+use nodes::layout::KEY_LIMIT;
 
 // The most cells that one insertion allocates.
 pub const STAGE_CELLS: usize = 4 * KEY_LIMIT + 10;

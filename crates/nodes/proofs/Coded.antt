@@ -6,7 +6,6 @@ use Rattle.nodes.specs.Layout.{Layout, usable}
 use Rattle.nodes.specs.Pointer.{pointer, wordTo}
 use Rattle.nodes.specs.Pointer.Pointer.{leaf, chain, split, sparse, prefix}
 use Rattle.nodes.specs.Coded.{pointerOf}
-use Rattle.nodes.specs.declared.pointer.Pointer.{Pointer as CodedPointer}
 use Rattle.nodes.specs.declared.pointer.Pointer.the-variants.{Leaf, Chain, Split, Sparse, Prefix}
 use Rattle.nodes.proofs.Pointers.{names, usable-inside}
 

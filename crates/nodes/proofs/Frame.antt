@@ -1,7 +1,7 @@
 -- A node is read the same from any memory that is alike on its footprint.
 use mathlib.Core.Path.{_≡_, refl, sym, ap, _∙_, subst}
 use mathlib.Core.Logic.{_≢_}
-use mathlib.Core.Bool.{Bool, true, false}
+use mathlib.Core.Bool.{Bool, true, false, cond}
 use mathlib.Core.List.{List, [], _∷_}
 use mathlib.Core.Option.{none, some}
 use Prim.Native.Nat.{ℕ, _/_, _%_, _≤_, _<_}
@@ -9,7 +9,6 @@ use native.Mathlib.Decide.{ℕ-discrete}
 use native.Mathlib.Omega.{arith}
 use lib.Dec.{eqb}
 use borrow.Author.Tests.{ne-eqb, eqb-false}
-use Rattle.cells.specs.Choice.{pick}
 use Rattle.cells.specs.Memory.{Memory}
 use Rattle.cells.specs.Occurrences.{occurrences}
 use Rattle.cells.proofs.Choice.{never, bound, keep, kept, kept-not}
@@ -66,7 +65,7 @@ cons-most c x xs ys h = elim (ℕ-discrete c x) [
   | no n ↦ omega (arith, occurrences-cons-other c x xs n, occurrences-cons-other c x ys n)
 ]
 
-visited-most : (c x : ℕ) (t : Bool) → occurrences c (pick t (x ∷ []) []) ≤ occurrences c (x ∷ [])
+visited-most : (c x : ℕ) (t : Bool) → occurrences c (cond t (x ∷ []) []) ≤ occurrences c (x ∷ [])
 visited-most c x true = omega arith
 visited-most c x false = occurrences-later c x []
 

@@ -15,7 +15,6 @@ use Rattle.nodes.specs.Prefix.{prefixLink, validPrefix}
 use Rattle.nodes.specs.Step.{Step, missing, onward, chainStep, sparseStep, tableStep, splitStep, plainStep, prefixStep, childStep}
 use Rattle.nodes.specs.LeastChild.{LeastChild, least, absent, unreadable, firstStep, leastStep}
 use Rattle.nodes.specs.Coded.{pointerOf, stepOf}
-use Rattle.nodes.specs.declared.pointer.Pointer.{Pointer as CodedPointer}
 use Rattle.nodes.specs.declared.pointer.Pointer.the-variants.{Nothing, Leaf, Chain, Split, Sparse, Prefix}
 use Rattle.nodes.specs.declared.step.ChildStep.{ChildStep}
 use Rattle.nodes.specs.declared.step.ChildStep.the-variants.{Found, Missing, Broken}

@@ -2,14 +2,13 @@
 -- cells that are alike at these are judged and read alike.
 use mathlib.Core.Path.{_≡_, refl, sym, ap, _∙_}
 use mathlib.Core.Logic.{_⊎_, inl, inr}
-use mathlib.Core.Bool.{Bool, true, false, _&&_, not}
+use mathlib.Core.Bool.{Bool, true, false, _&&_, not, cond}
 use mathlib.Core.List.{List, map}
 use Prim.Native.Nat.{ℕ, zero, suc, _+_, _-_, _*_, _≤_, _<_}
 use native.Mathlib.Decide.{ℕ-discrete}
 use native.Mathlib.Omega.{arith}
 use lib.Dec.{ltb, eqb}
 use lib.ListN.{length, getD}
-use Rattle.cells.specs.Choice.{pick}
 use Rattle.cells.specs.Word.{wordAt}
 use Rattle.cells.proofs.Words.{word-agree}
 use Rattle.order_words.specs.Digits.{orderDigits}
@@ -53,7 +52,7 @@ some-alike f g zero from same = refl
 some-alike f g (suc count) from same =
     let here : f from ≡ g from = same from (omega arith) (omega arith) in
     let later = some-alike f g count (from + 1) (λ p low high. same p (omega arith) (omega arith)) in
-    λ i. pick (eqb (here i) 0) (later i) true
+    λ i. cond (eqb (here i) 0) (later i) true
 
 every-alike : (f g : ℕ → ℕ) (count from : ℕ) → ((p : ℕ) → from ≤ p → p < from + count → f p ≡ g p) → everyWord f count from ≡ everyWord g count from
 unfolding everyWord
@@ -61,7 +60,7 @@ every-alike f g zero from same = refl
 every-alike f g (suc count) from same =
     let here : f from ≡ g from = same from (omega arith) (omega arith) in
     let later = every-alike f g count (from + 1) (λ p low high. same p (omega arith) (omega arith)) in
-    λ i. pick (eqb (here i) 0) false (later i)
+    λ i. cond (eqb (here i) 0) false (later i)
 
 -- a chain at a place
 module _ (s t : List ℕ) (place : ℕ) (inside : place < 28) (alike : Alike (InChain place) s t) where
@@ -73,7 +72,7 @@ module _ (s t : List ℕ) (place : ℕ) (inside : place < 28) (alike : Alike (In
   chain-child-alike c = elim (ℕ-discrete place 27) [
     | yes last ↦
         let end : wordAt s 28 ≡ wordAt t 28 = word-agree s t 28 28 (λ r near. alike (28 + r) (omega arith, omega arith)) in
-        ap (λ w. pick (eqb place 27) w (c * 32 + (place + 1))) end
+        ap (λ w. cond (eqb place 27) w (c * 32 + (place + 1))) end
     | no other ↦ chain-child-inside s c place other ∙ sym (chain-child-inside t c place other)
   ]
 
@@ -119,7 +118,7 @@ module _ (s t : List ℕ) (alike : Alike (InSparse (sparseCount s)) s t) where
       let character = character-alike from (omega arith) in
       let word = word-alike from (omega arith) in
       let later = child-from-alike count (from + 1) x (omega arith) in
-      λ i. pick (eqb x (character i)) (word i) (later i)
+      λ i. cond (eqb x (character i)) (word i) (later i)
 
   pub sparse-child-alike : (x : ℕ) → sparseChild s x ≡ sparseChild t x
   sparse-child-alike x = child-from-alike (sparseCount s) 0 x (omega arith) ∙ ap (λ ds. childFrom t (length ds) 0 x) digits-alike

@@ -2,15 +2,14 @@
 -- no meaning aren't judged" for one node, whether it obeys the rules or not.
 use mathlib.Core.Path.{_≡_, refl, sym, ap, _∙_, subst}
 use mathlib.Core.Logic.{_⊎_, inl, inr}
-use mathlib.Core.Bool.{Bool, true, false}
+use mathlib.Core.Bool.{Bool, true, false, cond}
 use mathlib.Core.List.{List, [], _∷_, _++_}
-use mathlib.Core.Option.{Option, none, some}
+use mathlib.Core.Option.{Option, none, some, bind}
 use Prim.Native.Nat.{ℕ, zero, suc, _+_, _/_, _%_, _≤_, _<_}
 use native.Mathlib.Decide.{ℕ-discrete}
 use native.Mathlib.Omega.{arith}
 use lib.Dec.{eqb}
 use lib.ListN.{getD}
-use Rattle.cells.specs.Choice.{pick, bind}
 use Rattle.cells.specs.Memory.{Memory}
 use Rattle.nodes.specs.Layout.{Layout}
 use Rattle.nodes.specs.Pointer.{Pointer, pointer}
@@ -91,7 +90,7 @@ bind-nodes (some X) (some Y) f g same each = each X Y refl same
 
 pub under-alike : (f g : ℕ → Option (List ℕ)) (w v : ℕ) → w ≡ v → f w ≡ g w → under f w ≡ under g v
 unfolding under
-under-alike f g w v e found = (λ i. pick (eqb w 0) (some []) (found i)) ∙ ap (under g) e
+under-alike f g w v e found = (λ i. cond (eqb w 0) (some []) (found i)) ∙ ap (under g) e
 
 pub gather-alike : (f g : ℕ → Option (List ℕ)) (count from : ℕ) → ((y : ℕ) → from ≤ y → y < from + count → f y ≡ g y)
     → gather f count from ≡ gather g count from
@@ -111,7 +110,7 @@ module _ (layout : Layout) (m m′ : Memory) where
       (λ c e.
       let named : pointer layout w ≡ split c = split-cell (pointer layout w) c e in
       let valid = valid-table-alike (m c) (m′ c) (λ i near. alike c i (named, near)) in
-      λ i. pick (valid i) (some (c ∷ [])) none)
+      λ i. cond (valid i) (some (c ∷ [])) none)
 
   mid-alike : (w : ℕ) → AlikeAt m m′ (MidMeans layout m w) → midCells layout m w ≡ midCells layout m′ w
   unfolding midCells
@@ -126,7 +125,7 @@ module _ (layout : Layout) (m m′ : Memory) where
       (λ j low high.
       under-alike (endCells layout m) (endCells layout m′) (tableWord (m c) j) (tableWord (m′ c) j) (table-word-alike (m c) (m′ c) table j (omega arith))
       (end-alike (tableWord (m c) j) (λ d i means. alike d i (inr (c, j, named, omega arith, means))))) in
-      λ i. pick (valid i) (bind (ends i) (λ cells. some (c ∷ cells))) none)
+      λ i. cond (valid i) (bind (ends i) (λ cells. some (c ∷ cells))) none)
 
   module _ (c : ℕ) (alike : AlikeAt m m′ (PlainMeans layout m (split c))) where
     head-bytes : Alike InHead (m c) (m′ c)
@@ -199,12 +198,12 @@ module _ (layout : Layout) (m m′ : Memory) where
         let F : List ℕ → Option Node = λ below. some (splitNode m c below) in
         let G : List ℕ → Option Node = λ below. some (splitNode m′ c below) in
         let valid : validHead (m c) ≡ validHead (m′ c) = valid-head-alike (m c) (m′ c) head-bytes in
-        subst (λ v. SameNode (plain layout m (split c)) (pick v (bind (headCells layout m′ c) G) none)) valid
-        (subst (λ o. SameNode (plain layout m (split c)) (pick (validHead (m c)) (bind o G) none)) head-cells-alike
+        subst (λ v. SameNode (plain layout m (split c)) (cond v (bind (headCells layout m′ c) G) none)) valid
+        (subst (λ o. SameNode (plain layout m (split c)) (cond (validHead (m c)) (bind o G) none)) head-cells-alike
         (go (validHead (m c)) (headCells layout m c) refl))
       where
         go : (v : Bool) (o : Option (List ℕ)) → headCells layout m c ≡ o
-            → SameNode (pick v (bind o (λ below. some (splitNode m c below))) none) (pick v (bind o (λ below. some (splitNode m′ c below))) none)
+            → SameNode (cond v (bind o (λ below. some (splitNode m c below))) none) (cond v (bind o (λ below. some (splitNode m′ c below))) none)
         go false o e = tt
         go true none e = tt
         go true (some below) e = record { value = refl; cells = refl; footprint = refl; child = split-child-alike below e }
@@ -215,8 +214,8 @@ module _ (layout : Layout) (m m′ : Memory) where
       let bytes : Alike (InChain k) (m c) (m′ c) = λ i near. alike c i (refl, near) in
       let character = chain-character-alike (m c) (m′ c) k inside bytes in
       let child = chain-child-alike (m c) (m′ c) k inside bytes c in
-      λ i. pick (eqb (child i) 0) none
-      (some (record { value = none; cells = pick (eqb k 27) (c ∷ []) []; footprint = c ∷ []; child = oneChild (character i) (child i) }))
+      λ i. cond (eqb (child i) 0) none
+      (some (record { value = none; cells = cond (eqb k 27) (c ∷ []) []; footprint = c ∷ []; child = oneChild (character i) (child i) }))
 
   sparse-alike : (c : ℕ) → AlikeAt m m′ (PlainMeans layout m (sparse c)) → plain layout m (sparse c) ≡ plain layout m′ (sparse c)
   unfolding plain
@@ -224,7 +223,7 @@ module _ (layout : Layout) (m m′ : Memory) where
       let bytes : Alike (InSparse (sparseCount (m c))) (m c) (m′ c) = λ i near. alike c i (refl, near) in
       let valid = valid-sparse-alike (m c) (m′ c) bytes in
       let child = sparse-child-alike (m c) (m′ c) bytes in
-      λ i. pick (valid i) (some (record { value = none; cells = c ∷ []; footprint = c ∷ []; child = λ x. child x i })) none
+      λ i. cond (valid i) (some (record { value = none; cells = c ∷ []; footprint = c ∷ []; child = λ x. child x i })) none
 
   -- a chain, sparse or split that a word names
   plain-alike : (w : ℕ) (p : Pointer) → pointer layout w ≡ p → AlikeAt m m′ (PlainMeans layout m p) → SameNode (plain layout m p) (plain layout m′ p)
@@ -239,7 +238,7 @@ module _ (layout : Layout) (m m′ : Memory) where
 
   -- a prefix before nodes that are the same
   prefixed-alike : (v : Bool) (value c : ℕ) (o p : Option Node) → SameNode o p
-      → SameNode (pick v (bind o (λ linked. some (prefixed value c linked))) none) (pick v (bind p (λ linked. some (prefixed value c linked))) none)
+      → SameNode (cond v (bind o (λ linked. some (prefixed value c linked))) none) (cond v (bind p (λ linked. some (prefixed value c linked))) none)
   unfolding bind
   prefixed-alike false value c o p same = tt
   prefixed-alike true value c none none same = tt
@@ -262,9 +261,9 @@ module _ (layout : Layout) (m m′ : Memory) where
       let link = prefix-link-alike (m c) (m′ c) bytes in
       let linked = plain-alike (prefixLink (m c)) (pointer layout (prefixLink (m c))) refl (λ d i means. alike d i (inr means)) in
       let both = prefixed-alike (validPrefix (m c)) (prefixValue (m c)) c _ _ linked in
-      let right : pick (validPrefix (m c)) (bind (plain layout m′ (pointer layout (prefixLink (m c)))) (λ l. some (prefixed (prefixValue (m c)) c l))) none
+      let right : cond (validPrefix (m c)) (bind (plain layout m′ (pointer layout (prefixLink (m c)))) (λ l. some (prefixed (prefixValue (m c)) c l))) none
       ≡ readAt layout m′ (prefix c) =
-      λ i. pick (valid i) (bind (plain layout m′ (pointer layout (link i))) (λ l. some (prefixed (value i) c l))) none in
+      λ i. cond (valid i) (bind (plain layout m′ (pointer layout (link i))) (λ l. some (prefixed (value i) c l))) none in
       subst (SameNode (readAt layout m (prefix c))) right both
 
   -- the node that a word names

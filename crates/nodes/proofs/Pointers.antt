@@ -9,7 +9,7 @@ use lib.Dec.{leb, ltb}
 use borrow.Author.Tests.{lt-ltb, le-ltb, le-leb, lt-leb, ne-eqb, ltb-true, leb-true}
 use Rattle.cells.proofs.Choice.{both, both-left, both-right}
 use Rattle.cells.proofs.Pointers.{cell-kind, cell-of-made, kind-of-made, inverted-twice, leaf-top}
-use Rattle.nodes.specs.Layout.{Layout, trailerCells, usable}
+use Rattle.nodes.specs.Layout.{Layout, trailerCells, usable, cellLimit}
 use Rattle.nodes.specs.Pointer.{Pointer, byKind, pointer, leafWord, wordTo}
 use Rattle.nodes.specs.Pointer.Pointer.{nothing, leaf, chain, split, sparse, prefix, invalid}
 
@@ -113,7 +113,7 @@ module _ (layout : Layout) where
   names w p e = subst (Names layout w) e (word-names w)
 
   -- a word made of a usable cell and a kind names that kind there
-  pub made : (c k : ℕ) → layout .cells ≤ 2048 → usable layout c ≡ true → k < 32 → pointer layout (wordTo c k) ≡ byKind c k
+  pub made : (c k : ℕ) → layout .cells ≤ cellLimit → usable layout c ≡ true → k < 32 → pointer layout (wordTo c k) ≡ byKind c k
   made c k small u h =
       let low = usable-low layout c u in
       let high = usable-inside layout c u in
@@ -121,10 +121,10 @@ module _ (layout : Layout) where
       pointer-cell (wordTo c k) (omega arith) (omega arith) (ap (usable layout) cell ∙ u)
       ∙ ap (λ d. byKind d (wordTo c k % 32)) cell ∙ ap (byKind c) (kind-of-made c k h)
 
-  pub made-chain : (c k : ℕ) → layout .cells ≤ 2048 → usable layout c ≡ true → k < 28 → pointer layout (wordTo c k) ≡ chain c k
+  pub made-chain : (c k : ℕ) → layout .cells ≤ cellLimit → usable layout c ≡ true → k < 28 → pointer layout (wordTo c k) ≡ chain c k
   made-chain c k small u h = made c k small u (omega arith) ∙ kind-chain c k h
 
-  pub made-split : (c : ℕ) → layout .cells ≤ 2048 → usable layout c ≡ true → pointer layout (wordTo c 28) ≡ split c
+  pub made-split : (c : ℕ) → layout .cells ≤ cellLimit → usable layout c ≡ true → pointer layout (wordTo c 28) ≡ split c
   made-split c small u = made c 28 small u (omega arith) ∙ kind-split c
 
   -- the word of a value names its leaf, and the value of a leaf has its top bit clear

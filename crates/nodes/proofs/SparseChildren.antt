@@ -1,7 +1,7 @@
 -- A sparse cell by its parts: which child it has for a character, and its children in the order of their characters.
 use mathlib.Core.Path.{_≡_, refl, sym, ap, _∙_}
 use mathlib.Core.Logic.{_≢_}
-use mathlib.Core.Bool.{Bool, true, false, not}
+use mathlib.Core.Bool.{Bool, true, false, not, cond}
 use mathlib.Core.List.{List, map}
 use native.Mathlib.Decide.{decLt, ℕ-discrete}
 use native.Mathlib.Omega.{arith}
@@ -9,7 +9,6 @@ use Prim.Native.Nat.{ℕ, zero, suc, _+_, _-_, _≤_, _<_}
 use lib.Dec.{eqb}
 use lib.ListN.{length, getD, length-map}
 use borrow.Author.Tests.{eqb-true, eqb-false, eq-eqb, ne-eqb, not-true}
-use Rattle.cells.specs.Choice.{pick}
 use Rattle.cells.proofs.Choice.{both, each-of-four}
 use Rattle.cells.proofs.Occurrences.{occurrences-at, occurrences-index}
 use Rattle.order_words.specs.Order.{validDigits, rising}
@@ -58,9 +57,9 @@ module _ (bytes : List ℕ) (x : ℕ) where
   position-has zero from inside = absurd (omega arith)
   position-has (suc count) from inside = go (eqb x (sparseCharacter bytes from)) refl inside (position-has count (from + 1))
     where
-      go : (t : Bool) → eqb x (sparseCharacter bytes from) ≡ t → pick t from (positionOf bytes count (from + 1) x) < from + suc count
+      go : (t : Bool) → eqb x (sparseCharacter bytes from) ≡ t → cond t from (positionOf bytes count (from + 1) x) < from + suc count
           → (positionOf bytes count (from + 1) x < from + 1 + count → sparseCharacter bytes (positionOf bytes count (from + 1) x) ≡ x)
-          → sparseCharacter bytes (pick t from (positionOf bytes count (from + 1) x)) ≡ x
+          → sparseCharacter bytes (cond t from (positionOf bytes count (from + 1) x)) ≡ x
       go true e inside later = sym (eqb-true x (sparseCharacter bytes from) e)
       go false e inside later = later (omega arith)
 
@@ -70,7 +69,7 @@ module _ (bytes : List ℕ) (x : ℕ) where
   position-first (suc count) from q low high before =
       go (eqb x (sparseCharacter bytes from)) refl before (λ after. position-first count (from + 1) q after (omega arith))
     where
-      go : (t : Bool) → eqb x (sparseCharacter bytes from) ≡ t → q < pick t from (positionOf bytes count (from + 1) x)
+      go : (t : Bool) → eqb x (sparseCharacter bytes from) ≡ t → q < cond t from (positionOf bytes count (from + 1) x)
           → (from + 1 ≤ q → q < positionOf bytes count (from + 1) x → sparseCharacter bytes q ≢ x) → sparseCharacter bytes q ≢ x
       go true e before later = absurd (omega arith)
       go false e before later = elim (ℕ-discrete from q) [
@@ -113,7 +112,7 @@ child-alike bytes bytes′ y (suc count) from characters words =
     ) (go (eqb y (sparseCharacter bytes from)) refl)
   where
     go : (t : Bool) → eqb y (sparseCharacter bytes from) ≡ t
-        → pick t (sparseWord bytes′ from) (childFrom bytes count (from + 1) y) ≡ pick t (sparseWord bytes from) (childFrom bytes count (from + 1) y)
+        → cond t (sparseWord bytes′ from) (childFrom bytes count (from + 1) y) ≡ cond t (sparseWord bytes from) (childFrom bytes count (from + 1) y)
     go true e = words from (omega arith) (omega arith) (eqb-true y (sparseCharacter bytes from) e)
     go false e = refl
 
@@ -127,7 +126,7 @@ child-last bytes y zero from other =
     rw (ne-eqb y (sparseCharacter bytes from) not-here)
 child-last bytes y (suc count) from other =
     let there : from + 1 + count ≡ from + suc count = omega arith in
-    ap (pick (eqb y (sparseCharacter bytes from)) (sparseWord bytes from))
+    ap (cond (eqb y (sparseCharacter bytes from)) (sparseWord bytes from))
     (child-last bytes y count (from + 1) (λ e. other (e ∙ ap (sparseCharacter bytes) there)))
 
 module _ (bytes : List ℕ) where

@@ -17,7 +17,6 @@ use Rattle.nodes.specs.Split.{headWord, tableWord, validHead, validTable
 use Rattle.nodes.specs.Prefix.{prefixLink, validPrefix}
 use Rattle.nodes.specs.Step.{Step, found, missing, broken, wordStep, onward, chainStep, sparseStep, tableIn, tableStep, splitStep, plainStep, prefixStep, stepAt, childStep}
 use Rattle.nodes.specs.Coded.{pointerOf, stepOf}
-use Rattle.nodes.specs.declared.pointer.Pointer.{Pointer as CodedPointer}
 use Rattle.nodes.specs.declared.pointer.Pointer.the-variants.{Nothing, Leaf, Chain, Split, Sparse, Prefix}
 use Rattle.nodes.specs.declared.step.ChildStep.{ChildStep}
 use Rattle.nodes.specs.declared.step.ChildStep.the-variants.{Found}

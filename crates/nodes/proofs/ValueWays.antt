@@ -9,7 +9,6 @@ use Rattle.nodes.specs.Pointer.{pointer}
 use Rattle.nodes.specs.Prefix.{prefixValue}
 use Rattle.nodes.specs.Value.{pointerValue, valueOf}
 use Rattle.nodes.specs.Coded.{pointerOf}
-use Rattle.nodes.specs.declared.pointer.Pointer.{Pointer as CodedPointer}
 use Rattle.nodes.specs.declared.pointer.Pointer.the-variants.{Leaf, Prefix}
 use Rattle.nodes.proofs.Rest.{Among, rest-of-value}
 

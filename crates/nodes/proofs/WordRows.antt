@@ -1,7 +1,7 @@
 -- A row of words: what each step and each stop of a walk says of the whole, and which words are pointers.
 use mathlib.Core.Path.{_≡_, refl, ap, sym, _∙_, subst}
 use mathlib.Core.Logic.{_≢_}
-use mathlib.Core.Bool.{Bool, true, false}
+use mathlib.Core.Bool.{Bool, true, false, cond}
 use mathlib.Core.List.{List}
 use Prim.Native.Nat.{ℕ, zero, suc, _+_, _-_, _*_, _≤_, _<_}
 use native.Mathlib.Nat.{zero-add}
@@ -9,7 +9,6 @@ use native.Mathlib.Decide.{ℕ-discrete}
 use native.Mathlib.Omega.{arith}
 use lib.Dec.{eqb}
 use borrow.Author.Tests.{eqb-false, ne-eqb}
-use Rattle.cells.specs.Choice.{pick}
 use Rattle.cells.specs.Word.{wordAt}
 use Rattle.cells.proofs.Choice.{absurd-bool, absurd-false}
 use Rattle.nodes.specs.Words.{wordsFrom}
@@ -86,7 +85,7 @@ some-word-is words (suc count) from q low high other = elim (ℕ-discrete from q
   | no later ↦ go (eqb (words from) 0) (some-word-is words count (from + 1) q (omega arith) (omega arith) other)
 ]
   where
-    go : (t : Bool) → someWord words count (from + 1) ≡ true → pick t (someWord words count (from + 1)) true ≡ true
+    go : (t : Bool) → someWord words count (from + 1) ≡ true → cond t (someWord words count (from + 1)) true ≡ true
     go true e = e
     go false e = refl
 
@@ -96,7 +95,7 @@ unfolding someWord
 some-word-at words zero from e = absurd-false e
 some-word-at words (suc count) from e = go (eqb (words from) 0) refl e (some-word-at words count (from + 1))
   where
-    go : (t : Bool) → eqb (words from) 0 ≡ t → pick t (someWord words count (from + 1)) true ≡ true
+    go : (t : Bool) → eqb (words from) 0 ≡ t → cond t (someWord words count (from + 1)) true ≡ true
         → (someWord words count (from + 1) ≡ true → (q : ℕ) × (from + 1 ≤ q) × (q < from + 1 + count) × (words q ≢ 0))
         → (q : ℕ) × (from ≤ q) × (q < from + suc count) × (words q ≢ 0)
     go true none e later = let r = later e in (r .0, omega (arith, r .1), omega (arith, r .2), r .3)
@@ -123,7 +122,7 @@ every-word-at words zero from e q low high = absurd (omega arith)
 every-word-at words (suc count) from e q low high =
     go (eqb (words from) 0) refl e (λ later after. every-word-at words count (from + 1) later q after (omega arith))
   where
-    go : (t : Bool) → eqb (words from) 0 ≡ t → pick t false (everyWord words count (from + 1)) ≡ true
+    go : (t : Bool) → eqb (words from) 0 ≡ t → cond t false (everyWord words count (from + 1)) ≡ true
         → (everyWord words count (from + 1) ≡ true → from + 1 ≤ q → words q ≢ 0) → words q ≢ 0
     go true first e later = absurd-false e
     go false first e later = elim (ℕ-discrete from q) [

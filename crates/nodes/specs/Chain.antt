@@ -4,9 +4,9 @@ use mathlib.Core.List.{List}
 use Prim.Native.Nat.{ℕ, _+_}
 use lib.Dec.{eqb}
 use lib.ListN.{getD}
-use Rattle.cells.specs.Choice.{pick}
 use Rattle.cells.specs.Word.{wordAt}
 use Rattle.nodes.specs.Pointer.{wordTo}
+use mathlib.Core.Bool.{cond}
 
 -- the character at a place of a chain cell
 abbrev pub chainCharacter : List ℕ → ℕ → ℕ
@@ -18,4 +18,4 @@ chainEnd bytes = wordAt bytes 0x1C
 
 -- the child word of a chain
 unfoldable pub chainChild : List ℕ → ℕ → ℕ → ℕ
-chainChild bytes cell place = pick (eqb place 0x1B) (chainEnd bytes) (wordTo cell (place + 1))
+chainChild bytes cell place = cond (eqb place 0x1B) (chainEnd bytes) (wordTo cell (place + 1))

@@ -2,6 +2,7 @@
 use mathlib.Core.Bool.{Bool, _&&_}
 use Prim.Native.Nat.{ℕ, _+_}
 use lib.Dec.{leb, ltb}
+use Rattle.nodes.specs.Layout.{cellLimit}
 
 -- edition and number of cells, as the code's struct has them
 abbrev pub Layout : Type 0
@@ -16,5 +17,9 @@ unfoldable pub usable : Layout → ℕ → Bool
 usable layout cell = leb 1 cell && ltb (cell + trailerCells layout) (layout .cells)
 
 -- 01: "Labels have 1 to 48 bytes." and "No path has more than 48 characters."
-unfoldable pub keyLimit : ℕ
+abbrev pub keyLimit : ℕ
 keyLimit = 48
+
+-- 01: "n from 4 to 2,048"
+abbrev pub cellLimit : ℕ
+cellLimit = cellLimit

@@ -1,9 +1,8 @@
 -- One node, read from its cells: every kind becomes one shape.
 use mathlib.Core.List.{List, [], _∷_}
-use mathlib.Core.Option.{Option, none, some}
+use mathlib.Core.Option.{Option, none, some, bind}
 use Prim.Native.Nat.{ℕ}
 use lib.Dec.{eqb}
-use Rattle.cells.specs.Choice.{pick, bind}
 use Rattle.cells.specs.Memory.{Memory}
 use Rattle.nodes.specs.Layout.{Layout}
 use Rattle.nodes.specs.Pointer.{Pointer, pointer}
@@ -12,6 +11,7 @@ use Rattle.nodes.specs.Chain.{chainCharacter, chainChild}
 use Rattle.nodes.specs.Sparse.{validSparse, sparseChild}
 use Rattle.nodes.specs.Split.{validHead, headCells, splitChild}
 use Rattle.nodes.specs.Prefix.{prefixValue, prefixLink, validPrefix}
+use mathlib.Core.Bool.{cond}
 
 pub record Node : Type 0 where
   pub value : Option ℕ
@@ -24,14 +24,14 @@ abbrev pub childless : Option ℕ → Node
 childless value = record { value = value; cells = []; footprint = []; child = λ _. 0 }
 
 abbrev pub oneChild : ℕ → ℕ → ℕ → ℕ
-oneChild character word x = pick (eqb x character) word 0
+oneChild character word x = cond (eqb x character) word 0
 
 -- the node at one place of a chain; 01: "a run inside a chain cell is one entry": the cell is visited where the run ends
 unfoldable pub chainNode : List ℕ → ℕ → ℕ → Node
 chainNode bytes cell place =
     record {
       value = none;
-      cells = pick (eqb place 0x1B) (cell ∷ []) [];
+      cells = cond (eqb place 0x1B) (cell ∷ []) [];
       footprint = cell ∷ [];
       child = oneChild (chainCharacter bytes place) (chainChild bytes cell place);
     }
@@ -51,9 +51,9 @@ prefixed value cell linked =
 unfoldable pub plain : Layout → Memory → Pointer → Option Node
 plain layout m nothing = none
 plain layout m (leaf v) = none
-plain layout m (chain c k) = pick (eqb (chainChild (m c) c k) 0) none (some (chainNode (m c) c k))
-plain layout m (split c) = pick (validHead (m c)) (bind (headCells layout m c) (λ below. some (splitNode m c below))) none
-plain layout m (sparse c) = pick (validSparse (m c)) (some (sparseNode (m c) c)) none
+plain layout m (chain c k) = cond (eqb (chainChild (m c) c k) 0) none (some (chainNode (m c) c k))
+plain layout m (split c) = cond (validHead (m c)) (bind (headCells layout m c) (λ below. some (splitNode m c below))) none
+plain layout m (sparse c) = cond (validSparse (m c)) (some (sparseNode (m c) c)) none
 plain layout m (prefix c) = none
 plain layout m invalid = none
 
@@ -65,7 +65,7 @@ readAt layout m (chain c k) = plain layout m (chain c k)
 readAt layout m (split c) = plain layout m (split c)
 readAt layout m (sparse c) = plain layout m (sparse c)
 readAt layout m (prefix c) =
-    pick (validPrefix (m c)) (bind (plain layout m (pointer layout (prefixLink (m c)))) (λ linked. some (prefixed (prefixValue (m c)) c linked))) none
+    cond (validPrefix (m c)) (bind (plain layout m (pointer layout (prefixLink (m c)))) (λ linked. some (prefixed (prefixValue (m c)) c linked))) none
 readAt layout m invalid = none
 
 -- the node that a word names

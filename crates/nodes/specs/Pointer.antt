@@ -1,8 +1,8 @@
 -- 01, "How a pointer reads".
 use Prim.Native.Nat.{ℕ, _-_, _*_, _+_, _/_, _%_}
 use lib.Dec.{leb, ltb, eqb}
-use Rattle.cells.specs.Choice.{pick}
 use Rattle.nodes.specs.Layout.{Layout, usable}
+use mathlib.Core.Bool.{cond}
 
 -- what a word names
 pub data Pointer : Type 0 where
@@ -17,18 +17,18 @@ pub data Pointer : Type 0 where
 -- 01: "00-1B chain", "1C split", "1E sparse", "1F prefix", "1D is no kind"
 unfoldable pub byKind : ℕ → ℕ → Pointer
 byKind cell kind =
-    pick (ltb kind 0x1C) (chain cell kind)
-    (pick (eqb kind 0x1C) (split cell)
-    (pick (eqb kind 0x1E) (sparse cell)
-    (pick (eqb kind 0x1F) (prefix cell) invalid)))
+    cond (ltb kind 0x1C) (chain cell kind)
+    (cond (eqb kind 0x1C) (split cell)
+    (cond (eqb kind 0x1E) (sparse cell)
+    (cond (eqb kind 0x1F) (prefix cell) invalid)))
 
 -- 01: "0 is NONE. A word with its top bit set is a leaf whose value is the word with all bits inverted. Otherwise the
 -- word divided by 32 is the cell (1 to n-2) and the rest is the kind".
 unfoldable pub pointer : Layout → ℕ → Pointer
 pointer layout word =
-    pick (eqb word 0) nothing
-    (pick (leb 0x80000000 word) (leaf (0xFFFFFFFF - word))
-    (pick (usable layout (word / 32)) (byKind (word / 32) (word % 32)) invalid))
+    cond (eqb word 0) nothing
+    (cond (leb 0x80000000 word) (leaf (0xFFFFFFFF - word))
+    (cond (usable layout (word / 32)) (byKind (word / 32) (word % 32)) invalid))
 
 -- the word of a leaf
 unfoldable pub leafWord : ℕ → ℕ

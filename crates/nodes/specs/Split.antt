@@ -1,11 +1,10 @@
 -- 01: "1C split: words at 10, 14, 18, 1C by the top two bits of the character give mid cells; a mid has eight words by the
 -- middle three bits; an end has eight child words by the last three. Pointers to mids and ends carry kind 1C too."
-use mathlib.Core.Bool.{Bool}
+use mathlib.Core.Bool.{Bool, cond}
 use mathlib.Core.List.{List, [], _∷_, _++_}
-use mathlib.Core.Option.{Option, none, some}
+use mathlib.Core.Option.{Option, none, some, bind}
 use Prim.Native.Nat.{ℕ, zero, suc, _+_, _*_, _/_, _%_}
 use lib.Dec.{eqb}
-use Rattle.cells.specs.Choice.{pick, bind}
 use Rattle.cells.specs.Word.{wordAt}
 use Rattle.cells.specs.Memory.{Memory}
 use Rattle.nodes.specs.Layout.{Layout}
@@ -35,7 +34,7 @@ gather found (suc count) from = bind (found from) (λ first. bind (gather found 
 
 -- a word that is NONE has nothing below
 unfoldable pub under : (ℕ → Option (List ℕ)) → ℕ → Option (List ℕ)
-under found word = pick (eqb word 0) (some []) (found word)
+under found word = cond (eqb word 0) (some []) (found word)
 
 -- the cell of a pointer of kind 1C
 unfoldable pub splitCell : Pointer → Option ℕ
@@ -50,13 +49,13 @@ splitCell invalid = none
 -- the cell that the word of an end visits
 unfoldable pub endCells : Layout → Memory → ℕ → Option (List ℕ)
 endCells layout m word =
-    bind (splitCell (pointer layout word)) (λ c. pick (validTable (m c)) (some (c ∷ [])) none)
+    bind (splitCell (pointer layout word)) (λ c. cond (validTable (m c)) (some (c ∷ [])) none)
 
 -- the cells that the word of a mid visits: its own, then its ends
 unfoldable pub midCells : Layout → Memory → ℕ → Option (List ℕ)
 midCells layout m word =
     bind (splitCell (pointer layout word))
-    (λ c. pick (validTable (m c)) (bind (gather (λ j. under (endCells layout m) (tableWord (m c) j)) 8 0) (λ ends. some (c ∷ ends))) none)
+    (λ c. cond (validTable (m c)) (bind (gather (λ j. under (endCells layout m) (tableWord (m c) j)) 8 0) (λ ends. some (c ∷ ends))) none)
 
 -- the cells that a head's words visit
 unfoldable pub headCells : Layout → Memory → ℕ → Option (List ℕ)
@@ -64,7 +63,7 @@ headCells layout m c = gather (λ i. under (midCells layout m) (headWord (m c) i
 
 -- a word of the mid or end that a word names, NONE where that is NONE
 unfoldable pub wordBelow : Memory → ℕ → ℕ → ℕ
-wordBelow m word i = let there = tableWord (m (word / 32)) i in pick (eqb word 0) 0 there
+wordBelow m word i = let there = tableWord (m (word / 32)) i in cond (eqb word 0) 0 there
 
 -- the child word of a character, by its bits
 unfoldable pub splitChild : Memory → ℕ → ℕ → ℕ

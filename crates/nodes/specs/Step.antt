@@ -3,7 +3,6 @@ use mathlib.Core.List.{List}
 use mathlib.Core.Option.{Option, none, some}
 use Prim.Native.Nat.{ℕ, _/_, _%_}
 use lib.Dec.{eqb}
-use Rattle.cells.specs.Choice.{pick}
 use Rattle.cells.specs.Memory.{Memory}
 use Rattle.nodes.specs.Layout.{Layout}
 use Rattle.nodes.specs.Pointer.{Pointer, pointer}
@@ -12,6 +11,7 @@ use Rattle.nodes.specs.Chain.{chainCharacter, chainChild}
 use Rattle.nodes.specs.Sparse.{validSparse, sparseChild}
 use Rattle.nodes.specs.Split.{headWord, tableWord, validHead, validTable, splitCell}
 use Rattle.nodes.specs.Prefix.{prefixLink, validPrefix}
+use mathlib.Core.Bool.{cond}
 
 pub data Step : Type 0 where
   found : ℕ → Step  -- the child word
@@ -20,7 +20,7 @@ pub data Step : Type 0 where
 
 -- a child word, which is missing where it is NONE
 unfoldable pub wordStep : ℕ → Step
-wordStep word = pick (eqb word 0) missing (found word)
+wordStep word = cond (eqb word 0) missing (found word)
 
 -- a second step from the word that the first one found
 unfoldable pub onward : Step → (ℕ → Step) → Step
@@ -31,17 +31,17 @@ onward broken next = broken
 -- at a place of a chain cell
 unfoldable pub chainStep : List ℕ → ℕ → ℕ → ℕ → Step
 chainStep bytes cell place x =
-    pick (eqb (chainChild bytes cell place) 0) broken
-    (pick (eqb x (chainCharacter bytes place)) (found (chainChild bytes cell place)) missing)
+    cond (eqb (chainChild bytes cell place) 0) broken
+    (cond (eqb x (chainCharacter bytes place)) (found (chainChild bytes cell place)) missing)
 
 -- in a sparse cell
 unfoldable pub sparseStep : List ℕ → ℕ → Step
-sparseStep bytes x = pick (validSparse bytes) (wordStep (sparseChild bytes x)) broken
+sparseStep bytes x = cond (validSparse bytes) (wordStep (sparseChild bytes x)) broken
 
 -- in the mid or end that a word names
 unfoldable pub tableIn : Memory → Option ℕ → ℕ → Step
 tableIn m none i = broken
-tableIn m (some c) i = pick (validTable (m c)) (wordStep (tableWord (m c) i)) broken
+tableIn m (some c) i = cond (validTable (m c)) (wordStep (tableWord (m c) i)) broken
 
 unfoldable pub tableStep : Layout → Memory → ℕ → ℕ → Step
 tableStep layout m word i = tableIn m (splitCell (pointer layout word)) i
@@ -49,7 +49,7 @@ tableStep layout m word i = tableIn m (splitCell (pointer layout word)) i
 -- in a split: its head, then a mid, then an end
 unfoldable pub splitStep : Layout → Memory → ℕ → ℕ → Step
 splitStep layout m c x =
-    pick (validHead (m c))
+    cond (validHead (m c))
     (onward (wordStep (headWord (m c) (x / 64)))
     (λ mid. onward (tableStep layout m mid (x / 8 % 8)) (λ end. tableStep layout m end (x % 8))))
     broken
@@ -66,7 +66,7 @@ plainStep layout m invalid x = broken
 
 -- at a prefix
 unfoldable pub prefixStep : Layout → Memory → ℕ → ℕ → Step
-prefixStep layout m c x = pick (validPrefix (m c)) (plainStep layout m (pointer layout (prefixLink (m c))) x) broken
+prefixStep layout m c x = cond (validPrefix (m c)) (plainStep layout m (pointer layout (prefixLink (m c))) x) broken
 
 -- at any pointer
 unfoldable pub stepAt : Layout → Memory → Pointer → ℕ → Step

@@ -2,6 +2,9 @@
 ghost use mathlib.Core.Path.{_≡_};
 ghost use Rattle.nodes.specs.Layout.{trailerCells, usable};
 
+// The most characters that a key may have.
+pub const KEY_LIMIT: usize = 48;
+
 // The most cells that a block may have.
 pub const CELL_LIMIT: usize = 2048;
 

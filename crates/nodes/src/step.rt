@@ -3,7 +3,7 @@ ghost use mathlib.Core.Path.{_≡_};
 ghost use Prim.Native.Nat.{_*_, _<_, _≤_};
 ghost use lib.ListN.{length};
 ghost use Rattle.cells.specs.Memory.{memoryOf};
-ghost use Rattle.nodes.specs.Layout.{usable};
+ghost use Rattle.nodes.specs.Layout.{usable, cellLimit};
 ghost use Rattle.nodes.specs.Step.{wordStep, chainStep, sparseStep, tableStep, splitStep, plainStep, prefixStep, childStep};
 ghost use Rattle.nodes.specs.Coded.{pointerOf, Named, stepOf};
 use crate::chains::chain_child;
@@ -37,7 +37,7 @@ fn word_step(word: u32) -> ChildStep
 
 // A step at a place of a chain cell.
 fn chain_step(bytes: &[u8], number: usize, place: usize, character: u8) -> ChildStep
-    requires { ⌜ (length (now bytes) ≡ 32) × (number < 2048) × (place < 28) ⌝ }
+    requires { ⌜ (length (now bytes) ≡ 32) × (number < cellLimit) × (place < 28) ⌝ }
     ensures { λ r. ⌜ stepOf r ≡ chainStep (now (bytes .entry)) number place character ⌝ }
 {
     let child = chain_child(bytes, number, place);
@@ -99,7 +99,7 @@ fn split_step(layout: Layout, block: &[u8], number: usize, character: u8) -> Chi
 
 // A step at a chain, sparse or split; any other is broken where one of these is called for.
 fn plain_step(layout: Layout, block: &[u8], pointer: Pointer, character: u8) -> ChildStep
-    requires { ⌜ (layout .cells * 32 ≤ length (now block)) × (layout .cells ≤ 2048) × Named layout pointer ⌝ }
+    requires { ⌜ (layout .cells * 32 ≤ length (now block)) × (layout .cells ≤ cellLimit) × Named layout pointer ⌝ }
     ensures { λ r. ⌜ stepOf r ≡ plainStep layout (memoryOf (now (block .entry))) (pointerOf pointer) character ⌝ }
 {
     match pointer {
@@ -112,7 +112,7 @@ fn plain_step(layout: Layout, block: &[u8], pointer: Pointer, character: u8) -> 
 
 // A step at a prefix: it is the step at the node linked.
 fn prefix_step(layout: Layout, block: &[u8], number: usize, character: u8) -> ChildStep
-    requires { ⌜ (layout .cells * 32 ≤ length (now block)) × (layout .cells ≤ 2048) × (number < layout .cells) ⌝ }
+    requires { ⌜ (layout .cells * 32 ≤ length (now block)) × (layout .cells ≤ cellLimit) × (number < layout .cells) ⌝ }
     ensures { λ r. ⌜ stepOf r ≡ prefixStep layout (memoryOf (now (block .entry))) number character ⌝ }
 {
     let bytes = cell(block, number);
@@ -125,7 +125,7 @@ fn prefix_step(layout: Layout, block: &[u8], number: usize, character: u8) -> Ch
 
 // The step from the node that a word names to its child of a character.
 pub fn child_step(layout: Layout, block: &[u8], word: u32, character: u8) -> ChildStep
-    requires { ⌜ (layout .cells * 32 ≤ length (now block)) × (layout .cells ≤ 2048) ⌝ }
+    requires { ⌜ (layout .cells * 32 ≤ length (now block)) × (layout .cells ≤ cellLimit) ⌝ }
     ensures { λ r. ⌜ stepOf r ≡ childStep layout (memoryOf (now (block .entry))) word character ⌝ }
 {
     let pointer = pointer_of(layout, word);

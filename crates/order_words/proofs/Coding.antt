@@ -1,7 +1,7 @@
 -- Digits and their numbers: each gives back the other.
 use mathlib.Core.Path.{_≡_, refl, ap, _∙_}
 use mathlib.Core.Logic.{_≢_}
-use mathlib.Core.Bool.{true}
+use mathlib.Core.Bool.{true, cond}
 use mathlib.Core.List.{List, [], _∷_}
 use native.Mathlib.Omega.{arith}
 use native.Mathlib.Decide.{ℕ-discrete}
@@ -9,7 +9,6 @@ use Prim.Native.Nat.{ℕ, zero, suc, _+_, _*_, _/_, _%_, _≤_, _<_}
 use lib.Dec.{eqb}
 use lib.ListN.{length}
 use borrow.Author.Tests.{eq-eqb, ne-eqb}
-use Rattle.cells.specs.Choice.{pick}
 use Rattle.cells.specs.Occurrences.{occurrences}
 use Rattle.cells.proofs.Occurrences.{occurrences-none, occurrences-cons, occurrences-here}
 use Rattle.order_words.specs.Digits.{digits, encode, orderDigits}
@@ -66,7 +65,7 @@ digits-below-six (suc most) number d o = elim (ℕ-discrete number 0) [
   | no n ↦ elim (ℕ-discrete d (number % 6)) [
     | yes e ↦ omega arith
     | no m ↦
-        let p : _≡_ {A = ℕ} (pick (eqb d (number % 6)) 1 0) 0 = rw (ne-eqb d (number % 6) m) in
+        let p : _≡_ {A = ℕ} (cond (eqb d (number % 6)) 1 0) 0 = rw (ne-eqb d (number % 6) m) in
         digits-below-six most (number / 6) d (omega (arith, more n))
   ]
 ]
@@ -74,7 +73,7 @@ digits-below-six (suc most) number d o = elim (ℕ-discrete number 0) [
     none : number ≡ 0 → occurrences d (digits (suc most) number) ≡ occurrences d []
     none z = ap (λ n. occurrences d (digits (suc most) n)) z ∙ ap (occurrences d) (digits-zero (suc most))
 
-    more : number ≢ 0 → occurrences d (digits (suc most) number) ≡ pick (eqb d (number % 6)) 1 0 + occurrences d (digits most (number / 6))
+    more : number ≢ 0 → occurrences d (digits (suc most) number) ≡ cond (eqb d (number % 6)) 1 0 + occurrences d (digits most (number / 6))
     more n = ap (occurrences d) (digits-more most number n) ∙ occurrences-cons d (number % 6) (digits most (number / 6))
 
 -- digits that a number can have: each below 6, and a number other than zero from each of them on
@@ -127,16 +126,16 @@ zero-lead : (ds : List ℕ) → occurrences 0 ds ≡ 1 → 1 ≤ occurrences 1 d
 zero-lead [] z o l = tt
 zero-lead (d ∷ ds) z o l = elim (ℕ-discrete 0 d) [
   | yes e ↦
-      let p : _≡_ {A = ℕ} (pick (eqb 0 d) 1 0) 1 = rw (eq-eqb 0 d e) in
+      let p : _≡_ {A = ℕ} (cond (eqb 0 d) 1 0) 1 = rw (eq-eqb 0 d e) in
       let n : 1 ≢ d = omega arith in
-      let q : _≡_ {A = ℕ} (pick (eqb 1 d) 1 0) 0 = rw (ne-eqb 1 d n) in
+      let q : _≡_ {A = ℕ} (cond (eqb 1 d) 1 0) 0 = rw (ne-eqb 1 d n) in
       let later = nonzero-lead ds (omega (arith, z, occurrences-cons 0 d ds)) in
       let nonzero = lead-nonzero 1 ds (omega (arith, o, occurrences-cons 1 d ds)) later in
       ((λ q. nonzero (omega (arith, q, encode-cons d ds))), later)
   | no n ↦
       let m : 1 ≢ d = λ e. absurd (omega (arith, place-here 1 d ds e)) in
-      let p : _≡_ {A = ℕ} (pick (eqb 0 d) 1 0) 0 = rw (ne-eqb 0 d n) in
-      let q : _≡_ {A = ℕ} (pick (eqb 1 d) 1 0) 0 = rw (ne-eqb 1 d m) in
+      let p : _≡_ {A = ℕ} (cond (eqb 0 d) 1 0) 0 = rw (ne-eqb 0 d n) in
+      let q : _≡_ {A = ℕ} (cond (eqb 1 d) 1 0) 0 = rw (ne-eqb 1 d m) in
       let later = zero-lead ds (omega (arith, z, occurrences-cons 0 d ds)) (omega (arith, o, occurrences-cons 1 d ds))
       (omega (arith, place-later 0 d ds n, place-later 1 d ds m)) in
       ((λ q. n (omega (arith, q, encode-cons d ds))), later)

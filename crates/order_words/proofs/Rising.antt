@@ -1,14 +1,13 @@
 -- The characters of the digits rise still when the next digit is put in.
 use mathlib.Core.Path.{_≡_, refl, sym, ap, _∙_}
 use mathlib.Core.Logic.{_≢_}
-use mathlib.Core.Bool.{Bool, true}
+use mathlib.Core.Bool.{Bool, true, cond}
 use mathlib.Core.List.{List, [], _∷_, map}
 use native.Mathlib.Omega.{arith}
 use native.Mathlib.Decide.{decLt}
 use Prim.Native.Nat.{ℕ, _≤_}
 use lib.Dec.{eqb, ltb}
 use borrow.Author.Tests.{lt-ltb, ne-eqb, ltb-true}
-use Rattle.cells.specs.Choice.{pick}
 use Rattle.cells.specs.Occurrences.{occurrences, all}
 use Rattle.cells.proofs.Choice.{both, both-left, both-right, all-weaker}
 use Rattle.cells.proofs.Occurrences.{occurrences-none, occurrences-cons, occurrences-here, occurrences-later}
@@ -61,7 +60,7 @@ pub absent-map : (f : ℕ → ℕ) (x : ℕ) (ds : List ℕ) → ((d : ℕ) → 
 absent-map f x [] other = occurrences-none x
 absent-map f x (d ∷ ds) other =
     let n : x ≢ f d = λ e. other d (occurrences-here d ds) (sym e) in
-    let p : _≡_ {A = ℕ} (pick (eqb x (f d)) 1 0) 0 = rw (ne-eqb x (f d) n) in
+    let p : _≡_ {A = ℕ} (cond (eqb x (f d)) 1 0) 0 = rw (ne-eqb x (f d) n) in
     let i = absent-map f x ds (λ e o. other e (omega (arith, occurrences-later e d ds))) in
     omega (arith, i, occurrences-cons x (f d) (map f ds))
 

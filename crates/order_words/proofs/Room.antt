@@ -1,6 +1,6 @@
 -- A list of k numbers in which each number below k stands once has room for no other.
 use mathlib.Core.Path.{_≡_, refl, ap, _∙_}
-use mathlib.Core.Bool.{Bool, true, false}
+use mathlib.Core.Bool.{Bool, true, false, cond}
 use mathlib.Core.List.{List, [], _∷_}
 use mathlib.Core.Logic.{_≢_}
 use native.Mathlib.Omega.{arith}
@@ -9,7 +9,6 @@ use Prim.Native.Nat.{ℕ, zero, suc, _+_, _≤_, _<_}
 use lib.Dec.{eqb, ltb}
 use lib.ListN.{length}
 use borrow.Author.Tests.{lt-ltb, le-ltb, eq-eqb, ne-eqb, eqb-true}
-use Rattle.cells.specs.Choice.{pick}
 use Rattle.cells.specs.Occurrences.{occurrences}
 use Rattle.cells.proofs.Choice.{both, both-left, both-right}
 use Rattle.order_words.specs.Order.{eachOnce}
@@ -31,10 +30,10 @@ once-each (suc k) ds h = both (eq-eqb (occurrences k ds) 1 (h k (omega arith))) 
 -- how many elements are below a bound
 unfoldable pub countBelow : ℕ → List ℕ → ℕ
 countBelow bound [] = 0
-countBelow bound (x ∷ xs) = pick (ltb x bound) 1 0 + countBelow bound xs
+countBelow bound (x ∷ xs) = cond (ltb x bound) 1 0 + countBelow bound xs
 
 -- one element: below the next bound it is below this one, or it is this one
-one-more : (j x : ℕ) → _≡_ {A = ℕ} (pick (ltb x (suc j)) 1 0) (pick (ltb x j) 1 0 + pick (eqb j x) 1 0)
+one-more : (j x : ℕ) → _≡_ {A = ℕ} (cond (ltb x (suc j)) 1 0) (cond (ltb x j) 1 0 + cond (eqb j x) 1 0)
 one-more j x = elim (ℕ-discrete j x) [
   | yes e ↦ simp (lt-ltb x (suc j) (omega arith), le-ltb x j (omega arith), eq-eqb j x e)
   | no n ↦ elim (decLt x j) [
@@ -43,7 +42,7 @@ one-more j x = elim (ℕ-discrete j x) [
   ]
 ]
 
-one-room : (j e x : ℕ) → j ≤ e → pick (ltb x j) 1 0 + pick (eqb e x) 1 0 ≤ 1
+one-room : (j e x : ℕ) → j ≤ e → cond (ltb x j) 1 0 + cond (eqb e x) 1 0 ≤ 1
 one-room j e x l = elim (decLt x j) [
   | yes p ↦
       let n : e ≢ x = omega arith in
@@ -51,7 +50,7 @@ one-room j e x l = elim (decLt x j) [
   | no g ↦ rw (le-ltb x j (omega arith)) (go (eqb e x))
 ]
   where
-    go : (t : Bool) → 0 + pick t 1 0 ≤ 1
+    go : (t : Bool) → 0 + cond t 1 0 ≤ 1
     go true = omega arith
     go false = omega arith
 

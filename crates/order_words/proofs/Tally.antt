@@ -7,10 +7,10 @@ use native.Mathlib.Decide.{ℕ-discrete}
 use native.Mathlib.Nat.{pow-le-pow-right}
 use Prim.Native.Nat.{ℕ, zero, suc, _+_, _*_, _%_, _^_, _≤_, _<_}
 use lib.Dec.{eqb, ltb}
-use Rattle.cells.specs.Choice.{pick}
 use Rattle.cells.specs.Occurrences.{occurrences}
 use Rattle.cells.proofs.Occurrences.{occurrences-here}
 use Rattle.order_words.proofs.Coding.{BelowSix, below-later}
+use mathlib.Core.Bool.{cond}
 
 -- each digit adds its own power of 8
 unfoldable pub tallyOf : List ℕ → ℕ
@@ -42,8 +42,8 @@ pub shifted : (d : ℕ) → d ≤ 6 → (1 * 2 ^ (3 * d)) % 2 ^ 64 ≡ 8 ^ d
 shifted = up-to-six (λ d. (1 * 2 ^ (3 * d)) % 2 ^ 64 ≡ 8 ^ d) refl refl refl refl refl refl refl
 
 -- one digit tallied: it stands once, and no other does
-one-digit : (d : ℕ) → d < 6 → 8 ^ d ≡ six (λ j. pick (eqb j d) 1 0)
-one-digit = below-six (λ d. 8 ^ d ≡ six (λ j. pick (eqb j d) 1 0)) refl refl refl refl refl refl
+one-digit : (d : ℕ) → d < 6 → 8 ^ d ≡ six (λ j. cond (eqb j d) 1 0)
+one-digit = below-six (λ d. 8 ^ d ≡ six (λ j. cond (eqb j d) 1 0)) refl refl refl refl refl refl
 
 -- the tally of digits is how often each of them stands
 pub tallied : (ds : List ℕ) → BelowSix ds → tallyOf ds ≡ six (λ d. occurrences d ds)
@@ -53,8 +53,8 @@ tallied (d ∷ ds) below =
     omega (arith, one-digit d (below d (occurrences-here d ds)), tallied ds (below-later d ds below))
 
 -- each digit below k once and no other
-pub each-below : (k : ℕ) → k ≤ 6 → 7 * six (λ j. pick (ltb j k) 1 0) + 1 ≡ 8 ^ k
-each-below = up-to-six (λ k. 7 * six (λ j. pick (ltb j k) 1 0) + 1 ≡ 8 ^ k) refl refl refl refl refl refl refl
+pub each-below : (k : ℕ) → k ≤ 6 → 7 * six (λ j. cond (ltb j k) 1 0) + 1 ≡ 8 ^ k
+each-below = up-to-six (λ k. 7 * six (λ j. cond (ltb j k) 1 0) + 1 ≡ 8 ^ k) refl refl refl refl refl refl refl
 
 -- a digit below 6 adds at most 32768, and one other than 0 leaves the lowest three bits
 pub weight-most : (d : ℕ) → d < 6 → 8 ^ d ≤ 32768

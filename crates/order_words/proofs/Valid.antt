@@ -1,7 +1,7 @@
 -- Valid digits: the parts of the rule, and that they stay valid with the next digit put in.
 use mathlib.Core.Path.{_≡_, ap, _∙_}
 use mathlib.Core.Logic.{_≢_}
-use mathlib.Core.Bool.{true}
+use mathlib.Core.Bool.{true, cond}
 use mathlib.Core.List.{List, [], _∷_}
 use native.Mathlib.Omega.{arith}
 use native.Mathlib.Decide.{decLt, ℕ-discrete}
@@ -9,7 +9,6 @@ use Prim.Native.Nat.{ℕ, _+_, _≤_, _<_}
 use lib.Dec.{eqb, ltb, leb}
 use lib.ListN.{length}
 use borrow.Author.Tests.{lt-ltb, le-leb, eq-eqb, ne-eqb, ltb-true, leb-true}
-use Rattle.cells.specs.Choice.{pick}
 use Rattle.cells.specs.Occurrences.{occurrences}
 use Rattle.cells.proofs.Choice.{both, each-of-four}
 use Rattle.cells.proofs.Occurrences.{occurrences-cons}
@@ -96,7 +95,7 @@ extended-once : (character : ℕ → ℕ) (x : ℕ) (ds : List ℕ) → validDig
 extended-once character x ds v d l =
     occurrences-withDigit character x (length ds) d ds ∙ occurrences-cons d (length ds) ds ∙ here
   where
-    here : pick (eqb d (length ds)) 1 0 + occurrences d ds ≡ 1
+    here : cond (eqb d (length ds)) 1 0 + occurrences d ds ≡ 1
     here = elim (ℕ-discrete d (length ds)) [
       | yes e ↦ rw (eq-eqb d (length ds) e) (omega (arith, next-absent ds v, ap (λ n. occurrences n ds) e))
       | no n ↦ rw (ne-eqb d (length ds) n) (omega (arith, digit-once ds v d (omega arith)))

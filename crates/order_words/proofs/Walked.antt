@@ -1,7 +1,7 @@
 -- A walk over digits from the lowest that counts and tallies them: what it has met so far and what is left make up the whole.
 use mathlib.Core.Path.{_≡_, refl, sym, ap, subst, _∙_}
 use mathlib.Core.Logic.{_≢_}
-use mathlib.Core.Bool.{Bool, true, false}
+use mathlib.Core.Bool.{Bool, true, false, cond}
 use mathlib.Core.List.{List, [], _∷_}
 use native.Mathlib.Omega.{arith}
 use native.Mathlib.Decide.{decLt, ℕ-discrete}
@@ -10,7 +10,6 @@ use Prim.Native.Nat.{ℕ, _+_, _-_, _*_, _/_, _%_, _^_, _≤_, _<_}
 use lib.Dec.{eqb, ltb}
 use lib.ListN.{length}
 use borrow.Author.Tests.{eq-eqb, ne-eqb, lt-ltb, le-ltb}
-use Rattle.cells.specs.Choice.{pick}
 use Rattle.cells.specs.Occurrences.{occurrences}
 use Rattle.order_words.specs.Digits.{digits}
 use Rattle.order_words.specs.Order.{place, validDigits}
@@ -127,12 +126,12 @@ module _ (ds : List ℕ) (count tally : ℕ) (walked : Walked ds count tally [])
 
   -- how often each digit stands in valid digits
   abbrev expected : ℕ → ℕ
-  expected d = pick (ltb d count) 1 0
+  expected d = cond (ltb d count) 1 0
 
   small : (d : ℕ) → expected d < 8
   small d = go (ltb d count)
     where
-      go : (t : Bool) → pick t 1 0 < 8
+      go : (t : Bool) → cond t 1 0 < 8
       go true = omega arith
       go false = omega arith
 

@@ -2,12 +2,12 @@
 use mathlib.Core.List.{List, [], _∷_}
 use Prim.Native.Nat.{ℕ, zero, suc, _+_, _*_, _/_, _%_}
 use lib.Dec.{eqb}
-use Rattle.cells.specs.Choice.{pick}
+use mathlib.Core.Bool.{cond}
 
 -- the lowest digits of a number, at most so many
 unfoldable pub digits : ℕ → ℕ → List ℕ
 digits zero number = []
-digits (suc most) number = let more = number % 6 ∷ digits most (number / 6) in pick (eqb number 0) [] more
+digits (suc most) number = let more = number % 6 ∷ digits most (number / 6) in cond (eqb number 0) [] more
 
 -- the number of some digits
 unfoldable pub encode : List ℕ → ℕ

@@ -1,10 +1,9 @@
 -- Words that are valid and words that are not, the digits of one, and one extended.
 use mathlib.Core.Path.{_≡_, refl}
-use mathlib.Core.Bool.{Bool}
+use mathlib.Core.Bool.{Bool, cond}
 use mathlib.Core.List.{[], _∷_, map}
 use Prim.Native.Nat.{ℕ}
 use lib.Dec.{eqb}
-use Rattle.cells.specs.Choice.{pick}
 use Rattle.cells.specs.Occurrences.{occurrences}
 use Rattle.order_words.specs.Digits.{digits, encode, orderDigits}
 use Rattle.order_words.specs.Order.{eachOnce, place, validDigits, validOrder}
@@ -12,11 +11,11 @@ use Rattle.order_words.specs.Extended.{withDigit, extendedOrder}
 
 -- a test as a number
 abbrev pub flag : Bool → ℕ
-flag test = pick test 1 0
+flag test = cond test 1 0
 
 -- a cell with the characters 41 and 43 at its positions 0 and 1
 abbrev pub twoCharacters : ℕ → ℕ
-twoCharacters position = pick (eqb position 0) 0x41 0x43
+twoCharacters position = cond (eqb position 0) 0x41 0x43
 
 -- 01: "lawful words 0006, 0026, 8129; not lawful 0001, 0007", and the greatest one; no digit, seven digits, a digit twice,
 -- a digit too great, and 0 above 1 four times; lists of 2, 6, 7 and 1 digits; 35 put before 41 and 43; the digits of 8129

@@ -11,7 +11,7 @@ use lib.ListN.{length, getD, set, take, length-set}
 use lib.Seq.{take-suc-set, length-take-le}
 use borrow.Author.Tests.{eq-eqb, ne-eqb}
 use Rattle.cells.specs.Occurrences.{occurrences, select}
-use Rattle.nodes.specs.Layout.{Layout, trailerCells}
+use Rattle.nodes.specs.Layout.{Layout, trailerCells, cellLimit}
 use Rattle.blocks.specs.Sound.{reachable}
 use Rattle.blocks.specs.Stamps.{Stamped}
 use Rattle.blocks.specs.Trailer.{rootWord}
@@ -96,13 +96,13 @@ select-alike test test′ (suc count) from same =
     rw (same from (omega arith), select-alike test test′ count (from + 1) (λ c below. same c (omega arith)))
 
 -- where the stamps tell the cells that are reached, those without are the free ones
-pub unstamped-free : (layout : Layout) (block stamps : List ℕ) → layout .cells ≤ 2048 → 1 ≤ layout .cells → Stamped layout block stamps
+pub unstamped-free : (layout : Layout) (block stamps : List ℕ) → layout .cells ≤ cellLimit → 1 ≤ layout .cells → Stamped layout block stamps
     → unstamped layout (rootWord layout block) stamps ≡ free layout block
 unfolding unstamped free allocationOrder
 unstamped-free layout block stamps most least told =
     select-alike _ _ (layout .cells - 1 - trailerCells layout) 1 (λ c below. same c (omega arith))
   where
-    same : (c : ℕ) → c < 2048 → eqb (getD stamps c 0) 0 ≡ eqb (occurrences c (reachable layout block)) 0
+    same : (c : ℕ) → c < cellLimit → eqb (getD stamps c 0) 0 ≡ eqb (occurrences c (reachable layout block)) 0
     same c near = elim (ℕ-discrete (getD stamps c 0) 0) [
       | yes e ↦ eq-eqb (getD stamps c 0) 0 e ∙ sym (eq-eqb _ 0 (told .clear c near e))
       | no n ↦ ne-eqb (getD stamps c 0) 0 n ∙ sym (ne-eqb _ 0 (λ e. n (told .unreached c near e)))

@@ -1,7 +1,7 @@
 -- The law of one insertion on any block.
 use mathlib.Core.Path.{_≡_, refl, sym, ap, _∙_, subst}
 use mathlib.Core.Logic.{_≢_}
-use mathlib.Core.Bool.{true, false}
+use mathlib.Core.Bool.{true, false, cond}
 use mathlib.Core.List.{List}
 use Prim.Native.Nat.{ℕ, _+_, _-_, _*_, _/_, _≤_, _<_}
 use native.Mathlib.Decide.{ℕ-discrete}
@@ -9,7 +9,6 @@ use native.Mathlib.Omega.{arith}
 use lib.Dec.{leb, eqb}
 use lib.ListN.{length}
 use borrow.Author.Tests.{lt-ltb, le-ltb, eq-eqb, ne-eqb, ltb-true, ltb-false, eqb-false, not-false}
-use Rattle.cells.specs.Choice.{pick}
 use Rattle.cells.specs.Bytes.{IsBytes}
 use Rattle.cells.specs.Word.{withWord}
 use Rattle.cells.specs.Memory.{memoryOf}
@@ -230,7 +229,7 @@ module _ (b key : List ℕ) (value : ℕ) where
 
   -- the answer on a sound block
   pub insert-answer : badSize b ≡ false → sound b ≡ true
-      → insert b key value .answer ≡ pick (badNewKey key) 3 (pick (badValue value) 4 (pick (noRoom b key) 7 0))
+      → insert b key value .answer ≡ cond (badNewKey key) 3 (cond (badValue value) 4 (cond (noRoom b key) 7 0))
   unfolding firstRefusal
   insert-answer size valid = insert-number ∙ rw (size, valid)
 

@@ -3,7 +3,7 @@
 use mathlib.Core.Path.{_≡_, sym, ap, _∙_, subst}
 use mathlib.Core.List.{List, [], _∷_, _++_}
 use mathlib.Core.Bool.{true}
-use Prim.Native.Nat.{ℕ, _-_, _*_, _≤_, _<_}
+use Prim.Native.Nat.{ℕ, _*_, _≤_, _<_}
 use native.Mathlib.Omega.{arith}
 use lib.ListN.{length, getD, take, length-take}
 use Rattle.cells.specs.Memory.{memoryOf}
@@ -43,7 +43,7 @@ module _ (layout : Layout) (b stamps key : List ℕ) (value : ℕ) (p : Insertab
   pub insertable-fits : Fits layout (length b)
   insertable-fits = layout-fits b layout (p .size) (p .stated)
 
-  pub insertable-key : length key ≤ 48
+  pub insertable-key : length key ≤ keyLimit
   insertable-key = omega (arith, key-fits key (p .good-key), key-limit)
 
   module _ (root : ℕ) (numbers : List ℕ) (count : ℕ) (root-is : root ≡ rootWord layout b) (listed : Listed numbers count (unstamped layout root stamps)) where
@@ -67,15 +67,13 @@ module _ (layout : Layout) (b stamps key : List ℕ) (value : ℕ) (p : Insertab
 
     -- what the build asks for: a numbering, a block of the layout's size, a key that is not over long and a tree for it
     pub build-ready :
-        Numbered layout count × (layout .cells * 32 ≤ length b) × (0 ≤ length key) × (length key ≤ 48)
-        × HasTree layout (memoryOf b) root (length key - 0)
+        Numbered layout count × (layout .cells * 32 ≤ length b) × (length key ≤ keyLimit) × HasTree layout (memoryOf b) root (length key)
     build-ready =
         let f = insertable-fits in
         let valid : soundWith layout b ≡ true = ap (λ (l : Layout). soundWith l b) (p .stated) ∙ p .valid in
         let parts = root-parts layout (memoryOf b) (rootWord layout b) (sound-parts layout b valid .root) in (
           record { some = omega (arith, f .least); most = f .most; listed = omega (arith, listed .many, unstamped-most layout root stamps, f .most) },
           omega (arith, f .whole),
-          omega arith,
           insertable-key,
           record {
             depth = keyLimit;

@@ -2,13 +2,12 @@
 -- alike at these get the same answer of a validation, reach and leave free the same cells, and where sound show the same.
 use mathlib.Core.Path.{_≡_, refl, sym, ap, _∙_, subst}
 use mathlib.Core.Logic.{_⊎_, inl, inr}
-use mathlib.Core.Bool.{Bool, true, false, _&&_, not}
+use mathlib.Core.Bool.{Bool, true, false, _&&_, not, cond}
 use mathlib.Core.List.{List, [], _∷_, _++_}
 use Prim.Native.Nat.{ℕ, zero, suc, _+_, _-_, _*_, _/_, _%_, _^_, _≤_, _<_}
 use native.Mathlib.Omega.{arith}
 use lib.Dec.{eqb}
 use lib.ListN.{length, getD}
-use Rattle.cells.specs.Choice.{pick}
 use Rattle.cells.specs.Word.{wordAt}
 use Rattle.cells.specs.Memory.{Memory, memoryOf}
 use Rattle.cells.specs.Occurrences.{occurrences, all, select}
@@ -89,7 +88,7 @@ module _ (layout : Layout) (b b′ : List ℕ) (same : SameBytes (trailerAt layo
       let used = use-same from in
       let word = word-same from valid in
       let later = slot-roots-same count (from + 1) (omega arith) (omega arith) in
-      λ i. pick (used i) (word i ∷ later i) (later i)
+      λ i. cond (used i) (word i ∷ later i) (later i)
 
   roots-same : roots layout b′ ≡ roots layout b
   unfolding roots

@@ -1,13 +1,12 @@
 -- The laws of the calls on snapshots: snapshot, restore and release.
 use mathlib.Core.Path.{_≡_, refl, sym, subst}
 use mathlib.Core.Logic.{_≢_}
-use mathlib.Core.Bool.{Bool, true, false, not}
+use mathlib.Core.Bool.{Bool, true, false, not, cond}
 use mathlib.Core.List.{List}
 use Prim.Native.Nat.{ℕ}
 use native.Mathlib.Omega.{arith}
 use lib.Dec.{eqb}
 use borrow.Author.Tests.{not-false}
-use Rattle.cells.specs.Choice.{pick}
 use Rattle.cells.specs.Bytes.{IsBytes}
 use Rattle.cells.specs.Memory.{Memory, memoryOf}
 use Rattle.cells.proofs.Choice.{absurd-bool, absurd-false}
@@ -28,20 +27,20 @@ use Rattle.store.proofs.TrailerWrites.{with-bit-fits, with-bit-uses, wi
 use Rattle.store.proofs.After.{After, after-same, slotShown, OldRoot, present-root, slot-root, after-trailer}
 
 -- a table by slot, where the words are replaced at one
-pick-lookup : (layout : Layout) (m : Memory) (t : Bool) (w v : ℕ) (key : List ℕ)
-    → lookup layout m (pick t w v) key ≡ pick {A = Table} t (lookup layout m w) (lookup layout m v) key
-pick-lookup layout m true w v key = refl
-pick-lookup layout m false w v key = refl
+cond-lookup : (layout : Layout) (m : Memory) (t : Bool) (w v : ℕ) (key : List ℕ)
+    → lookup layout m (cond t w v) key ≡ cond {A = Table} t (lookup layout m w) (lookup layout m v) key
+cond-lookup layout m true w v key = refl
+cond-lookup layout m false w v key = refl
 
 -- where a slot is not in use any more, the others show what they did
-pick-used : (layout : Layout) (m : Memory) (t : Bool) (old : Bool) (w v : ℕ) (key : List ℕ) → pick t false old ≡ true
-    → lookup layout m (pick t w v) key ≡ lookup layout m v key
-pick-used layout m true old w v key on = absurd-false on
-pick-used layout m false old w v key on = refl
+cond-used : (layout : Layout) (m : Memory) (t : Bool) (old : Bool) (w v : ℕ) (key : List ℕ) → cond t false old ≡ true
+    → lookup layout m (cond t w v) key ≡ lookup layout m v key
+cond-used layout m true old w v key on = absurd-false on
+cond-used layout m false old w v key on = refl
 
 -- the words of slots in use, one replaced by an old root
 replaced-root : (b : List ℕ) (t used old : Bool) (w v : ℕ) → (used ≡ true → OldRoot b w) → (old ≡ true → OldRoot b v)
-    → pick t used old ≡ true → OldRoot b (pick t w v)
+    → cond t used old ≡ true → OldRoot b (cond t w v)
 replaced-root b true used old w v new kept on = new on
 replaced-root b false used old w v new kept on = kept on
 
@@ -55,7 +54,7 @@ module _ (b : List ℕ) (bytes : IsBytes b) (size : badSize b ≡ false) (valid 
       let w : ℕ = rootWord (layoutOf b) b in
       let fits = with-bit-fits (layoutOf b) b slot is-slot (trailer-parts (layoutOf b) b (p .trailer) .bits) in
       after-same b _ _ _ (replacedAt (inUse (layoutOf b) b) slot true) _ _ (λ key. refl)
-      (λ other on key. pick-lookup (layoutOf b) (memoryOf b) (eqb other slot) w (slotWord (layoutOf b) b other) key)
+      (λ other on key. cond-lookup (layoutOf b) (memoryOf b) (eqb other slot) w (slotWord (layoutOf b) b other) key)
       (after-trailer b p size s bytes _ (slot-block-bytes b s slot v w is-slot bytes (bits-byte (layoutOf b) v fits)) w
       (replacedAt (slotWord (layoutOf b) b) slot w) (replacedAt (inUse (layoutOf b) b) slot true)
       (slot-written b s slot v w is-slot true (p .trailer) (word-bound b _ bytes) fits (with-bit-uses (layoutOf b) b slot is-slot) (λ e. absurd-bool e))
@@ -84,7 +83,7 @@ module _ (b : List ℕ) (bytes : IsBytes b) (size : badSize b ≡ false) (valid 
         let v : ℕ = withoutBit (layoutOf b) b slot in
         let fits = without-bit-fits (layoutOf b) b slot is-slot on (trailer-parts (layoutOf b) b (p .trailer) .bits) in
         after-same b _ _ _ (replacedAt (inUse (layoutOf b) b) slot false) _ _ (λ key. refl)
-        (λ other other-on key. pick-used (layoutOf b) (memoryOf b) (eqb other slot) (inUse (layoutOf b) b other) 0 (slotWord (layoutOf b) b other) key other-on)
+        (λ other other-on key. cond-used (layoutOf b) (memoryOf b) (eqb other slot) (inUse (layoutOf b) b other) 0 (slotWord (layoutOf b) b other) key other-on)
         (after-trailer b p size s bytes _ (slot-block-bytes b s slot v 0 is-slot bytes (bits-byte (layoutOf b) v fits)) (rootWord (layoutOf b) b)
         (replacedAt (slotWord (layoutOf b) b) slot 0) (replacedAt (inUse (layoutOf b) b) slot false)
         (slot-written b s slot v 0 is-slot false (p .trailer) (omega arith) fits (without-bit-uses (layoutOf b) b slot is-slot on) (λ e. refl))
@@ -159,27 +158,27 @@ module _ (b : List ℕ) (slot : ℕ) where
 
   -- their answers on a sound block
   module _ (size : badSize b ≡ false) (valid : sound b ≡ true) where
-    pub snapshot-answer : snapshot b slot .answer ≡ pick (validSlot (layoutOf b) slot) 0 5
+    pub snapshot-answer : snapshot b slot .answer ≡ cond (validSlot (layoutOf b) slot) 0 5
     unfolding snapshot firstRefusal
     snapshot-answer = rw (size, valid) (go (validSlot (layoutOf b) slot))
       where
-        go : (t : Bool) → pick {A = ℕ} (not t) 5 0 ≡ pick t 0 5
+        go : (t : Bool) → cond {A = ℕ} (not t) 5 0 ≡ cond t 0 5
         go true = refl
         go false = refl
 
-    used-answer : firstRefusal (usedSlotRefusals b slot) ≡ pick (validSlot (layoutOf b) slot) (pick (inUse (layoutOf b) b slot) 0 6) 5
+    used-answer : firstRefusal (usedSlotRefusals b slot) ≡ cond (validSlot (layoutOf b) slot) (cond (inUse (layoutOf b) b slot) 0 6) 5
     unfolding firstRefusal
     used-answer = rw (size, valid) (go (validSlot (layoutOf b) slot) (inUse (layoutOf b) b slot))
       where
-        go : (t u : Bool) → pick {A = ℕ} (not t) 5 (pick (not u) 6 0) ≡ pick t (pick u 0 6) 5
+        go : (t u : Bool) → cond {A = ℕ} (not t) 5 (cond (not u) 6 0) ≡ cond t (cond u 0 6) 5
         go true true = refl
         go true false = refl
         go false u = refl
 
-    pub restore-answer : restore b slot .answer ≡ pick (validSlot (layoutOf b) slot) (pick (inUse (layoutOf b) b slot) 0 6) 5
+    pub restore-answer : restore b slot .answer ≡ cond (validSlot (layoutOf b) slot) (cond (inUse (layoutOf b) b slot) 0 6) 5
     unfolding restore
     restore-answer = used-answer
 
-    pub release-answer : release b slot .answer ≡ pick (validSlot (layoutOf b) slot) (pick (inUse (layoutOf b) b slot) 0 6) 5
+    pub release-answer : release b slot .answer ≡ cond (validSlot (layoutOf b) slot) (cond (inUse (layoutOf b) b slot) 0 6) 5
     unfolding release
     release-answer = used-answer

@@ -1,7 +1,7 @@
 -- The trailer after the root is set, and after a slot's word and bit are.
 use mathlib.Core.Path.{_≡_, refl, sym, ap, _∙_, subst}
 use mathlib.Core.Logic.{_≢_, _⊎_, inl, inr}
-use mathlib.Core.Bool.{Bool, true, false}
+use mathlib.Core.Bool.{Bool, true, false, cond}
 use mathlib.Core.List.{List, [], _∷_}
 use Prim.Native.Nat.{ℕ, _+_, _-_, _/_, _%_, _^_, _≤_, _<_}
 use native.Mathlib.Decide.{decLt, ℕ-discrete}
@@ -10,7 +10,6 @@ use lib.Dec.{eqb}
 use lib.ListN.{length, getD, set, length-set}
 use lib.Seq.{getD-set-same, getD-set-other}
 use borrow.Author.Tests.{eq-eqb, ne-eqb, eqb-true, eqb-false}
-use Rattle.cells.specs.Choice.{pick}
 use Rattle.cells.specs.Bytes.{IsBytes}
 use Rattle.cells.specs.Word.{wordAt, withWord}
 use Rattle.cells.specs.Memory.{memoryOf}
@@ -25,9 +24,9 @@ use Rattle.store.proofs.Bits.{bit-set, bit-other, bit-cleared, bit-clea
 
 -- values by slot, one of them replaced
 abbrev pub replacedAt : {A : Type 0} → (ℕ → A) → ℕ → A → ℕ → A
-replacedAt values slot new s = pick (eqb s slot) new (values s)
+replacedAt values slot new s = cond (eqb s slot) new (values s)
 
-idle-replaced : (t : Bool) {used old : Bool} {w word : ℕ} → pick t used old ≡ false → (used ≡ false → w ≡ 0) → (old ≡ false → word ≡ 0) → pick t w word ≡ 0
+idle-replaced : (t : Bool) {used old : Bool} {w word : ℕ} → cond t used old ≡ false → (used ≡ false → w ≡ 0) → (old ≡ false → word ≡ 0) → cond t w word ≡ 0
 idle-replaced true e new kept = new e
 idle-replaced false e new kept = kept e
 
@@ -134,8 +133,8 @@ module _ (b : List ℕ) (s : Sized b) (slot v w : ℕ) (is-slot : validSlot (lay
 
 -- the bits v with bit i set, and with it cleared
 module _ (v i : ℕ) where
-  set-uses : (t : Bool) → eqb (v / 2 ^ i % 2) 1 ≡ t → (j : ℕ) → (j ≡ i → eqb (pick t v (v + 2 ^ i) / 2 ^ j % 2) 1 ≡ true)
-      × (j ≢ i → eqb (pick t v (v + 2 ^ i) / 2 ^ j % 2) 1 ≡ eqb (v / 2 ^ j % 2) 1)
+  set-uses : (t : Bool) → eqb (v / 2 ^ i % 2) 1 ≡ t → (j : ℕ) → (j ≡ i → eqb (cond t v (v + 2 ^ i) / 2 ^ j % 2) 1 ≡ true)
+      × (j ≢ i → eqb (cond t v (v + 2 ^ i) / 2 ^ j % 2) 1 ≡ eqb (v / 2 ^ j % 2) 1)
   set-uses true on j = (λ e. ap (λ (k : ℕ). eqb (v / 2 ^ k % 2) 1) e ∙ on, λ n. refl)
   set-uses false off j = (
     λ e. ap (λ (k : ℕ). eqb ((v + 2 ^ i) / 2 ^ k % 2) 1) e ∙ eq-eqb ((v + 2 ^ i) / 2 ^ i % 2) 1 (bit-set v i (eqb-false (v / 2 ^ i % 2) 1 off)),
@@ -152,7 +151,7 @@ module _ (v i : ℕ) where
 
 -- a slot by its bit
 by-slot : {slot other : ℕ} {A : Type 0} {x new old : A} → 1 ≤ slot → 1 ≤ other
-    → (other - 1 ≡ slot - 1 → x ≡ new) × (other - 1 ≢ slot - 1 → x ≡ old) → x ≡ pick (eqb other slot) new old
+    → (other - 1 ≡ slot - 1 → x ≡ new) × (other - 1 ≢ slot - 1 → x ≡ old) → x ≡ cond (eqb other slot) new old
 by-slot {slot} {other} low low′ h = elim (ℕ-discrete other slot) [
   | yes e ↦ rw (eq-eqb other slot e) (h .0 (ap (λ (k : ℕ). k - 1) e))
   | no n ↦ rw (ne-eqb other slot n) (h .1 (omega arith))
@@ -165,7 +164,7 @@ module _ (layout : Layout) (b : List ℕ) (slot : ℕ) (is-slot : validSlot layo
   with-bit-fits small = go (inUse layout b slot) refl
     where
       go : (t : Bool) → eqb (getD b (bitsAt layout) 0 / slotBit slot % 2) 1 ≡ t
-          → pick t (getD b (bitsAt layout) 0) (getD b (bitsAt layout) 0 + slotBit slot) < 2 ^ slots layout
+          → cond t (getD b (bitsAt layout) 0) (getD b (bitsAt layout) 0 + slotBit slot) < 2 ^ slots layout
       go true on = small
       go false off =
           bit-bound (getD b (bitsAt layout) 0) (slot - 1) (slots layout) (omega (arith, slot-low layout slot is-slot, slot-high layout slot is-slot)) small

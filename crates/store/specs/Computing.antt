@@ -1,6 +1,5 @@
 -- What an equation that is computed unfolds: every definition that a call on a block goes through. To name a group on an
 -- `unfolding` line is to unfold all that it names; its own value says nothing.
-use Rattle.cells.specs.Choice.{bind}
 use Rattle.cells.specs.Bytes.{zeros}
 use Rattle.cells.specs.Word.{wordAt, withWord}
 use Rattle.cells.specs.Memory.{memoryOf}
@@ -33,6 +32,7 @@ use Rattle.store.specs.Free.{countUp, allocationOrder, free}
 use Rattle.store.specs.Format.{formatted, format}
 use Rattle.store.specs.Insert.{blockBuild, insertWrites, insert}
 use Rattle.store.specs.Snapshots.{withBit, withoutBit, snapshotBlock, restoreBlock, releaseBlock, snapshot, restore, release}
+use mathlib.Core.Option.{bind}
 
 -- bytes, words, cells and order words
 unfoldable pub bytesOpen : Unit {0}
@@ -41,7 +41,7 @@ bytesOpen = tt
 
 -- a node of each kind, and the tree of a root
 unfoldable pub treesOpen : Unit {0}
-unfolding trailerCells usable keyLimit byKind pointer leafWord chainChild someWord everyWord sparseDigits validSparse positionOf childFrom gather under splitCell endCells midCells headCells wordBelow splitChild validPrefix chainNode plain readAt read spread step tree isRoot rootTree onceVisited cellsOf lookup
+unfolding trailerCells usable byKind pointer leafWord chainChild someWord everyWord sparseDigits validSparse positionOf childFrom gather under splitCell endCells midCells headCells wordBelow splitChild validPrefix chainNode plain readAt read spread step tree isRoot rootTree onceVisited cellsOf lookup
 treesOpen = tt
 
 -- the build of an insertion

@@ -1,10 +1,9 @@
 -- Insertion as a call on a block.
-use mathlib.Core.Bool.{Bool}
+use mathlib.Core.Bool.{Bool, cond}
 use mathlib.Core.List.{List, [], _∷_, _++_}
 use Prim.Native.Nat.{ℕ}
 use lib.Dec.{ltb, eqb}
 use lib.ListN.{length}
-use Rattle.cells.specs.Choice.{pick}
 use Rattle.cells.specs.Memory.{memoryOf}
 use Rattle.cells.specs.Writes.{Write, written}
 use Rattle.insertion.specs.Built.{Built}
@@ -45,6 +44,6 @@ unfoldable pub insert : List ℕ → List ℕ → ℕ → Inserted
 insert block key value =
     let answer = firstRefusal (insertRefusals block key value) in
     let b = blockBuild block key value in
-    pick (eqb answer 0)
+    cond (eqb answer 0)
     (record { answer = 0; count = length (b .cells); block = written block (insertWrites block b) })
     (record { answer = answer; count = 0; block = block })

@@ -1,10 +1,9 @@
 -- Snapshots. 01: "Marking sets a slot to the present root (a held slot is overwritten). Going back sets the root to a held
 -- mark, which stays held. Dropping clears the slot."
-use mathlib.Core.Bool.{not}
+use mathlib.Core.Bool.{not, cond}
 use mathlib.Core.List.{List, [], _∷_, _++_}
 use Prim.Native.Nat.{ℕ, _+_, _-_}
 use lib.ListN.{getD, set}
-use Rattle.cells.specs.Choice.{pick}
 use Rattle.cells.specs.Word.{withWord}
 use Rattle.nodes.specs.Layout.{Layout}
 use Rattle.blocks.specs.Trailer.{layoutOf, trailerAt, rootWord, slotAt, slotWord, slotBit, bitsAt, inUse, validSlot}
@@ -15,12 +14,12 @@ use Rattle.blocks.specs.Read.{blockRefusals}
 unfoldable pub withBit : Layout → List ℕ → ℕ → ℕ
 withBit layout block slot =
     let bits = getD block (bitsAt layout) 0 in
-    pick (inUse layout block slot) bits (bits + slotBit slot)
+    cond (inUse layout block slot) bits (bits + slotBit slot)
 
 unfoldable pub withoutBit : Layout → List ℕ → ℕ → ℕ
 withoutBit layout block slot =
     let bits = getD block (bitsAt layout) 0 in
-    pick (inUse layout block slot) (bits - slotBit slot) bits
+    cond (inUse layout block slot) (bits - slotBit slot) bits
 
 -- 01, answer 5: "slot not 1, 2 or 3"
 abbrev pub slotRefusals : List ℕ → ℕ → List Refusal

@@ -20,7 +20,7 @@ use blocks::trailer_fields::root_word;
 use blocks::trailer_fields::trailer_at;
 use blocks::validate::is_sound;
 use cells::put_word;
-use insertion::build::build_from;
+use insertion::build::build;
 use insertion::stage::Made;
 use insertion::stage::STAGE_SIZE;
 use insertion::stage::copy_cell;
@@ -78,17 +78,7 @@ fn insert_valid(
     let mut numbers = [0u16; CELL_LIMIT];
     let free = free_cells(layout, root, stamps, &mut numbers);
     let mut stage = [0u8; STAGE_SIZE];
-    let made = build_from(
-        layout,
-        block,
-        &numbers,
-        free,
-        &mut stage,
-        key,
-        0,
-        root,
-        value,
-    );
+    let made = build(layout, block, &numbers, free, &mut stage, key, root, value);
     let count = made.count;
     if free < count {
         return InsertAnswer::Refused(Refusal::NoRoom);

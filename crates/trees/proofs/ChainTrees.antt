@@ -3,15 +3,14 @@ use mathlib.Core.Path.{_≡_, refl, sym, ap, _∙_}
 use mathlib.Core.Logic.{_≢_}
 use mathlib.Core.Bool.{true}
 use mathlib.Core.List.{[], _∷_, _++_}
-use mathlib.Core.Option.{none, some}
+use mathlib.Core.Option.{none, some, bind}
 use Prim.Native.Nat.{ℕ, zero, suc, _+_, _-_, _≤_, _<_}
 use native.Mathlib.Decide.{ℕ-discrete}
 use native.Mathlib.Omega.{arith}
 use borrow.Author.Tests.{eq-eqb}
-use Rattle.cells.specs.Choice.{bind}
 use Rattle.cells.specs.Bytes.{IsBytes}
 use Rattle.cells.specs.Memory.{Memory}
-use Rattle.nodes.specs.Layout.{Layout, usable}
+use Rattle.nodes.specs.Layout.{Layout, usable, cellLimit}
 use Rattle.nodes.specs.Pointer.{pointer, wordTo}
 use Rattle.nodes.specs.Pointer.Pointer.{chain}
 use Rattle.nodes.specs.Chain.{chainCharacter, chainEnd, chainChild}
@@ -34,7 +33,7 @@ module _ (layout : Layout) (m : Memory) where
       (λ y low high other. child-none layout m d (oneChild x w y) (one-child-other x w y other))
       ∙ ap (childTree layout m d) (one-child-here x w)
 
-  module _ (small : layout .cells ≤ 2048) (c : ℕ) (used : usable layout c ≡ true) (bytes : IsBytes (m c)) where
+  module _ (small : layout .cells ≤ cellLimit) (c : ℕ) (used : usable layout c ≡ true) (bytes : IsBytes (m c)) where
     -- the node at one place
     place-read : (k : ℕ) → k < 28 → read layout m (wordTo c k) ≡ plain layout m (chain c k)
     place-read k inside = read-is layout m (wordTo c k) (chain c k) (made-chain layout c k small used inside) ∙ (unfold readAt in refl)
@@ -106,7 +105,7 @@ module _ (layout : Layout) (m : Memory) where
   own-run c k = refl
 
   -- the tree of a word that names a place of a chain: too deep, or the cell and what is behind the run
-  module _ (small : layout .cells ≤ 2048) (d w c k : ℕ) (named : pointer layout w ≡ chain c k) (bytes : IsBytes (m c)) where
+  module _ (small : layout .cells ≤ cellLimit) (d w c k : ℕ) (named : pointer layout w ≡ chain c k) (bytes : IsBytes (m c)) where
     run-from : plainTree layout m d w ≡ tree layout m d (wordTo c k)
     run-from = plain-is layout m d w (chain c k) named (unfold isPlain in refl) ∙ ap (tree layout m d) (names layout w (chain c k) named .1)
 

@@ -1,12 +1,11 @@
 -- The tree of a word by what the word names: NONE, a leaf, a plain node, a prefix, or nothing that is valid.
 use mathlib.Core.Path.{_≡_, refl, sym, ap, _∙_}
 use mathlib.Core.Logic.{_≢_}
-use mathlib.Core.Bool.{true, false}
+use mathlib.Core.Bool.{true, false, cond}
 use mathlib.Core.List.{List, [], _∷_, _++_}
-use mathlib.Core.Option.{Option, none, some}
+use mathlib.Core.Option.{Option, none, some, bind}
 use Prim.Native.Nat.{ℕ, zero, suc, _+_, _-_}
 use native.Mathlib.Omega.{arith}
-use Rattle.cells.specs.Choice.{pick, bind}
 use Rattle.cells.specs.Memory.{Memory}
 use Rattle.cells.proofs.Choice.{absurd-bool}
 use Rattle.nodes.specs.Layout.{Layout, keyLimit}
@@ -83,11 +82,11 @@ module _ (layout : Layout) (m : Memory) where
   module _ (d w : ℕ) (p : Pointer) (named : pointer layout w ≡ p) where
     pub plain-is : isPlain p ≡ true → plainTree layout m d w ≡ tree layout m d w
     unfolding plainTree
-    plain-is t = ap (λ q. pick (isPlain q) (tree layout m d w) none) named ∙ ap (λ b. pick b (tree layout m d w) none) t
+    plain-is t = ap (λ q. cond (isPlain q) (tree layout m d w) none) named ∙ ap (λ b. cond b (tree layout m d w) none) t
 
     pub plain-not : isPlain p ≡ false → plainTree layout m d w ≡ none
     unfolding plainTree
-    plain-not t = ap (λ q. pick (isPlain q) (tree layout m d w) none) named ∙ ap (λ b. pick b (tree layout m d w) none) t
+    plain-not t = ap (λ q. cond (isPlain q) (tree layout m d w) none) named ∙ ap (λ b. cond b (tree layout m d w) none) t
 
   -- what is no plain node visits nothing
   pub own-other : (p : Pointer) → isPlain p ≡ false → ownCells layout m p ≡ none
@@ -141,7 +140,7 @@ module _ (layout : Layout) (m : Memory) where
     prefix-broken broken =
         tree-unread d w
         (read-is layout m w (prefix c) named
-        ∙ ap (λ b. pick b (bind (plain layout m (pointer layout (prefixLink (m c)))) (λ linked. some (prefixed (prefixValue (m c)) c linked))) none) broken)
+        ∙ ap (λ b. cond b (bind (plain layout m (pointer layout (prefixLink (m c)))) (λ linked. some (prefixed (prefixValue (m c)) c linked))) none) broken)
 
     pub prefix-tree : validPrefix (m c) ≡ true → tree layout m d w ≡ joined (some (c ∷ [])) (plainTree layout m d (prefixLink (m c)))
     prefix-tree valid =
@@ -162,7 +161,7 @@ module _ (layout : Layout) (m : Memory) where
         stepped =
             unfold step readAt in
             ap (λ o. bind o (spread (kids layout m d)))
-            (read-is layout m w (prefix c) named ∙ ap (λ b. pick b (bind linked (λ X. some (prefixed (prefixValue (m c)) c X))) none) valid)
+            (read-is layout m w (prefix c) named ∙ ap (λ b. cond b (bind linked (λ X. some (prefixed (prefixValue (m c)) c X))) none) valid)
 
         apart : (X : Node) → joined (some (c ∷ X .cells)) (below X) ≡ joined (some (c ∷ [])) (joined (some (X .cells)) (below X))
         apart X =
@@ -183,11 +182,11 @@ module _ (layout : Layout) (m : Memory) where
       at-zero : rootTree layout m 0 ≡ some []
       at-zero =
           unfold rootTree isRoot in
-          ap (λ p. pick (isRoot p) (tree layout m keyLimit 0) none) (pointer-zero layout) ∙ tree-zero layout m keyLimit
+          ap (λ p. cond (isRoot p) (tree layout m keyLimit 0) none) (pointer-zero layout) ∙ tree-zero layout m keyLimit
 
   pub root-plain : (w : ℕ) → w ≢ 0 → rootTree layout m w ≡ plainTree layout m keyLimit w
   unfolding rootTree plainTree
-  root-plain w other = ap (λ b. pick b (tree layout m keyLimit w) none) (same (pointer layout w) refl)
+  root-plain w other = ap (λ b. cond b (tree layout m keyLimit w) none) (same (pointer layout w) refl)
     where
       same : (p : Pointer) → pointer layout w ≡ p → isRoot p ≡ isPlain p
       same nothing named = absurd (other (names layout w nothing named))

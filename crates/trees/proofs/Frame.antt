@@ -11,7 +11,7 @@ use Rattle.cells.specs.Memory.{Memory}
 use Rattle.cells.specs.Occurrences.{occurrences}
 use Rattle.cells.proofs.Choice.{never}
 use Rattle.cells.proofs.Occurrences.{occurrences-none, occurrences-one, occurrences-same, occurrences-cons-other, occurrences-here, Agree, agree-less}
-use Rattle.nodes.specs.Layout.{Layout}
+use Rattle.nodes.specs.Layout.{Layout, cellLimit}
 use Rattle.nodes.specs.Pointer.{Pointer, pointer, wordTo}
 use Rattle.nodes.specs.Pointer.Pointer.{nothing, leaf, chain, split, sparse, prefix, invalid}
 use Rattle.nodes.specs.Chain.{chainCharacter}
@@ -49,7 +49,7 @@ module _ (layout : Layout) (m : Memory) where
         ap (λ (Z : Node). Z .cells ++ q .1) (r .3) ∙ q .4,
       )
 
-module _ (layout : Layout) (small : layout .cells ≤ 2048) (m : Memory) (bytes : (c : ℕ) → IsBytes (m c)) where
+module _ (layout : Layout) (small : layout .cells ≤ cellLimit) (m : Memory) (bytes : (c : ℕ) → IsBytes (m c)) where
   -- the next place of a chain is below the place
   chain-below : (d w c k : ℕ) (cs : List ℕ) → k < 27 → pointer layout w ≡ chain c k → tree layout m d w ≡ some cs
       → (e : ℕ) × (a : List ℕ) × (tree layout m e (wordTo c (k + 1)) ≡ some a) × ((x : ℕ) → occurrences x a ≤ occurrences x cs)

@@ -1,9 +1,8 @@
 -- Laws of steps that may have no result, and of two lists found one after the other.
 use mathlib.Core.Path.{_≡_, refl, ap}
 use mathlib.Core.List.{List, [], _∷_, _++_, append-assoc, append-nil}
-use mathlib.Core.Option.{Option, none, some}
+use mathlib.Core.Option.{Option, none, some, bind}
 use Prim.Native.Nat.{ℕ}
-use Rattle.cells.specs.Choice.{bind}
 
 -- steps after steps
 pub bind-assoc : {A B C : Type 0} (o : Option A) (f : A → Option B) (g : B → Option C) → bind (bind o f) g ≡ bind o (λ a. bind (f a) g)

@@ -3,13 +3,12 @@
 use mathlib.Core.Path.{_≡_, refl, sym, ap, _∙_}
 use mathlib.Core.Logic.{_⊎_, inl, inr}
 use mathlib.Core.List.{List, [], _∷_, _++_}
-use mathlib.Core.Option.{Option, none, some}
+use mathlib.Core.Option.{Option, none, some, bind}
 use Prim.Native.Nat.{ℕ, zero, suc, _≤_, _<_}
 use native.Mathlib.Decide.{decLt}
 use native.Mathlib.Omega.{arith}
 use lib.Dec.{ltb}
 use lib.ListN.{length}
-use Rattle.cells.specs.Choice.{pick, bind}
 use Rattle.cells.specs.Memory.{Memory}
 use Rattle.nodes.specs.Layout.{Layout, keyLimit}
 use Rattle.nodes.specs.Pointer.{pointer}
@@ -22,6 +21,7 @@ use Rattle.trees.specs.Root.{isRoot, rootTree}
 use Rattle.trees.specs.Lookup.{lookup}
 use Rattle.trees.proofs.Tree.{lookup-other}
 use Rattle.trees.proofs.Shown.{long-absent}
+use mathlib.Core.Bool.{cond}
 
 -- a byte, by its cell and its offset there, has a meaning in the tree of a word: in its node, or below a character of it
 abbrev pub TreeMeans : Layout → Memory → ℕ → ℕ → ℕ → ℕ → Type 0
@@ -60,7 +60,7 @@ module _ (layout : Layout) (m m′ : Memory) where
 
   pub root-tree-alike : (w : ℕ) → AlikeAt m m′ (TreeMeans layout m keyLimit w) → rootTree layout m w ≡ rootTree layout m′ w
   unfolding rootTree
-  root-tree-alike w alike = ap (λ t. pick (isRoot (pointer layout w)) t none) (tree-alike keyLimit w alike)
+  root-tree-alike w alike = ap (λ t. cond (isRoot (pointer layout w)) t none) (tree-alike keyLimit w alike)
 
   -- a key no longer than the depth is shown alike
   pub lookup-alike : (key : List ℕ) (d w : ℕ) → length key ≤ d → AlikeAt m m′ (TreeMeans layout m d w) → lookup layout m w key ≡ lookup layout m′ w key
@@ -77,7 +77,7 @@ module _ (layout : Layout) (m m′ : Memory) where
         (λ X Y node like.
         lookup-alike key d (X .child x) (omega arith) (child-part d w x X node near alike)
         ∙ ap (λ v. lookup layout m′ v key) (like .child x near)) in
-        λ i. pick (ltb x 256) (found i) none
+        λ i. cond (ltb x 256) (found i) none
   ]
 
   -- and so is every key, where the tree is valid

@@ -7,7 +7,7 @@ use Prim.Native.Nat.{ℕ, _+_, _-_, _≤_, _<_}
 use native.Mathlib.Omega.{arith}
 use lib.ListN.{length, getD, drop, set}
 use Rattle.cells.specs.Memory.{Memory}
-use Rattle.nodes.specs.Layout.{Layout}
+use Rattle.nodes.specs.Layout.{Layout, keyLimit}
 use Rattle.nodes.specs.Node.{Node, read}
 use Rattle.nodes.specs.Least.{leastFrom}
 use Rattle.nodes.specs.LeastChild.{leastStep}
@@ -29,17 +29,17 @@ use Rattle.trees.proofs.NextSteps.{AmongLeast, least-held, told-least, 
 use Rattle.trees.proofs.NextTold.{told-same, noKey, keyOfSize, told-none, no-key-told, key-told, told-one, told-more}
 
 -- the least key below a node's children, which is written from a position on
-module _ (layout : Layout) (m : Memory) (at w from : ℕ) (room : at ≤ 48) (g : Grown layout m (48 - at) w)
+module _ (layout : Layout) (m : Memory) (at w from : ℕ) (room : at ≤ keyLimit) (g : Grown layout m (keyLimit - at) w)
     (s : Least) (coded : leastOf s ≡ leastStep layout m w from) where
   told-word : (X : Node) × (read layout m w ≡ some X)
-  told-word = grown-read layout m (48 - at) w g
+  told-word = grown-read layout m (keyLimit - at) w g
 
   -- there is no child
-  pub first-missing : AmongLeast (1 ∷ 2 ∷ []) s → (characters : List ℕ) → Told characters at noKey (keyBelow layout m (47 - at) w from)
+  pub first-missing : AmongLeast (1 ∷ 2 ∷ []) s → (characters : List ℕ) → Told characters at noKey (keyBelow layout m (keyLimit - (at + 1)) w from)
   first-missing rest characters =
       let node = told-word in
       told-none characters at _ room
-      (below-none layout m (47 - at) w from (node .0) (node .1)
+      (below-none layout m (keyLimit - (at + 1)) w from (node .0) (node .1)
       (told-no-least (node .0 .child) _ s rest (coded ∙ least-read layout m w (node .0) from (node .1))))
 
   module _ (x v : ℕ) (case : s ≡ Least.Found x v) where
@@ -49,113 +49,113 @@ module _ (layout : Layout) (m : Memory) (at w from : ℕ) (room : at ≤ 48) (g 
         told-least (node .0 .child) _ x v (ap leastOf (sym case) ∙ coded ∙ least-read layout m w (node .0) from (node .1))
 
     -- the child has a tree, and there is room for its character
-    pub first-grown : (at < 48) × Grown layout m (48 - (at + 1)) v
+    pub first-grown : (at < keyLimit) × Grown layout m (keyLimit - (at + 1)) v
     first-grown =
         let node = told-word in
         let held = least-held (node .0 .child) (256 - from) from x (told-child .0) in
-        let r = child-grown layout m (48 - at) w x (node .0) g (omega (arith, held .0, held .1)) (node .1) (held .2) in
-        let depth : r .0 ≡ 48 - (at + 1) = omega (arith, r .1) in (
+        let r = child-grown layout m (keyLimit - at) w x (node .0) g (omega (arith, held .0, held .1)) (node .1) (held .2) in
+        let depth : r .0 ≡ keyLimit - (at + 1) = omega (arith, r .1) in (
           omega (arith, r .1),
-          (r .2 .0, ap (tree layout m (48 - (at + 1))) (told-child .1) ∙ ap (λ n. tree layout m n (node .0 .child x)) (sym depth) ∙ r .2 .1),
+          (r .2 .0, ap (tree layout m (keyLimit - (at + 1))) (told-child .1) ∙ ap (λ n. tree layout m n (node .0 .child x)) (sym depth) ∙ r .2 .1),
         )
 
-    told-behind : keyBelow layout m (47 - at) w from ≡ behind x (firstKey layout m (47 - at) v)
+    told-behind : keyBelow layout m (keyLimit - (at + 1)) w from ≡ behind x (firstKey layout m (keyLimit - (at + 1)) v)
     told-behind =
         let node = told-word in
-        below-some layout m (47 - at) w from x (node .0) (node .1) (told-child .0)
-        ∙ ap (λ u. behind x (firstKey layout m (47 - at) u)) (sym (told-child .1))
+        below-some layout m (keyLimit - (at + 1)) w from x (node .0) (node .1) (told-child .0)
+        ∙ ap (λ u. behind x (firstKey layout m (keyLimit - (at + 1)) u)) (sym (told-child .1))
 
     -- the child has a value: its own key is its least
     pub first-one-written : (n : ℕ) → some n ≡ valueOf layout m v → (characters written : List ℕ)
-        → (length characters ≡ 48) × (written ≡ set characters at x)
-        → Told written at (keyOfSize 1) (keyBelow layout m (47 - at) w from)
+        → (length characters ≡ keyLimit) × (written ≡ set characters at x)
+        → Told written at (keyOfSize 1) (keyBelow layout m (keyLimit - (at + 1)) w from)
     unfolding behind
     first-one-written n value characters written put =
-        let node = grown-read layout m (48 - (at + 1)) v (first-grown .1) in
+        let node = grown-read layout m (keyLimit - (at + 1)) v (first-grown .1) in
         told-one characters written at x _ (first-grown .0) put
         (told-behind
         ∙ ap (behind x)
-        (first-own-key layout m (47 - at) v n (node .0) (node .1) (sym (value-read layout m v (node .0) (node .1)) ∙ sym value)))
+        (first-own-key layout m (keyLimit - (at + 1)) v n (node .0) (node .1) (sym (value-read layout m v (node .0) (node .1)) ∙ sym value)))
 
     -- the child has no value: its least key is below its own children
     module _ (value : none ≡ valueOf layout m v) (characters : List ℕ) (step : NextStep)
-        (told : Told characters (at + 1) step (keyBelow layout m (47 - (at + 1)) v 0)) where
-      told-deeper : keyBelow layout m (47 - at) w from ≡ behind x (keyBelow layout m (47 - (at + 1)) v 0)
+        (told : Told characters (at + 1) step (keyBelow layout m (keyLimit - (at + 1 + 1)) v 0)) where
+      told-deeper : keyBelow layout m (keyLimit - (at + 1)) w from ≡ behind x (keyBelow layout m (keyLimit - (at + 1 + 1)) v 0)
       told-deeper =
-          let node = grown-read layout m (48 - (at + 1)) v (first-grown .1) in
-          let depth : 48 - (at + 1) ≡ 47 - at = omega arith in
+          let node = grown-read layout m (keyLimit - (at + 1)) v (first-grown .1) in
+          let depth : keyLimit - (at + 1) ≡ keyLimit - (at + 1) = omega arith in
           told-behind
           ∙ ap (behind x)
           (ap (λ n. firstKey layout m n v) (sym depth)
-          ∙ first-below-key layout m (48 - (at + 1)) (47 - (at + 1)) v (first-grown .1) (node .0) (node .1)
+          ∙ first-below-key layout m (keyLimit - (at + 1)) (keyLimit - (at + 1 + 1)) v (first-grown .1) (node .0) (node .1)
           (sym (value-read layout m v (node .0) (node .1)) ∙ sym value) (omega arith))
 
-      pub first-deeper-none : step .found ≡ false → Told characters at noKey (keyBelow layout m (47 - at) w from)
+      pub first-deeper-none : step .found ≡ false → Told characters at noKey (keyBelow layout m (keyLimit - (at + 1)) w from)
       unfolding behind
       first-deeper-none e =
           told-none characters at _ room (told-deeper ∙ ap (behind x) (no-key-told characters (at + 1) step _ told e))
 
       pub first-deeper-written : step .found ≡ true → (n : ℕ) → n ≡ step .size + 1 → (written : List ℕ)
-          → (length characters ≡ 48) × (written ≡ set characters at x)
-          → Told written at (keyOfSize n) (keyBelow layout m (47 - at) w from)
+          → (length characters ≡ keyLimit) × (written ≡ set characters at x)
+          → Told written at (keyOfSize n) (keyBelow layout m (keyLimit - (at + 1)) w from)
       unfolding behind
       first-deeper-written e n size written put =
           told-more characters written at x n step _ (first-grown .0) put (told .fits)
           (told-deeper ∙ ap (behind x) (key-told characters (at + 1) step _ told e)) size
 
 -- the least key greater than the rest of a key from a position on
-module _ (layout : Layout) (m : Memory) (i w : ℕ) (key : List ℕ) (g : Grown layout m (48 - i) w) where
+module _ (layout : Layout) (m : Memory) (i w : ℕ) (key : List ℕ) (g : Grown layout m (keyLimit - i) w) where
   -- the key is at its end
-  pub next-ended : length key ≤ i → (characters : List ℕ) (step : NextStep) → Told characters i step (keyBelow layout m (47 - i) w 0)
-      → Told characters i step (nextFrom layout m (48 - i) w (drop i key))
+  pub next-ended : length key ≤ i → (characters : List ℕ) (step : NextStep) → Told characters i step (keyBelow layout m (keyLimit - (i + 1)) w 0)
+      → Told characters i step (nextFrom layout m (keyLimit - i) w (drop i key))
   next-ended past characters step told =
       told-same characters i step _ _ told
-      (ap (nextFrom layout m (48 - i) w) (rest-none key i past) ∙ next-at-end layout m (48 - i) (47 - i) w g (omega arith))
+      (ap (nextFrom layout m (keyLimit - i) w) (rest-none key i past) ∙ next-at-end layout m (keyLimit - i) (keyLimit - (i + 1)) w g (omega arith))
 
   module _ (inside : i < length key) (near : getD key i 0 < 256) (s : ChildStep) (coded : stepOf s ≡ childStep layout m w (getD key i 0)) where
-    at-character : nextFrom layout m (48 - i) w (drop i key) ≡ nextFrom layout m (48 - i) w (getD key i 0 ∷ drop (i + 1) key)
-    at-character = ap (nextFrom layout m (48 - i) w) (rest-more key i inside)
+    at-character : nextFrom layout m (keyLimit - i) w (drop i key) ≡ nextFrom layout m (keyLimit - i) w (getD key i 0 ∷ drop (i + 1) key)
+    at-character = ap (nextFrom layout m (keyLimit - i) w) (rest-more key i inside)
 
     -- below a later character
     abbrev Later : List ℕ → NextStep → Type 0
-    Later characters step = Told characters i step (keyBelow layout m (47 - i) w (getD key i 0 + 1))
+    Later characters step = Told characters i step (keyBelow layout m (keyLimit - (i + 1)) w (getD key i 0 + 1))
 
-    as-later : nextFrom layout m (48 - i) w (getD key i 0 ∷ drop (i + 1) key) ≡ keyBelow layout m (48 - (i + 1)) w (getD key i 0 + 1)
-        → (characters : List ℕ) (step : NextStep) → Later characters step → Told characters i step (nextFrom layout m (48 - i) w (drop i key))
+    as-later : nextFrom layout m (keyLimit - i) w (getD key i 0 ∷ drop (i + 1) key) ≡ keyBelow layout m (keyLimit - (i + 1)) w (getD key i 0 + 1)
+        → (characters : List ℕ) (step : NextStep) → Later characters step → Told characters i step (nextFrom layout m (keyLimit - i) w (drop i key))
     as-later is characters step told =
-        let depth : 48 - (i + 1) ≡ 47 - i = omega arith in
+        let depth : keyLimit - (i + 1) ≡ keyLimit - (i + 1) = omega arith in
         told-same characters i step _ _ told (at-character ∙ is ∙ ap (λ n. keyBelow layout m n w (getD key i 0 + 1)) depth)
 
     -- there is no child
     pub next-missing : AmongSteps (1 ∷ 2 ∷ []) s → (characters : List ℕ) (step : NextStep) → Later characters step
-        → Told characters i step (nextFrom layout m (48 - i) w (drop i key))
+        → Told characters i step (nextFrom layout m (keyLimit - i) w (drop i key))
     next-missing others =
-        as-later (next-stops layout m (48 - i) (48 - (i + 1)) w (getD key i 0) (drop (i + 1) key) near g (omega arith) s coded others)
+        as-later (next-stops layout m (keyLimit - i) (keyLimit - (i + 1)) w (getD key i 0) (drop (i + 1) key) near g (omega arith) s coded others)
 
     module _ (v : ℕ) (case : s ≡ ChildStep.Found v) where
       -- the child has a tree, and there is room for its character
-      pub next-room : (i < 48) × Grown layout m (48 - (i + 1)) v
+      pub next-room : (i < keyLimit) × Grown layout m (keyLimit - (i + 1)) v
       next-room =
-          let r = next-grown layout m (48 - i) (48 - (i + 1)) w (getD key i 0) (drop (i + 1) key) near g (omega arith) s coded v case in
+          let r = next-grown layout m (keyLimit - i) (keyLimit - (i + 1)) w (getD key i 0) (drop (i + 1) key) near g (omega arith) s coded v case in
           (omega (arith, r .0), r .1)
 
       module _ (characters : List ℕ) (step : NextStep)
-          (told : Told characters (i + 1) step (nextFrom layout m (48 - (i + 1)) v (drop (i + 1) key))) where
+          (told : Told characters (i + 1) step (nextFrom layout m (keyLimit - (i + 1)) v (drop (i + 1) key))) where
         -- no key below the child is greater
         pub next-later : step .found ≡ false → (others : List ℕ) (last : NextStep) → Later others last
-            → Told others i last (nextFrom layout m (48 - i) w (drop i key))
+            → Told others i last (nextFrom layout m (keyLimit - i) w (drop i key))
         next-later e =
             as-later
-            (next-outside layout m (48 - i) (48 - (i + 1)) w (getD key i 0) (drop (i + 1) key) near g (omega arith) s coded v case
+            (next-outside layout m (keyLimit - i) (keyLimit - (i + 1)) w (getD key i 0) (drop (i + 1) key) near g (omega arith) s coded v case
             (no-key-told characters (i + 1) step _ told e))
 
         -- one is
         pub next-written : step .found ≡ true → (n : ℕ) → n ≡ step .size + 1 → (written : List ℕ)
-            → (length characters ≡ 48) × (written ≡ set characters i (getD key i 0))
-            → Told written i (keyOfSize n) (nextFrom layout m (48 - i) w (drop i key))
+            → (length characters ≡ keyLimit) × (written ≡ set characters i (getD key i 0))
+            → Told written i (keyOfSize n) (nextFrom layout m (keyLimit - i) w (drop i key))
         next-written e n size written put =
             told-more characters written i (getD key i 0) n step _ (next-room .0) put (told .fits)
             (at-character
-            ∙ next-inside layout m (48 - i) (48 - (i + 1)) w (getD key i 0) (drop (i + 1) key) near g (omega arith) s coded v case _
+            ∙ next-inside layout m (keyLimit - i) (keyLimit - (i + 1)) w (getD key i 0) (drop (i + 1) key) near g (omega arith) s coded v case _
             (key-told characters (i + 1) step _ told e))
             size

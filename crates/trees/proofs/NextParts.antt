@@ -2,12 +2,11 @@
 use mathlib.Core.Path.{_≡_, refl, sym, ap, _∙_}
 use mathlib.Core.Logic.{_≢_, ⊎-elim}
 use mathlib.Core.List.{List, [], _∷_, _++_, map}
-use mathlib.Core.Option.{Option, none, some, orElse}
+use mathlib.Core.Option.{Option, none, some, orElse, bind}
 use Prim.Native.Nat.{ℕ, zero, suc, _+_, _≤_, _<_}
 use native.Mathlib.Decide.{ℕ-discrete}
 use native.Mathlib.Omega.{arith}
 use borrow.Author.Tests.{eq-eqb, ne-eqb}
-use Rattle.cells.specs.Choice.{bind}
 use Rattle.cells.proofs.Choice.{never, keep}
 use Rattle.nodes.specs.Least.{leastFrom}
 use Rattle.trees.specs.Entries.{Entry, below, ownEntry, childEntries, first, keyBefore, nextEntry}

@@ -2,13 +2,12 @@
 use mathlib.Core.Path.{_≡_, refl, sym, ap, _∙_}
 use mathlib.Core.Logic.{_≢_}
 use mathlib.Core.List.{List, [], _∷_}
-use mathlib.Core.Option.{Option, none, some, orElse}
+use mathlib.Core.Option.{Option, none, some, orElse, bind}
 use Prim.Native.Nat.{ℕ, zero, suc, _+_, _-_, _≤_, _<_}
 use native.Mathlib.Decide.{ℕ-discrete}
 use native.Mathlib.Omega.{arith}
 use types.Run.{OneOf, miss}
 use denote.Enum.Declared.{tagOf}
-use Rattle.cells.specs.Choice.{bind}
 use Rattle.cells.specs.Memory.{Memory}
 use Rattle.cells.proofs.Choice.{never}
 use Rattle.nodes.specs.Layout.{Layout}
@@ -18,10 +17,8 @@ use Rattle.nodes.specs.LeastChild.{least, withChild}
 use Rattle.nodes.specs.Step.{childStep}
 use Rattle.nodes.specs.Coded.{stepOf, leastOf}
 use Rattle.nodes.specs.declared.step.ChildStep.{ChildStep}
-use Rattle.nodes.specs.declared.step.ChildStep.the-variants.{Found as FoundChild}
 use Rattle.nodes.specs.declared.least.Least.{Least}
 use Rattle.nodes.specs.declared.least.Least.the-variants.{Found, Missing, Broken}
-use Rattle.nodes.proofs.least.Least.{the-type as least-type}
 use Rattle.nodes.proofs.Frame.{read-zero}
 use Rattle.nodes.proofs.Rest.{AmongSteps}
 use Rattle.trees.specs.Tree.{tree}

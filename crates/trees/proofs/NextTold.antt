@@ -8,6 +8,7 @@ use native.Mathlib.Numerals.{add-one}
 use native.Mathlib.Omega.{arith}
 use lib.ListN.{length, take, drop, set, length-set}
 use lib.Seq.{drop-cons, drop-set-lt, getD-set-same}
+use Rattle.nodes.specs.Layout.{keyLimit}
 use Rattle.trees.specs.Coded.{toldKey, Told}
 use Rattle.trees.specs.declared.next_key.NextStep.{NextStep}
 
@@ -33,7 +34,7 @@ pub told-same : (characters : List ℕ) (at : ℕ) (step : NextStep) (key other 
 told-same characters at step key other told e = record { tells = told .tells ∙ sym e; fits = told .fits }
 
 -- an answer without a key
-pub told-none : (characters : List ℕ) (at : ℕ) (key : Option (List ℕ)) → at ≤ 48 → key ≡ none → Told characters at noKey key
+pub told-none : (characters : List ℕ) (at : ℕ) (key : Option (List ℕ)) → at ≤ keyLimit → key ≡ none → Told characters at noKey key
 unfolding toldKey
 told-none characters at key room e = record { tells = sym e; fits = omega arith }
 
@@ -50,7 +51,7 @@ key-told characters at step key told e = sym (told .tells) ∙ rw e
 
 -- a key of one character, and a character before a key
 module _ (characters written : List ℕ) (at x : ℕ) where
-  pub told-one : (key : Option (List ℕ)) → at < 48 → (length characters ≡ 48) × (written ≡ set characters at x) → key ≡ some (x ∷ [])
+  pub told-one : (key : Option (List ℕ)) → at < keyLimit → (length characters ≡ keyLimit) × (written ≡ set characters at x) → key ≡ some (x ∷ [])
       → Told written at (keyOfSize 1) key
   unfolding toldKey
   told-one key room put e = record {
@@ -58,8 +59,8 @@ module _ (characters written : List ℕ) (at x : ℕ) where
     fits = omega arith;
   }
 
-  pub told-more : (n : ℕ) (step : NextStep) (key : Option (List ℕ)) → at < 48 → (length characters ≡ 48) × (written ≡ set characters at x)
-      → at + 1 + step .size ≤ 48 → key ≡ some (x ∷ take (step .size) (drop (at + 1) characters)) → n ≡ step .size + 1
+  pub told-more : (n : ℕ) (step : NextStep) (key : Option (List ℕ)) → at < keyLimit → (length characters ≡ keyLimit) × (written ≡ set characters at x)
+      → at + 1 + step .size ≤ keyLimit → key ≡ some (x ∷ take (step .size) (drop (at + 1) characters)) → n ≡ step .size + 1
       → Told written at (keyOfSize n) key
   unfolding toldKey
   told-more n step key room put fits e size =

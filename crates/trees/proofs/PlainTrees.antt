@@ -7,7 +7,7 @@ use native.Mathlib.Decide.{decLt}
 use native.Mathlib.Omega.{arith}
 use Rattle.cells.specs.Bytes.{IsBytes}
 use Rattle.cells.specs.Memory.{Memory}
-use Rattle.nodes.specs.Layout.{Layout}
+use Rattle.nodes.specs.Layout.{Layout, cellLimit}
 use Rattle.nodes.specs.Pointer.{Pointer, pointer}
 use Rattle.nodes.specs.Pointer.Pointer.{nothing, leaf, chain, split, sparse, prefix, invalid}
 use Rattle.trees.specs.Parts.{isPlain, plainTree, ownCells}
@@ -17,7 +17,7 @@ use Rattle.trees.proofs.ChainTrees.{chain-deep, chain-tree}
 use Rattle.trees.proofs.SparseTrees.{sparse-tree}
 use Rattle.trees.proofs.SplitTrees.{split-tree}
 
-module _ (layout : Layout) (m : Memory) (small : layout .cells ≤ 2048) (bytes : (c : ℕ) → IsBytes (m c)) (d w : ℕ) where
+module _ (layout : Layout) (m : Memory) (small : layout .cells ≤ cellLimit) (bytes : (c : ℕ) → IsBytes (m c)) (d w : ℕ) where
   -- no tree: nothing behind the node's own cells either
   no-tree : plainTree layout m d w ≡ none → (rest : Option (List ℕ)) × (plainTree layout m d w ≡ joined (ownCells layout m (pointer layout w)) rest)
   no-tree e = (none, e ∙ sym (joined-none (ownCells layout m (pointer layout w))))

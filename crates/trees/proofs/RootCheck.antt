@@ -21,7 +21,6 @@ use Rattle.trees.proofs.Judging.{visit-nothing, visit-found}
 
 -- the limit that the code has
 pub key-limit : keyLimit ≡ 48
-unfolding keyLimit
 key-limit = refl
 
 -- every cell that a root visits is usable

@@ -10,7 +10,6 @@ use Rattle.nodes.specs.Layout.{Layout}
 use Rattle.nodes.specs.Pointer.{pointer}
 use Rattle.nodes.specs.Pointer.Pointer.{nothing, chain, split, sparse, invalid}
 use Rattle.nodes.specs.Coded.{pointerOf}
-use Rattle.nodes.specs.declared.pointer.Pointer.{Pointer as CodedPointer}
 use Rattle.nodes.specs.declared.pointer.Pointer.the-variants.{Nothing, Leaf, Chain, Split, Sparse, Prefix, Invalid}
 use Rattle.nodes.proofs.Pointers.{names}
 use Rattle.nodes.proofs.Rest.{Among}

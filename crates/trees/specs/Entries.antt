@@ -1,10 +1,9 @@
 -- The pairs of a tree in order, and the next key.
-use mathlib.Core.Bool.{Bool, true, false}
+use mathlib.Core.Bool.{Bool, true, false, cond}
 use mathlib.Core.List.{List, [], _∷_, _++_, map}
 use mathlib.Core.Option.{Option, none, some}
 use Prim.Native.Nat.{ℕ, zero, suc, _+_}
 use lib.Dec.{ltb, eqb}
-use Rattle.cells.specs.Choice.{pick}
 use Rattle.cells.specs.Memory.{Memory}
 use Rattle.cells.specs.Occurrences.{select}
 use Rattle.nodes.specs.Layout.{Layout}
@@ -30,7 +29,7 @@ childEntries entriesAt (suc count) from = map (below from) (entriesAt from) ++ c
 
 -- NONE has no pairs
 unfoldable pub entriesUnder : (ℕ → List Entry) → ℕ → List Entry
-entriesUnder found word = pick (eqb word 0) [] (found word)
+entriesUnder found word = cond (eqb word 0) [] (found word)
 
 -- a node's own pair, then those of its children by rising character; 01: "a label before its extensions"
 unfoldable pub nodeEntries : (ℕ → List Entry) → Option Node → List Entry
@@ -49,8 +48,8 @@ keyBefore [] (y ∷ k) = true
 keyBefore (x ∷ j) [] = false
 keyBefore (x ∷ j) (y ∷ k) =
     let rest = keyBefore j k in
-    let same = pick (eqb x y) rest false in
-    pick (ltb x y) true same
+    let same = cond (eqb x y) rest false in
+    cond (ltb x y) true same
 
 -- the pairs whose key is greater than a given one
 abbrev pub entriesAfter : List ℕ → List Entry → List Entry

@@ -1,10 +1,9 @@
 -- Tables, and the table that a word shows.
-use mathlib.Core.Bool.{Bool, true, false}
+use mathlib.Core.Bool.{Bool, true, false, cond}
 use mathlib.Core.List.{List, [], _∷_}
-use mathlib.Core.Option.{Option, none, some}
+use mathlib.Core.Option.{Option, none, some, bind}
 use Prim.Native.Nat.{ℕ}
 use lib.Dec.{ltb, eqb}
-use Rattle.cells.specs.Choice.{pick, bind}
 use Rattle.cells.specs.Memory.{Memory}
 use Rattle.nodes.specs.Layout.{Layout}
 use Rattle.nodes.specs.Node.{read}
@@ -22,15 +21,15 @@ unfoldable pub lookup : Layout → Memory → ℕ → Table
 lookup layout m word [] = bind (read layout m word) (λ node. node .value)
 lookup layout m word (x ∷ key) =
     let found = bind (read layout m word) (λ node. lookup layout m (node .child x) key) in
-    pick (ltb x 256) found none
+    cond (ltb x 256) found none
 
 -- equal keys
 unfoldable pub sameKey : List ℕ → List ℕ → Bool
 sameKey [] [] = true
 sameKey [] (y ∷ k) = false
 sameKey (x ∷ j) [] = false
-sameKey (x ∷ j) (y ∷ k) = let rest = sameKey j k in pick (eqb x y) rest false
+sameKey (x ∷ j) (y ∷ k) = let rest = sameKey j k in cond (eqb x y) rest false
 
 -- 01: "the label has this value, in place of any older one"
 unfoldable pub update : Table → List ℕ → ℕ → Table
-update table key value k = pick (sameKey key k) (some value) (table k)
+update table key value k = cond (sameKey key k) (some value) (table k)

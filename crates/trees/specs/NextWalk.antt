@@ -1,8 +1,7 @@
 -- The least key of a tree and the next key, each found by a walk down the tree.
 use mathlib.Core.List.{List, [], _∷_}
-use mathlib.Core.Option.{Option, none, some, orElse}
+use mathlib.Core.Option.{Option, none, some, orElse, bind}
 use Prim.Native.Nat.{ℕ, zero, suc, _+_, _-_}
-use Rattle.cells.specs.Choice.{bind}
 use Rattle.cells.specs.Memory.{Memory}
 use Rattle.nodes.specs.Layout.{Layout}
 use Rattle.nodes.specs.Node.{Node, read}

@@ -1,9 +1,8 @@
 -- The parts of a tree that are judged one by one: below a child word, a plain node, and below the words of a split.
-use mathlib.Core.Bool.{Bool, true, false}
+use mathlib.Core.Bool.{Bool, true, false, cond}
 use mathlib.Core.List.{List}
-use mathlib.Core.Option.{Option, none, some}
+use mathlib.Core.Option.{Option, none, some, bind}
 use Prim.Native.Nat.{ℕ, zero, suc, _+_, _*_}
-use Rattle.cells.specs.Choice.{pick, bind}
 use Rattle.cells.specs.Word.{wordAt}
 use Rattle.cells.specs.Memory.{Memory, memoryOf}
 use Rattle.nodes.specs.Layout.{Layout}
@@ -30,7 +29,7 @@ isPlain invalid = false
 
 -- the cells of the tree of a chain, sparse or split; nothing for any other word
 unfoldable pub plainTree : Layout → Memory → ℕ → ℕ → Option (List ℕ)
-plainTree layout m depth word = pick (isPlain (pointer layout word)) (tree layout m depth word) none
+plainTree layout m depth word = cond (isPlain (pointer layout word)) (tree layout m depth word) none
 
 -- what is found below a word of a split, so many tables down
 unfoldable pub tables : Layout → Memory → (ℕ → Option (List ℕ)) → ℕ → ℕ → Option (List ℕ)

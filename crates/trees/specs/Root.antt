@@ -1,9 +1,8 @@
 -- A root: the root word of a block, or the word of a snapshot.
-use mathlib.Core.Bool.{Bool, true, false}
+use mathlib.Core.Bool.{Bool, true, false, cond}
 use mathlib.Core.List.{List, []}
 use mathlib.Core.Option.{Option, none, some}
 use Prim.Native.Nat.{ℕ}
-use Rattle.cells.specs.Choice.{pick}
 use Rattle.cells.specs.Memory.{Memory}
 use Rattle.cells.specs.Occurrences.{distinct}
 use Rattle.nodes.specs.Layout.{Layout, keyLimit}
@@ -23,7 +22,7 @@ isRoot invalid = false
 
 -- the cells that a root visits, nothing where a rule is broken
 unfoldable pub rootTree : Layout → Memory → ℕ → Option (List ℕ)
-rootTree layout m word = pick (isRoot (pointer layout word)) (tree layout m keyLimit word) none
+rootTree layout m word = cond (isRoot (pointer layout word)) (tree layout m keyLimit word) none
 
 -- 01: "In the tree of one root no cell is entered twice".
 unfoldable pub onceVisited : Option (List ℕ) → Bool

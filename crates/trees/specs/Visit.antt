@@ -1,19 +1,18 @@
 -- Cells visited one after the other over an array of stamps: a cell that is visited gets the stamp.
 use mathlib.Core.Path.{_≡_}
-use mathlib.Core.Bool.{Bool, true, false}
+use mathlib.Core.Bool.{Bool, true, false, cond}
 use mathlib.Core.List.{List, [], _∷_}
-use mathlib.Core.Option.{Option, none, some}
+use mathlib.Core.Option.{Option, none, some, bind}
 use Prim.Native.Nat.{ℕ}
 use lib.Dec.{eqb}
 use lib.ListN.{getD, set}
-use Rattle.cells.specs.Choice.{pick, bind}
 
 -- 01: "In the tree of one root no cell is entered twice": each cell in turn gets the stamp, and nothing where one has it already
 unfoldable pub admit : ℕ → List ℕ → List ℕ → Option (List ℕ)
 admit stamp [] stamps = some stamps
 admit stamp (c ∷ cs) stamps =
     let later = admit stamp cs (set stamps c stamp) in
-    pick (eqb (getD stamps c 0) stamp) none later
+    cond (eqb (getD stamps c 0) stamp) none later
 
 -- the stamps after a visit of the cells found; nothing where nothing is found
 abbrev pub visit : ℕ → Option (List ℕ) → List ℕ → Option (List ℕ)

@@ -3,10 +3,10 @@ ghost use mathlib.Core.Path.{_≡_};
 ghost use Prim.Native.Nat.{_+_, _-_, _*_, _≤_, _<_};
 ghost use lib.ListN.{length, drop, set};
 ghost use Rattle.cells.specs.Memory.{memoryOf};
-ghost use Rattle.nodes.specs.Layout.{keyLimit};
+ghost use Rattle.nodes.specs.Layout.{keyLimit, cellLimit};
 ghost use Rattle.trees.specs.NextWalk.{nextFrom};
 ghost use Rattle.trees.specs.Coded.{Grown, keyBelow, Told};
-use crate::KEY_LIMIT;
+use nodes::layout::KEY_LIMIT;
 use nodes::layout::Layout;
 use nodes::least::Least;
 use nodes::least::least_child;
@@ -23,8 +23,8 @@ pub struct NextStep {
 
 // Writes a character to a position.
 fn put_character(out: &mut [u8; KEY_LIMIT], at: usize, character: u8)
-    requires { ⌜ at < 48 ⌝ }
-    ensures { λ _. ⌜ (length (now (out .entry)) ≡ 48) × (now (out .exit) ≡ set (now (out .entry)) at character) ⌝ }
+    requires { ⌜ at < keyLimit ⌝ }
+    ensures { λ _. ⌜ (length (now (out .entry)) ≡ keyLimit) × (now (out .exit) ≡ set (now (out .entry)) at character) ⌝ }
 {
     let characters = &mut out[..];
     characters[at] = character;
@@ -39,8 +39,8 @@ fn first_below(
     at: usize,
     out: &mut [u8; KEY_LIMIT],
 ) -> NextStep
-    requires { ⌜ (layout .cells * 32 ≤ length (now block)) × (layout .cells ≤ 2048) × (at ≤ 48) × Grown layout (memoryOf (now block)) (48 - at) word ⌝ }
-    ensures { λ r. ⌜ Told (now (out .exit)) at r (keyBelow layout (memoryOf (now (block .entry))) (47 - at) word from) ⌝ }
+    requires { ⌜ (layout .cells * 32 ≤ length (now block)) × (layout .cells ≤ cellLimit) × (at ≤ keyLimit) × Grown layout (memoryOf (now block)) (keyLimit - at) word ⌝ }
+    ensures { λ r. ⌜ Told (now (out .exit)) at r (keyBelow layout (memoryOf (now (block .entry))) (keyLimit - (at + 1)) word from) ⌝ }
 {
     let Least::Found(character, child) = least_child(layout, block, word, from) else {
         return NextStep {
@@ -78,8 +78,8 @@ fn next_from(
     i: usize,
     out: &mut [u8; KEY_LIMIT],
 ) -> NextStep
-    requires { ⌜ (layout .cells * 32 ≤ length (now block)) × (layout .cells ≤ 2048) × (i ≤ 48) × Grown layout (memoryOf (now block)) (48 - i) word ⌝ }
-    ensures { λ r. ⌜ Told (now (out .exit)) i r (nextFrom layout (memoryOf (now (block .entry))) (48 - i) word (drop i (now (key .entry)))) ⌝ }
+    requires { ⌜ (layout .cells * 32 ≤ length (now block)) × (layout .cells ≤ cellLimit) × (i ≤ keyLimit) × Grown layout (memoryOf (now block)) (keyLimit - i) word ⌝ }
+    ensures { λ r. ⌜ Told (now (out .exit)) i r (nextFrom layout (memoryOf (now (block .entry))) (keyLimit - i) word (drop i (now (key .entry)))) ⌝ }
 {
     if key.len() <= i {
         return first_below(layout, block, word, 0, i, out);
@@ -108,7 +108,7 @@ pub fn next_after(
     key: &[u8],
     out: &mut [u8; KEY_LIMIT],
 ) -> NextStep
-    requires { ⌜ (layout .cells * 32 ≤ length (now block)) × (layout .cells ≤ 2048) × Grown layout (memoryOf (now block)) keyLimit word ⌝ }
+    requires { ⌜ (layout .cells * 32 ≤ length (now block)) × (layout .cells ≤ cellLimit) × Grown layout (memoryOf (now block)) keyLimit word ⌝ }
     ensures { λ r. ⌜ Told (now (out .exit)) 0 r (nextFrom layout (memoryOf (now (block .entry))) keyLimit word (now (key .entry))) ⌝ }
 {
     next_from(layout, block, word, key, 0, out)

@@ -9,6 +9,7 @@ ghost use Rattle.nodes.specs.Pointer.Pointer.{chain, split, sparse};
 ghost use Rattle.nodes.specs.Split.{under, endCells, midCells, headCells};
 ghost use Rattle.trees.specs.Visit.{Judged};
 ghost use Rattle.trees.specs.Parts.{endsOf, ownCells};
+ghost use Rattle.nodes.specs.Layout.{cellLimit};
 use cells::cell;
 use cells::word_at;
 use nodes::layout::CELL_LIMIT;
@@ -21,7 +22,7 @@ use nodes::split::is_valid_table;
 
 // Gives a cell the stamp; refused where the cell has it already.
 pub fn stamp_cell(stamps: &mut [u8; CELL_LIMIT], stamp: u8, number: usize) -> bool
-    requires { ⌜ number < 2048 ⌝ }
+    requires { ⌜ number < cellLimit ⌝ }
     ensures { λ r. ⌜ Judged (some (number ∷ [])) stamp (now (stamps .entry)) (now (stamps .exit)) r ⌝ }
 {
     if stamps[number] == stamp {
@@ -39,7 +40,7 @@ fn stamp_chain(
     stamp: u8,
     number: usize,
 ) -> bool
-    requires { ⌜ (layout .cells ≤ 2048) × (layout .cells * 32 ≤ length (now block)) × (number < layout .cells) ⌝ }
+    requires { ⌜ (layout .cells ≤ cellLimit) × (layout .cells * 32 ≤ length (now block)) × (number < layout .cells) ⌝ }
     ensures { λ r. ⌜ Judged (ownCells layout (memoryOf (now (block .entry))) (chain number 27)) stamp (now (stamps .entry)) (now (stamps .exit)) r ⌝ }
 {
     let end = word_at(block, number * 32 + 28);
@@ -57,7 +58,7 @@ fn stamp_sparse(
     stamp: u8,
     number: usize,
 ) -> bool
-    requires { ⌜ (layout .cells ≤ 2048) × (layout .cells * 32 ≤ length (now block)) × (number < layout .cells) ⌝ }
+    requires { ⌜ (layout .cells ≤ cellLimit) × (layout .cells * 32 ≤ length (now block)) × (number < layout .cells) ⌝ }
     ensures { λ r. ⌜ Judged (ownCells layout (memoryOf (now (block .entry))) (sparse number)) stamp (now (stamps .entry)) (now (stamps .exit)) r ⌝ }
 {
     if !is_valid_sparse(cell(block, number)) {
@@ -74,7 +75,7 @@ fn stamp_end(
     stamp: u8,
     word: u32,
 ) -> bool
-    requires { ⌜ (layout .cells ≤ 2048) × (layout .cells * 32 ≤ length (now block)) ⌝ }
+    requires { ⌜ (layout .cells ≤ cellLimit) × (layout .cells * 32 ≤ length (now block)) ⌝ }
     ensures { λ r. ⌜ Judged (under (endCells layout (memoryOf (now (block .entry)))) word) stamp (now (stamps .entry)) (now (stamps .exit)) r ⌝ }
 {
     if word == 0 {
@@ -97,7 +98,7 @@ fn stamp_ends(
     stamp: u8,
     number: usize,
 ) -> bool
-    requires { ⌜ (layout .cells ≤ 2048) × (layout .cells * 32 ≤ length (now block)) × (number < layout .cells) ⌝ }
+    requires { ⌜ (layout .cells ≤ cellLimit) × (layout .cells * 32 ≤ length (now block)) × (number < layout .cells) ⌝ }
     ensures { λ r. ⌜ Judged (endsOf layout (memoryOf (now (block .entry))) number) stamp (now (stamps .entry)) (now (stamps .exit)) r ⌝ }
 {
     let start = number * 32;
@@ -119,7 +120,7 @@ fn stamp_mid(
     stamp: u8,
     word: u32,
 ) -> bool
-    requires { ⌜ (layout .cells ≤ 2048) × (layout .cells * 32 ≤ length (now block)) ⌝ }
+    requires { ⌜ (layout .cells ≤ cellLimit) × (layout .cells * 32 ≤ length (now block)) ⌝ }
     ensures { λ r. ⌜ Judged (under (midCells layout (memoryOf (now (block .entry)))) word) stamp (now (stamps .entry)) (now (stamps .exit)) r ⌝ }
 {
     if word == 0 {
@@ -145,7 +146,7 @@ fn stamp_mids(
     stamp: u8,
     number: usize,
 ) -> bool
-    requires { ⌜ (layout .cells ≤ 2048) × (layout .cells * 32 ≤ length (now block)) × (number < layout .cells) ⌝ }
+    requires { ⌜ (layout .cells ≤ cellLimit) × (layout .cells * 32 ≤ length (now block)) × (number < layout .cells) ⌝ }
     ensures { λ r. ⌜ Judged (headCells layout (memoryOf (now (block .entry))) number) stamp (now (stamps .entry)) (now (stamps .exit)) r ⌝ }
 {
     let start = number * 32 + 16;
@@ -167,7 +168,7 @@ fn stamp_split(
     stamp: u8,
     number: usize,
 ) -> bool
-    requires { ⌜ (layout .cells ≤ 2048) × (layout .cells * 32 ≤ length (now block)) × (number < layout .cells) ⌝ }
+    requires { ⌜ (layout .cells ≤ cellLimit) × (layout .cells * 32 ≤ length (now block)) × (number < layout .cells) ⌝ }
     ensures { λ r. ⌜ Judged (ownCells layout (memoryOf (now (block .entry))) (split number)) stamp (now (stamps .entry)) (now (stamps .exit)) r ⌝ }
 {
     if !is_valid_head(cell(block, number)) {
@@ -187,7 +188,7 @@ pub fn stamp_node(
     stamp: u8,
     word: u32,
 ) -> bool
-    requires { ⌜ (layout .cells ≤ 2048) × (layout .cells * 32 ≤ length (now block)) ⌝ }
+    requires { ⌜ (layout .cells ≤ cellLimit) × (layout .cells * 32 ≤ length (now block)) ⌝ }
     ensures { λ r. ⌜ Judged (ownCells layout (memoryOf (now (block .entry))) (pointer layout word)) stamp (now (stamps .entry)) (now (stamps .exit)) r ⌝ }
 {
     match pointer_of(layout, word) {

@@ -5,7 +5,8 @@ ghost use Rattle.cells.specs.Memory.{memoryOf};
 ghost use Rattle.trees.specs.Root.{rootTree};
 ghost use Rattle.trees.specs.Visit.{Judged};
 ghost use Rattle.trees.specs.Parts.{childTree, plainTree, tablesFrom};
-use crate::KEY_LIMIT;
+ghost use Rattle.nodes.specs.Layout.{cellLimit};
+use nodes::layout::KEY_LIMIT;
 use crate::stamps::stamp_cell;
 use crate::stamps::stamp_node;
 use cells::cell;
@@ -27,7 +28,7 @@ fn node_check(
     word: u32,
     depth: usize,
 ) -> bool
-    requires { ⌜ (layout .cells ≤ 2048) × (layout .cells * 32 ≤ length (now block)) ⌝ }
+    requires { ⌜ (layout .cells ≤ cellLimit) × (layout .cells * 32 ≤ length (now block)) ⌝ }
     ensures { λ r. ⌜ Judged (plainTree layout (memoryOf (now (block .entry))) depth word) stamp (now (stamps .entry)) (now (stamps .exit)) r ⌝ }
 {
     if !stamp_node(layout, block, stamps, stamp, word) {
@@ -70,7 +71,7 @@ fn split_check(
     level: usize,
     depth: usize,
 ) -> bool
-    requires { ⌜ (layout .cells ≤ 2048) × (layout .cells * 32 ≤ length (now block)) × (at + 4 * count ≤ length (now block)) ⌝ }
+    requires { ⌜ (layout .cells ≤ cellLimit) × (layout .cells * 32 ≤ length (now block)) × (at + 4 * count ≤ length (now block)) ⌝ }
     ensures { λ r. ⌜ Judged (tablesFrom layout (now (block .entry)) depth level at count) stamp (now (stamps .entry)) (now (stamps .exit)) r ⌝ }
 {
     for i in 0..count {
@@ -104,7 +105,7 @@ fn child_check(
     word: u32,
     depth: usize,
 ) -> bool
-    requires { ⌜ (layout .cells ≤ 2048) × (layout .cells * 32 ≤ length (now block)) ⌝ }
+    requires { ⌜ (layout .cells ≤ cellLimit) × (layout .cells * 32 ≤ length (now block)) ⌝ }
     ensures { λ r. ⌜ Judged (childTree layout (memoryOf (now (block .entry))) depth word) stamp (now (stamps .entry)) (now (stamps .exit)) r ⌝ }
 {
     if word == 0 {
@@ -137,7 +138,7 @@ pub fn root_check(
     stamp: u8,
     word: u32,
 ) -> bool
-    requires { ⌜ (layout .cells ≤ 2048) × (layout .cells * 32 ≤ length (now block)) ⌝ }
+    requires { ⌜ (layout .cells ≤ cellLimit) × (layout .cells * 32 ≤ length (now block)) ⌝ }
     ensures { λ r. ⌜ Judged (rootTree layout (memoryOf (now (block .entry))) word) stamp (now (stamps .entry)) (now (stamps .exit)) r ⌝ }
 {
     if word == 0 {

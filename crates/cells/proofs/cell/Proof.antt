@@ -2,30 +2,22 @@ use Rattle.cells.proofs.Memory.{memory-part}
 use borrow.Author.Needs.{needs}
 use Rattle.cells.proofs.cell.Statement.{statement}
 use Rattle.cells.proofs.cell.Tie as tie
-use Rattle.cells.proofs.cell.Reads as reads
-use Rattle.cells.proofs.cell.Lts as lts
 
--- src/lib.rt:39:17
 mul-start : tie.Need-mul-start
 mul-start c = search needs
 
--- src/lib.rt:40:15
 add-end : tie.Need-add-end
 add-end c = search needs
 
--- src/lib.rt:41:5
 sub-result : tie.Need-sub-result
 sub-result c = search needs
 
--- src/lib.rt:41:5
 part-result-start : tie.Need-part-result-start
 part-result-start c = search needs
 
--- src/lib.rt:41:5
 part-result-end : tie.Need-part-result-end
 part-result-end c = search needs
 
--- src/lib.rt:35:1
 returns : tie.Need-returns
 returns c = memory-part _ _ (c .before .pre)
 

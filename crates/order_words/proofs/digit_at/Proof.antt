@@ -8,8 +8,6 @@ use Rattle.order_words.specs.Digits.{digits}
 use Rattle.order_words.proofs.Steps.{at-start, at-low, at-step, at-high}
 use Rattle.order_words.proofs.digit_at.Statement.{statement}
 use Rattle.order_words.proofs.digit_at.Tie as tie
-use Rattle.order_words.proofs.digit_at.Reads as reads
-use Rattle.order_words.proofs.digit_at.Lts as lts
 
 abbrev Inv-loop : tie.InvT-loop
 Inv-loop word at rest₀ passed₀ rest passed = (passed ≤ at) × (getD (digits 7 word) at 0 ≡ getD (digits (7 - passed) rest) (at - passed) 0)
@@ -17,27 +15,21 @@ Inv-loop word at rest₀ passed₀ rest passed = (passed ≤ at) × (getD (digit
 abbrev μ-loop : tie.MeasureT-loop
 μ-loop word at rest₀ passed₀ rest passed = at - passed
 
--- src/lib.rt:29:9
 returns : tie.Need-returns Inv-loop μ-loop
 returns c = at-high 7 _ _ (c .if1 .taken)
 
--- src/lib.rt:33:5
 loop-holds : tie.Need-loop-holds Inv-loop μ-loop
 loop-holds c = (omega arith, at-start 7 _ _)
 
--- src/lib.rt:35:9
 add-passed : tie.Need-add-passed Inv-loop μ-loop
 add-passed c = search needs
 
--- src/lib.rt:33:5
 loop-less : tie.Need-loop-less Inv-loop μ-loop
 loop-less c = search needs
 
--- src/lib.rt:33:5
 loop-again : tie.Need-loop-again Inv-loop μ-loop
 loop-again c = (omega arith, c .before .loop .inv .1 ∙ at-step _ _ _ _ _ (omega arith) (omega arith))
 
--- src/lib.rt:25:1
 returns-2 : tie.Need-returns-2 Inv-loop μ-loop
 returns-2 c = sym (c .before .loop .inv .1 ∙ at-low _ _ _ (omega arith) (omega arith))
 

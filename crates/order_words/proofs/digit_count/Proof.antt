@@ -4,44 +4,34 @@ use Rattle.order_words.proofs.Coding.{power}
 use Rattle.order_words.proofs.Steps.{count-none, count-between}
 use Rattle.order_words.proofs.digit_count.Statement.{statement}
 use Rattle.order_words.proofs.digit_count.Tie as tie
-use Rattle.order_words.proofs.digit_count.Reads as reads
-use Rattle.order_words.proofs.digit_count.Lts as lts
 
--- src/lib.rt:13:9
 returns : tie.Need-returns
 returns c = count-none 7 _ (c .if1 .taken)
 
--- src/lib.rt:16:9
 returns-2 : tie.Need-returns-2
 unfolding power
 returns-2 c = count-between 0 7 _ (omega arith) (omega arith) (omega arith)
 
--- src/lib.rt:19:9
 returns-3 : tie.Need-returns-3
 unfolding power
 returns-3 c = count-between 1 7 _ (omega arith) (omega arith) (omega arith)
 
--- src/lib.rt:22:9
 returns-4 : tie.Need-returns-4
 unfolding power
 returns-4 c = count-between 2 7 _ (omega arith) (omega arith) (omega arith)
 
--- src/lib.rt:25:9
 returns-5 : tie.Need-returns-5
 unfolding power
 returns-5 c = count-between 3 7 _ (omega arith) (omega arith) (omega arith)
 
--- src/lib.rt:28:9
 returns-6 : tie.Need-returns-6
 unfolding power
 returns-6 c = count-between 4 7 _ (omega arith) (omega arith) (omega arith)
 
--- src/lib.rt:31:9
 returns-7 : tie.Need-returns-7
 unfolding power
 returns-7 c = count-between 5 7 _ (omega arith) (omega arith) (omega arith)
 
--- src/lib.rt:9:1
 returns-8 : tie.Need-returns-8
 unfolding power
 returns-8 c = count-between 6 7 _ (omega arith) (omega arith) (omega arith)

@@ -3,12 +3,9 @@ use Rattle.nodes.specs.Layout.{keyLimit}
 use Rattle.blocks.specs.Refusal.{overLong}
 use Rattle.blocks.proofs.key.is_over_long.Statement.{statement}
 use Rattle.blocks.proofs.key.is_over_long.Tie as tie
-use Rattle.blocks.proofs.key.is_over_long.Reads as reads
-use Rattle.blocks.proofs.key.is_over_long.Lts as lts
 
--- src/key.rt:6:1
 returns : tie.Need-returns
-unfolding overLong keyLimit
+unfolding overLong
 returns c = refl
 
 pub is-over-long-spec : {M : Type 1} → statement M

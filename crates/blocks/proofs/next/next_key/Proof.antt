@@ -7,64 +7,43 @@ use Rattle.blocks.proofs.NextSteps.{next-refused, next-over-long, next-
 use borrow.Author.Needs.{needs}
 use Rattle.blocks.proofs.next.next_key.Statement.{statement}
 use Rattle.blocks.proofs.next.next_key.Tie as tie
-use Rattle.blocks.proofs.next.next_key.Reads as reads
-use Rattle.blocks.proofs.next.next_key.Lts as lts
-use Rattle.blocks.proofs.key.is_over_long.Reads as is-over-long-reads
-use Rattle.blocks.proofs.next.padded_key.Reads as padded-key-reads
-use Rattle.blocks.proofs.next.refused_next.Reads as refused-next-reads
-use Rattle.trees.proofs.next_key.next_after.Reads as next-after-reads
-use Rattle.blocks.proofs.trailer_fields.layout_of.Reads as layout-of-reads
-use Rattle.blocks.proofs.trailer_fields.root_word.Reads as root-word-reads
-use Rattle.blocks.proofs.validate.validate.Reads as validate-reads
 
--- src/next.rt:45:45
 validate-requires : tie.Need-validate-requires
 validate-requires c κs = search needs
 
--- src/next.rt:45:34
 enum-known-refusal : tie.Need-enum-known-refusal
 enum-known-refusal c = search needs
 
--- src/next.rt:46:9
 refused-next-requires : tie.Need-refused-next-requires
 refused-next-requires c κs = search needs
 
--- src/next.rt:46:9
 returns : tie.Need-returns
 returns c = next-refused _ _ _ (c .before .before .before .before .validate .ensures ∙ ap changeNumber (c .before .before .refusal .given .1)) (refusal-number (c .before .before .refusal .given .0 .0)) ∙ c .refused-next .ensures
 
 enum-told : tie.Need-enum-told
 enum-told c = search needs
 
--- src/next.rt:48:8
 is-over-long-requires : tie.Need-is-over-long-requires
 is-over-long-requires c κs = search needs
 
--- src/next.rt:49:9
 refused-next-requires-2 : tie.Need-refused-next-requires-2
 refused-next-requires-2 c κs = search needs
 
--- src/next.rt:49:9
 returns-2 : tie.Need-returns-2
 returns-2 c = next-over-long _ _ (c .before .before .before .before .before .validate .ensures ∙ ap changeNumber (c .before .before .before .enum-told .given .1)) (sym (c .before .before .is-over-long .ensures) ∙ c .before .if1 .taken) ∙ c .refused-next2 .ensures
 
--- src/next.rt:51:9
 layout-of-requires : tie.Need-layout-of-requires
 layout-of-requires c κs = block-size _ (c .before .before .before .before .validate .ensures ∙ ap changeNumber (c .before .before .enum-told .given .1))
 
--- src/next.rt:53:42
 root-word-requires : tie.Need-root-word-requires
 root-word-requires c κs = block-fits _ (c .before .before .before .before .before .validate .ensures ∙ ap changeNumber (c .before .before .before .enum-told .given .1)) _ (c .layout-of .ensures)
 
--- src/next.rt:53:9
 next-after-requires : tie.Need-next-after-requires
 next-after-requires c κs = (block-room _ (c .before .before .before .before .before .before .before .validate .ensures ∙ ap changeNumber (c .before .before .before .before .before .enum-told .given .1)) _ (c .before .before .layout-of .ensures) .0, block-room _ (c .before .before .before .before .before .before .before .validate .ensures ∙ ap changeNumber (c .before .before .before .before .before .enum-told .given .1)) _ (c .before .before .layout-of .ensures) .1, root-grown _ (c .before .before .before .before .before .before .before .validate .ensures ∙ ap changeNumber (c .before .before .before .before .before .enum-told .given .1)) _ (c .before .before .layout-of .ensures) _ (c .before .root-word .ensures))
 
--- src/next.rt:55:9
 refused-next-requires-3 : tie.Need-refused-next-requires-3
 refused-next-requires-3 c κs = search needs
 
--- src/next.rt:55:9
 returns-3 : tie.Need-returns-3
 returns-3 c =
     next-missing _ _ (c .before .before .before .before .before .before .before .before .before .before .before .validate .ensures ∙ ap changeNumber (c .before .before .before .before .before .before .before .before .before .enum-told .given .1)) (sym (c .before .before .before .before .before .before .before .before .is-over-long .ensures) ∙ c .before .before .before .before .before .before .before .if1 .left) _ (c .before .before .before .before .before .before .layout-of .ensures) _ (c .before .before .before .before .before .root-word .ensures)
@@ -73,11 +52,9 @@ returns-3 c =
     _ _ (c .before .before .before .next-after .ensures) (not-true _ (c .before .if2 .taken))
     ∙ c .refused-next3 .ensures
 
--- src/next.rt:61:14
 padded-key-requires : tie.Need-padded-key-requires
 padded-key-requires c κs = search needs
 
--- src/next.rt:42:1
 returns-4 : tie.Need-returns-4
 returns-4 c =
     next-found _ _ (c .before .before .before .before .before .before .before .before .before .before .before .validate .ensures ∙ ap changeNumber (c .before .before .before .before .before .before .before .before .before .enum-told .given .1)) (sym (c .before .before .before .before .before .before .before .before .is-over-long .ensures) ∙ c .before .before .before .before .before .before .before .if1 .left) _ (c .before .before .before .before .before .before .layout-of .ensures) _ (c .before .before .before .before .before .root-word .ensures)

@@ -9,10 +9,6 @@ use Rattle.blocks.proofs.Trailer.{slot-valid}
 use Rattle.blocks.proofs.TrailerSteps.{every-none, every-more, every-fails}
 use Rattle.blocks.proofs.trailer_fields.are_idle_zero.Statement.{statement}
 use Rattle.blocks.proofs.trailer_fields.are_idle_zero.Tie as tie
-use Rattle.blocks.proofs.trailer_fields.are_idle_zero.Reads as reads
-use Rattle.blocks.proofs.trailer_fields.are_idle_zero.Lts as lts
-use Rattle.blocks.proofs.trailer_fields.is_idle_zero.Reads as is-idle-zero-reads
-use Rattle.blocks.proofs.trailer_fields.slots.Reads as slots-reads
 
 abbrev Inv-loop : tie.InvT-loop
 Inv-loop layout block count slot₀ slot = (slot ≤ count) × (everySlot (idleIsZero layout block) slot ≡ true)
@@ -20,35 +16,27 @@ Inv-loop layout block count slot₀ slot = (slot ≤ count) × (everySlot (idleI
 abbrev μ-loop : tie.MeasureT-loop
 μ-loop layout block count slot₀ slot = count - slot
 
--- src/trailer_fields.rt:109:9
 slots-requires : tie.Need-slots-requires Inv-loop μ-loop
 slots-requires c κs = search needs
 
--- src/trailer_fields.rt:111:5
 loop-holds : tie.Need-loop-holds Inv-loop μ-loop
 loop-holds c = (omega arith, every-none _)
 
--- src/trailer_fields.rt:112:9
 add-slot : tie.Need-add-slot Inv-loop μ-loop
 add-slot c = search needs
 
--- src/trailer_fields.rt:113:13
 is-idle-zero-requires : tie.Need-is-idle-zero-requires Inv-loop μ-loop
 is-idle-zero-requires c κs = (c .before .before .before .before .pre, slot-valid _ _ (omega arith) (omega (arith, c .before .before .slots .ensures)))
 
--- src/trailer_fields.rt:114:13
 returns : tie.Need-returns Inv-loop μ-loop
 returns c = sym (every-fails _ _ _ (omega arith) (omega (arith, c .before .before .before .before .slots .ensures)) (sym (c .before .is-idle-zero .ensures) ∙ not-true _ (c .if1 .taken)))
 
--- src/trailer_fields.rt:111:5
 loop-less : tie.Need-loop-less Inv-loop μ-loop
 loop-less c = search needs
 
--- src/trailer_fields.rt:111:5
 loop-again : tie.Need-loop-again Inv-loop μ-loop
 loop-again c = (omega arith, every-more _ _ (c .before .before .before .loop .inv .1) (sym (c .before .is-idle-zero .ensures) ∙ not-false _ (c .if1 .left)))
 
--- src/trailer_fields.rt:105:1
 returns-2 : tie.Need-returns-2 Inv-loop μ-loop
 returns-2 c = let e : _ ≡ _ = c .before .before .slots .ensures in sym (ap (everySlot _) (omega arith) ∙ c .before .loop .inv .1)
 

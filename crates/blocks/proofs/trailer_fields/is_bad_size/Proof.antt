@@ -2,18 +2,13 @@ use mathlib.Core.Path.{sym}
 use Rattle.blocks.proofs.TrailerSteps.{size-broken, size-small, size-other}
 use Rattle.blocks.proofs.trailer_fields.is_bad_size.Statement.{statement}
 use Rattle.blocks.proofs.trailer_fields.is_bad_size.Tie as tie
-use Rattle.blocks.proofs.trailer_fields.is_bad_size.Reads as reads
-use Rattle.blocks.proofs.trailer_fields.is_bad_size.Lts as lts
 
--- src/trailer_fields.rt:16:9
 returns : tie.Need-returns
 returns c = sym (size-broken _ (c .if1 .taken))
 
--- src/trailer_fields.rt:20:9
 returns-2 : tie.Need-returns-2
 returns-2 c = sym (size-small _ (c .before .if1 .left) (c .if2 .taken))
 
--- src/trailer_fields.rt:11:1
 returns-3 : tie.Need-returns-3
 returns-3 c = sym (size-other _ (c .before .if1 .left) (c .if2 .left))
 

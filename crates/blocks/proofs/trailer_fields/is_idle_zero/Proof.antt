@@ -3,24 +3,16 @@ use Rattle.blocks.proofs.TrailerSteps.{idle-used, idle-unused}
 use borrow.Author.Needs.{needs}
 use Rattle.blocks.proofs.trailer_fields.is_idle_zero.Statement.{statement}
 use Rattle.blocks.proofs.trailer_fields.is_idle_zero.Tie as tie
-use Rattle.blocks.proofs.trailer_fields.is_idle_zero.Reads as reads
-use Rattle.blocks.proofs.trailer_fields.is_idle_zero.Lts as lts
-use Rattle.blocks.proofs.trailer_fields.is_in_use.Reads as is-in-use-reads
-use Rattle.blocks.proofs.trailer_fields.slot_word.Reads as slot-word-reads
 
--- src/trailer_fields.rt:98:8
 is-in-use-requires : tie.Need-is-in-use-requires
 is-in-use-requires c κs = search needs
 
--- src/trailer_fields.rt:99:9
 returns : tie.Need-returns
 returns c = sym (idle-used _ _ _ (sym (c .before .is-in-use .ensures) ∙ c .if1 .taken))
 
--- src/trailer_fields.rt:101:5
 slot-word-requires : tie.Need-slot-word-requires
 slot-word-requires c κs = search needs
 
--- src/trailer_fields.rt:94:1
 returns-2 : tie.Need-returns-2
 returns-2 c = sym (idle-unused _ _ _ _ (sym (c .before .before .is-in-use .ensures) ∙ c .before .if1 .left) (c .slot-word .ensures))
 

@@ -6,114 +6,82 @@ use Rattle.blocks.proofs.TrailerSteps.{trailer-idle, trailer-bits, trai
 use borrow.Author.Needs.{needs}
 use Rattle.blocks.proofs.trailer_fields.is_valid_trailer.Statement.{statement}
 use Rattle.blocks.proofs.trailer_fields.is_valid_trailer.Tie as tie
-use Rattle.blocks.proofs.trailer_fields.is_valid_trailer.Reads as reads
-use Rattle.blocks.proofs.trailer_fields.is_valid_trailer.Lts as lts
-use Rattle.cells.proofs.word_at.Reads as word-at-reads
-use Rattle.blocks.proofs.trailer_fields.are_idle_zero.Reads as are-idle-zero-reads
-use Rattle.blocks.proofs.trailer_fields.slots.Reads as slots-reads
-use Rattle.blocks.proofs.trailer_fields.trailer_at.Reads as trailer-at-reads
 
--- src/trailer_fields.rt:125:9
 are-idle-zero-requires : tie.Need-are-idle-zero-requires
 are-idle-zero-requires c κs = search needs
 
--- src/trailer_fields.rt:126:9
 returns : tie.Need-returns
 returns c = trailer-idle _ _ (sym (c .before .are-idle-zero .ensures) ∙ not-true _ (c .if1 .taken))
 
--- src/trailer_fields.rt:128:9
 trailer-at-requires : tie.Need-trailer-at-requires
 trailer-at-requires c κs = search needs
 
--- src/trailer_fields.rt:129:16
 add-bits : tie.Need-add-bits
 add-bits c = search needs
 
--- src/trailer_fields.rt:130:8
 shared-slice-read-if2 : tie.Need-shared-slice-read-if2
 shared-slice-read-if2 c = search needs
 
--- src/trailer_fields.rt:130:23
 slots-requires : tie.Need-slots-requires
 slots-requires c κs = search needs
 
--- src/trailer_fields.rt:130:23
 cast-if2 : tie.Need-cast-if2
 cast-if2 c = omega (arith, c .slots .ensures, slots-three (c .before .before .before .before .before .before .args .layout))
 
--- src/trailer_fields.rt:130:8
 shr-if2 : tie.Need-shr-if2
 shr-if2 c = omega (arith, c .slots .ensures, slots-three (c .before .before .before .before .before .before .args .layout))
 
--- src/trailer_fields.rt:131:9
 returns-2 : tie.Need-returns-2
 returns-2 c = trailer-bits _ _ _ _ (c .before .before .before .trailer-at .ensures) (c .before .slots .ensures) (c .if2 .taken)
 
--- src/trailer_fields.rt:133:14
 add-if3 : tie.Need-add-if3
 add-if3 c = search needs
 
--- src/trailer_fields.rt:133:8
 shared-slice-read-if3 : tie.Need-shared-slice-read-if3
 shared-slice-read-if3 c = search needs
 
--- src/trailer_fields.rt:134:9
 returns-3 : tie.Need-returns-3
 returns-3 c = trailer-gap _ _ _ (c .before .before .before .before .before .trailer-at .ensures) 1 (omega arith) (omega arith) (c .if3 .taken)
 
--- src/trailer_fields.rt:136:14
 add-if4 : tie.Need-add-if4
 add-if4 c = search needs
 
--- src/trailer_fields.rt:136:8
 shared-slice-read-if4 : tie.Need-shared-slice-read-if4
 shared-slice-read-if4 c = search needs
 
--- src/trailer_fields.rt:137:9
 returns-4 : tie.Need-returns-4
 returns-4 c = trailer-gap _ _ _ (c .before .before .before .before .before .before .before .trailer-at .ensures) 2 (omega arith) (omega arith) (c .if4 .taken)
 
--- src/trailer_fields.rt:139:14
 add-if5 : tie.Need-add-if5
 add-if5 c = search needs
 
--- src/trailer_fields.rt:139:8
 shared-slice-read-if5 : tie.Need-shared-slice-read-if5
 shared-slice-read-if5 c = search needs
 
--- src/trailer_fields.rt:140:9
 returns-5 : tie.Need-returns-5
 returns-5 c = trailer-gap _ _ _ (c .before .before .before .before .before .before .before .before .before .trailer-at .ensures) 3 (omega arith) (omega arith) (c .if5 .taken)
 
--- src/trailer_fields.rt:142:23
 add-word-at : tie.Need-add-word-at
 add-word-at c = search needs
 
--- src/trailer_fields.rt:142:8
 word-at-requires : tie.Need-word-at-requires
 word-at-requires c κs = search needs
 
--- src/trailer_fields.rt:142:8
 cast-if6 : tie.Need-cast-if6
 cast-if6 c = search needs
 
--- src/trailer_fields.rt:143:9
 returns-6 : tie.Need-returns-6
 returns-6 c = trailer-size _ _ _ (c .before .before .before .before .before .before .before .before .before .before .before .before .trailer-at .ensures) _ (c .before .before .word-at .ensures) (c .if6 .taken)
 
--- src/trailer_fields.rt:145:23
 add-word-at-2 : tie.Need-add-word-at-2
 add-word-at-2 c = search needs
 
--- src/trailer_fields.rt:145:8
 word-at-requires-2 : tie.Need-word-at-requires-2
 word-at-requires-2 c κs = search needs
 
--- src/trailer_fields.rt:146:9
 returns-7 : tie.Need-returns-7
 returns-7 c = trailer-spare _ _ _ (c .before .before .before .before .before .before .before .before .before .before .before .before .before .before .trailer-at .ensures) _ (c .before .word-at2 .ensures) (c .if7 .taken)
 
--- src/trailer_fields.rt:121:1
 returns-8 : tie.Need-returns-8
 returns-8 c =
     trailer-passed _ _ _ _ (c .before .before .before .before .before .before .before .before .before .before .before .before .before .before .before .trailer-at .ensures) (c .before .before .before .before .before .before .before .before .before .before .before .before .before .slots .ensures) (sym (c .before .before .before .before .before .before .before .before .before .before .before .before .before .before .before .before .before .are-idle-zero .ensures) ∙ not-false _ (c .before .before .before .before .before .before .before .before .before .before .before .before .before .before .before .before .if1 .left))

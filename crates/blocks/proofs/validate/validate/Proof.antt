@@ -5,34 +5,23 @@ use Rattle.blocks.proofs.ValidateSteps.{layout-fits, validate-size, val
 use borrow.Author.Needs.{needs}
 use Rattle.blocks.proofs.validate.validate.Statement.{statement}
 use Rattle.blocks.proofs.validate.validate.Tie as tie
-use Rattle.blocks.proofs.validate.validate.Reads as reads
-use Rattle.blocks.proofs.validate.validate.Lts as lts
-use Rattle.blocks.proofs.trailer_fields.is_bad_size.Reads as is-bad-size-reads
-use Rattle.blocks.proofs.trailer_fields.layout_of.Reads as layout-of-reads
-use Rattle.blocks.proofs.validate.is_sound.Reads as is-sound-reads
 
--- src/validate.rt:72:8
 is-bad-size-requires : tie.Need-is-bad-size-requires
 is-bad-size-requires c κs = search needs
 
--- src/validate.rt:73:9
 returns : tie.Need-returns
 returns c = validate-size _ (sym (c .before .is-bad-size .ensures) ∙ c .if1 .taken)
 
--- src/validate.rt:76:18
 layout-of-requires : tie.Need-layout-of-requires
 layout-of-requires c κs = sym (c .before .is-bad-size .ensures) ∙ c .if1 .left
 
--- src/validate.rt:76:9
 is-sound-requires : tie.Need-is-sound-requires
 unfolding zeros
 is-sound-requires c κs = (layout-fits _ _ (sym (c .before .before .before .is-bad-size .ensures) ∙ c .before .before .if1 .left) (c .before .layout-of .ensures), refl)
 
--- src/validate.rt:77:9
 returns-2 : tie.Need-returns-2
 returns-2 c = validate-unsound _ _ _ _ (sym (c .before .before .before .before .before .is-bad-size .ensures) ∙ c .before .before .before .before .if1 .left) (c .before .before .before .layout-of .ensures) (c .before .is-sound .ensures) (not-true _ (c .if2 .taken))
 
--- src/validate.rt:69:1
 returns-3 : tie.Need-returns-3
 returns-3 c = validate-done _ _ _ _ (sym (c .before .before .before .before .before .is-bad-size .ensures) ∙ c .before .before .before .before .if1 .left) (c .before .before .before .layout-of .ensures) (c .before .is-sound .ensures) (not-false _ (c .if2 .left))
 

@@ -8,10 +8,6 @@ use Rattle.history.proofs.LoopSteps.{turn-end, turn-full, turn-none, tu
 use Rattle.history.proofs.Upheld.{meets}
 use Rattle.history.proofs.runner.run_calls.Statement.{statement}
 use Rattle.history.proofs.runner.run_calls.Tie as tie
-use Rattle.history.proofs.runner.run_calls.Reads as reads
-use Rattle.history.proofs.runner.run_calls.Lts as lts
-use Rattle.history.proofs.runner.step_call.Reads as step-call-reads
-use Rattle.store.proofs.formatting.format.Reads as format-reads
 
 abbrev Inv-loop : tie.InvT-loop
 Inv-loop block₀ calls answers₀ at₀ count₀ block answers at count =
@@ -21,79 +17,62 @@ Inv-loop block₀ calls answers₀ at₀ count₀ block answers at count =
 abbrev μ-loop : tie.MeasureT-loop
 μ-loop block₀ calls answers₀ at₀ count₀ block answers at count = length calls - at
 
--- src/runner.rt:134:30
 format-requires : tie.Need-format-requires Inv-loop μ-loop
 format-requires c κs = search needs
 
 enum-told : tie.Need-enum-told Inv-loop μ-loop
 enum-told c = search needs
 
--- src/runner.rt:135:9
 enum-told-2 : tie.Need-enum-told-2 Inv-loop μ-loop
 enum-told-2 c = search needs
 
--- src/runner.rt:135:9
 same-length : tie.Need-same-length Inv-loop μ-loop
 same-length c = search needs
 
--- src/runner.rt:135:9
 returns : tie.Need-returns Inv-loop μ-loop
 returns c =
     meets _ _ _ (record { below = λ i. c .before .before .before .before .before .before .before .shared-slice-known .given i .fits }) _
     (run-refused _ _ _ _ (c .before .before .before .before .format .result) (c .before .before .before .before .format .ensures) _ (c .enum-told2 .given .1))
 
--- src/runner.rt:139:5
 loop-holds : tie.Need-loop-holds Inv-loop μ-loop
 loop-holds c = (omega arith, omega arith, refl, refl, ran-first (c .before .before .before .before .format .last .0) (c .before .before .before .before .before .before .before .before .before .args .calls .now) (c .before .before .before .before .before .before .before .before .before .args .answers .now))
 
--- src/runner.rt:141:13
 same-length-2 : tie.Need-same-length-2 Inv-loop μ-loop
 same-length-2 c = search needs
 
--- src/runner.rt:141:13
 same-length-3 : tie.Need-same-length-3 Inv-loop μ-loop
 same-length-3 c = search needs
 
--- src/runner.rt:141:13
 returns-2 : tie.Need-returns-2 Inv-loop μ-loop
 returns-2 c =
     meets _ _ _ (record { below = λ i. c .before .before .before .before .before .before .before .before .before .before .shared-slice-known .given i .fits }) _
     (run-done _ _ _ _ (c .before .before .before .before .before .before .before .format .result) (c .before .before .before .before .before .before .before .format .ensures) _ (c .before .before .before .enum-told .given .1)
     (c .before .before .loop .inv .4 ∙ turn-full _ _ _ _ _ _ (c .before .loop-test .taken) (c .if1 .taken ∙ c .before .before .loop .inv .3)))
 
--- src/runner.rt:143:60
 sub-step-call : tie.Need-sub-step-call Inv-loop μ-loop
 sub-step-call c = search needs
 
--- src/runner.rt:143:60
 part-step-call-start : tie.Need-part-step-call-start Inv-loop μ-loop
 part-step-call-start c = search needs
 
--- src/runner.rt:143:60
 part-step-call-end : tie.Need-part-step-call-end Inv-loop μ-loop
 part-step-call-end c = search needs
 
--- src/runner.rt:143:43
 step-call-requires : tie.Need-step-call-requires Inv-loop μ-loop
 step-call-requires c κs = search needs
 
--- src/runner.rt:143:26
 enum-known-taken : tie.Need-enum-known-taken Inv-loop μ-loop
 enum-known-taken c = search needs
 
--- src/runner.rt:144:42
 enum-told-3 : tie.Need-enum-told-3 Inv-loop μ-loop
 enum-told-3 c = search needs
 
--- src/runner.rt:144:13
 same-length-4 : tie.Need-same-length-4 Inv-loop μ-loop
 same-length-4 c = search needs
 
--- src/runner.rt:144:13
 same-length-5 : tie.Need-same-length-5 Inv-loop μ-loop
 same-length-5 c = search needs
 
--- src/runner.rt:144:13
 returns-3 : tie.Need-returns-3 Inv-loop μ-loop
 returns-3 c =
     let room : c .before .before .before .before .before .before .before .before .before .loop .count < length (c .before .before .before .before .before .before .before .before .before .before .before .before .before .before .before .before .before .before .before .args .answers .now) = omega (arith, c .before .before .before .before .before .before .before .if1 .left, c .before .before .before .before .before .before .before .before .before .loop .inv .1, c .before .before .before .before .before .before .before .before .before .loop .inv .3) in
@@ -101,11 +80,9 @@ returns-3 c =
     (run-done _ _ _ _ (c .before .before .before .before .before .before .before .before .before .before .before .before .before .before .format .result) (c .before .before .before .before .before .before .before .before .before .before .before .before .before .before .format .ensures) _ (c .before .before .before .before .before .before .before .before .before .before .enum-told .given .1)
     (c .before .before .before .before .before .before .before .before .before .loop .inv .4 ∙ turn-none _ _ _ _ _ _ (c .before .before .before .before .before .before .before .before .loop-test .taken) _ _ (c .before .before .before .before .step-call .ensures) room (c .enum-told3 .given .1)))
 
--- src/runner.rt:146:9
 slice-write-answers : tie.Need-slice-write-answers Inv-loop μ-loop
 slice-write-answers c = search needs
 
--- src/runner.rt:147:9
 add-at : tie.Need-add-at Inv-loop μ-loop
 add-at c =
     let room : c .before .before .before .before .before .before .before .before .before .before .loop .count < length (c .before .before .before .before .before .before .before .before .before .before .before .before .before .before .before .before .before .before .before .before .args .answers .now) = omega (arith, c .before .before .before .before .before .before .before .before .if1 .left, c .before .before .before .before .before .before .before .before .before .before .loop .inv .1, c .before .before .before .before .before .before .before .before .before .before .loop .inv .3) in
@@ -115,11 +92,9 @@ add-at c =
     (c .before .before .before .before .before .step-call .last .0) (c .before .before .before .before .before .step-call .result) (c .before .before .before .before .before .step-call .ensures) room (c .before .taken .given .0 .0) (c .before .taken .given .0 .1 .0) (c .before .taken .given .1) low in
     omega (arith, turn .most)
 
--- src/runner.rt:148:9
 add-count : tie.Need-add-count Inv-loop μ-loop
 add-count c = search needs
 
--- src/runner.rt:139:5
 loop-less : tie.Need-loop-less Inv-loop μ-loop
 loop-less c =
     let room : c .before .before .before .before .before .before .before .before .before .before .loop .count < length (c .before .before .before .before .before .before .before .before .before .before .before .before .before .before .before .before .before .before .before .before .args .answers .now) = omega (arith, c .before .before .before .before .before .before .before .before .if1 .left, c .before .before .before .before .before .before .before .before .before .before .loop .inv .1, c .before .before .before .before .before .before .before .before .before .before .loop .inv .3) in
@@ -129,7 +104,6 @@ loop-less c =
     (c .before .before .before .before .before .step-call .last .0) (c .before .before .before .before .before .step-call .result) (c .before .before .before .before .before .step-call .ensures) room (c .before .taken .given .0 .0) (c .before .taken .given .0 .1 .0) (c .before .taken .given .1) low in
     omega (arith, turn .least, turn .most)
 
--- src/runner.rt:139:5
 loop-again : tie.Need-loop-again Inv-loop μ-loop
 loop-again c =
     let room : c .before .before .before .before .before .before .before .before .before .before .loop .count < length (c .before .before .before .before .before .before .before .before .before .before .before .before .before .before .before .before .before .before .before .before .args .answers .now) = omega (arith, c .before .before .before .before .before .before .before .before .if1 .left, c .before .before .before .before .before .before .before .before .before .before .loop .inv .1, c .before .before .before .before .before .before .before .before .before .before .loop .inv .3) in
@@ -144,15 +118,12 @@ loop-again c =
       c .before .before .before .before .before .before .before .before .before .before .loop .inv .4 ∙ turn .ran,
     )
 
--- src/runner.rt:131:1
 same-length-6 : tie.Need-same-length-6 Inv-loop μ-loop
 same-length-6 c = search needs
 
--- src/runner.rt:131:1
 same-length-7 : tie.Need-same-length-7 Inv-loop μ-loop
 same-length-7 c = search needs
 
--- src/runner.rt:131:1
 returns-4 : tie.Need-returns-4 Inv-loop μ-loop
 returns-4 c =
     meets _ _ _ (record { below = λ i. c .before .before .before .before .before .before .before .before .before .shared-slice-known .given i .fits }) _

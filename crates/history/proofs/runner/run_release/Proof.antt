@@ -2,24 +2,16 @@ use Rattle.history.proofs.StepSteps.{release-answered}
 use borrow.Author.Needs.{needs}
 use Rattle.history.proofs.runner.run_release.Statement.{statement}
 use Rattle.history.proofs.runner.run_release.Tie as tie
-use Rattle.history.proofs.runner.run_release.Reads as reads
-use Rattle.history.proofs.runner.run_release.Lts as lts
-use Rattle.history.proofs.runner.change_number.Reads as change-number-reads
-use Rattle.store.proofs.snapshots.release.Reads as release-reads
 
--- src/runner.rt:83:19
 release-requires : tie.Need-release-requires
 release-requires c κs = search needs
 
--- src/runner.rt:83:5
 change-number-requires : tie.Need-change-number-requires
 change-number-requires c κs = search needs
 
--- src/runner.rt:80:1
 same-length : tie.Need-same-length
 same-length c = search needs
 
--- src/runner.rt:80:1
 returns : tie.Need-returns
 returns c = release-answered _ _ _ _ (c .before .before .before .release .result) (c .change-number .ensures) (c .before .before .before .release .ensures)
 

@@ -4,75 +4,52 @@ use Rattle.history.proofs.StepSteps.{step-nothing, insert-step, slot-di
 use borrow.Author.Needs.{needs}
 use Rattle.history.proofs.runner.step_call.Statement.{statement}
 use Rattle.history.proofs.runner.step_call.Tie as tie
-use Rattle.history.proofs.runner.step_call.Reads as reads
-use Rattle.history.proofs.runner.step_call.Lts as lts
-use Rattle.cells.proofs.word_at.Reads as word-at-reads
-use Rattle.history.proofs.runner.run_release.Reads as run-release-reads
-use Rattle.history.proofs.runner.run_restore.Reads as run-restore-reads
-use Rattle.history.proofs.runner.run_snapshot.Reads as run-snapshot-reads
-use Rattle.history.proofs.runner.step_insert.Reads as step-insert-reads
 
--- src/runner.rt:107:9
 returns : tie.Need-returns
 returns c = step-nothing _ _ (call-short _ (c .if1 .taken))
 
--- src/runner.rt:109:15
 shared-slice-read-tag : tie.Need-shared-slice-read-tag
 shared-slice-read-tag c = search needs
 
--- src/runner.rt:111:9
 step-insert-requires : tie.Need-step-insert-requires
 step-insert-requires c κs = search needs
 
--- src/runner.rt:111:9
 same-length : tie.Need-same-length
 same-length c = search needs
 
--- src/runner.rt:111:9
 returns-2 : tie.Need-returns-2
 returns-2 c = insert-step _ _ _ _ (c .before .before .before .before .if2 .taken) (c .before .before .step-insert .ensures)
 
--- src/runner.rt:113:9
 word-at-requires : tie.Need-word-at-requires
 word-at-requires c κs = search needs
 
--- src/runner.rt:115:13
 run-snapshot-requires : tie.Need-run-snapshot-requires
 run-snapshot-requires c κs = search needs
 
--- src/runner.rt:116:9
 same-length-2 : tie.Need-same-length-2
 same-length-2 c = search needs
 
--- src/runner.rt:116:9
 returns-3 : tie.Need-returns-3
 returns-3 c = slot-did snapshotting _ _ _ _ _ (tag-snapshot _ (c .before .before .before .before .if3 .taken)) (c .before .before .before .before .before .word-at .ensures) (c .before .before .run-snapshot .ensures) (c .before .before .before .before .before .before .before .before .if1 .left)
 
--- src/runner.rt:119:13
 run-restore-requires : tie.Need-run-restore-requires
 run-restore-requires c κs = search needs
 
--- src/runner.rt:120:9
 same-length-3 : tie.Need-same-length-3
 same-length-3 c = search needs
 
--- src/runner.rt:120:9
 returns-4 : tie.Need-returns-4
 returns-4 c = slot-did restoring _ _ _ _ _ (tag-restore _ (c .before .before .before .before .if4 .taken)) (c .before .before .before .before .before .before .word-at .ensures) (c .before .before .run-restore .ensures) (c .before .before .before .before .before .before .before .before .before .if1 .left)
 
--- src/runner.rt:123:13
 run-release-requires : tie.Need-run-release-requires
 run-release-requires c κs = search needs
 
--- src/runner.rt:124:9
 same-length-4 : tie.Need-same-length-4
 same-length-4 c = search needs
 
--- src/runner.rt:124:9
 returns-5 : tie.Need-returns-5
 returns-5 c = slot-did releasing _ _ _ _ _ (tag-release _ (c .before .before .before .before .if5 .taken)) (c .before .before .before .before .before .before .before .word-at .ensures) (c .before .before .run-release .ensures) (c .before .before .before .before .before .before .before .before .before .before .if1 .left)
 
--- src/runner.rt:103:1
 returns-6 : tie.Need-returns-6
 returns-6 c = step-nothing _ _ (tag-none _ (c .before .before .before .before .if2 .left) (c .before .before .if3 .left) (c .before .if4 .left) (c .if5 .left))
 

@@ -2,39 +2,28 @@ use Rattle.insertion.proofs.StagedBuild.{none-childless, child-found, c
 use borrow.Author.Needs.{needs}
 use Rattle.insertion.proofs.build.child_word.Statement.{statement}
 use Rattle.insertion.proofs.build.child_word.Tie as tie
-use Rattle.insertion.proofs.build.child_word.Reads as reads
-use Rattle.insertion.proofs.build.child_word.Lts as lts
-use Rattle.nodes.proofs.step.child_step.Reads as child-step-reads
 
--- src/build.rt:35:9
 returns : tie.Need-returns
 returns c = none-childless _ _ _ _ (c .if1 .taken)
 
--- src/build.rt:37:9
 child-step-requires : tie.Need-child-step-requires
 child-step-requires c κs = search needs
 
--- src/build.rt:39:26
 enum-known-step : tie.Need-enum-known-step
 enum-known-step c = search needs
 
--- src/build.rt:40:31
 enum-told : tie.Need-enum-told
 enum-told c = search needs
 
--- src/build.rt:41:30
 enum-told-2 : tie.Need-enum-told-2
 enum-told-2 c = search needs
 
--- src/build.rt:30:1
 returns-2 : tie.Need-returns-2
 returns-2 c = child-found _ _ _ _ _ (c .before .before .before .before .before .before .pre .2 .1) _ (c .before .before .before .child-step .ensures) (search needs) _ (c .before .step .given .1)
 
--- src/build.rt:30:1
 returns-3 : tie.Need-returns-3
 returns-3 c = child-missing _ _ _ _ _ (c .before .before .before .before .before .pre .2 .1) _ (c .before .before .child-step .ensures) (search needs) (c .enum-told .given .1)
 
--- src/build.rt:30:1
 returns-4 : tie.Need-returns-4
 returns-4 c = child-broken _ _ _ _ _ (c .before .before .before .before .before .pre .2 .1) _ (c .before .before .child-step .ensures) (search needs) (c .enum-told2 .given .1)
 

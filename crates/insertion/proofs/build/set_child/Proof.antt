@@ -6,87 +6,63 @@ use Rattle.insertion.proofs.StagedBuild.{set-nothing, set-leaf, set-cha
 use borrow.Author.Needs.{needs}
 use Rattle.insertion.proofs.build.set_child.Statement.{statement}
 use Rattle.insertion.proofs.build.set_child.Tie as tie
-use Rattle.insertion.proofs.build.set_child.Reads as reads
-use Rattle.insertion.proofs.build.set_child.Lts as lts
-use Rattle.insertion.proofs.chain.chain_over.Reads as chain-over-reads
-use Rattle.insertion.proofs.chain.chain_set.Reads as chain-set-reads
-use Rattle.insertion.proofs.sparse_set.sparse_set.Reads as sparse-set-reads
-use Rattle.insertion.proofs.split.split_set.Reads as split-set-reads
-use Rattle.nodes.proofs.pointer.pointer_of.Reads as pointer-of-reads
 
--- src/build.rt:60:9
 pointer-of-requires : tie.Need-pointer-of-requires
 pointer-of-requires c κs = search needs
 
--- src/build.rt:62:63
 enum-told : tie.Need-enum-told
 enum-told c = search needs
 
--- src/build.rt:62:29
 chain-over-requires : tie.Need-chain-over-requires
 chain-over-requires c κs = (search needs, fits-as (set-nothing _ _ _ _ _ _ _ (c .before .before .before .pointer-of .ensures) (c .before .enum-told .given .1)) (c .before .before .before .before .before .pre .3))
 
--- src/build.rt:63:63
 enum-told-2 : tie.Need-enum-told-2
 enum-told-2 c = search needs
 
--- src/build.rt:63:29
 chain-over-requires-2 : tie.Need-chain-over-requires-2
 chain-over-requires-2 c κs = (search needs, fits-as (set-leaf _ _ _ _ _ _ _ (c .before .before .before .pointer-of .ensures) _ (c .before .enum-told2 .given .1)) (c .before .before .before .before .before .pre .3))
 
--- src/build.rt:64:24
 enum-known-named : tie.Need-enum-known-named
 enum-known-named c = search needs
 
--- src/build.rt:64:42
 chain-set-requires : tie.Need-chain-set-requires
 chain-set-requires c κs =
     let facts = chain-facts _ _ _ (c .before .before .before .before .pointer-of .ensures) _ _ (c .before .before .named .given .1) in
     (search needs, search needs, facts .3, facts .2, fits-as (set-chain _ _ _ _ _ _ _ (c .before .before .before .before .pointer-of .ensures) _ _ (c .before .before .named .given .1)) (c .before .before .before .before .before .before .pre .3))
 
--- src/build.rt:65:24
 enum-known-named-2 : tie.Need-enum-known-named-2
 enum-known-named-2 c = search needs
 
--- src/build.rt:65:35
 split-set-requires : tie.Need-split-set-requires
 split-set-requires c κs =
     let facts = split-facts _ _ _ (c .before .before .before .before .pointer-of .ensures) _ (c .before .before .named2 .given .1) in
     let head = read-split _ _ _ _ (c .before .before .before .before .before .before .pre .2 .1) _ (coded-split _ _ _ (c .before .before .before .before .pointer-of .ensures) _ (c .before .before .named2 .given .1)) in
     (search needs, search needs, facts .2, (head .0, head .2), fits-as (set-split _ _ _ _ _ _ _ (c .before .before .before .before .pointer-of .ensures) _ (c .before .before .named2 .given .1)) (c .before .before .before .before .before .before .pre .3))
 
--- src/build.rt:66:25
 enum-known-named-3 : tie.Need-enum-known-named-3
 enum-known-named-3 c = search needs
 
--- src/build.rt:66:36
 sparse-set-requires : tie.Need-sparse-set-requires
 sparse-set-requires c κs =
     let facts = sparse-facts _ _ _ (c .before .before .before .before .pointer-of .ensures) _ (c .before .before .named3 .given .1) in
     let valid = read-sparse _ _ _ _ (c .before .before .before .before .before .before .pre .2 .1) _ (coded-sparse _ _ _ (c .before .before .before .before .pointer-of .ensures) _ (c .before .before .named3 .given .1)) .0 in
     (search needs, omega (arith, facts .2), valid, fits-as (set-sparse _ _ _ _ _ _ _ (c .before .before .before .before .pointer-of .ensures) _ (c .before .before .named3 .given .1)) (c .before .before .before .before .before .before .pre .3))
 
--- src/build.rt:56:1
 returns : tie.Need-returns
 returns c = c .chain-over .ensures ∙ sym (set-nothing _ _ _ _ _ _ _ (c .before .before .before .before .pointer-of .ensures) (c .before .before .enum-told .given .1))
 
--- src/build.rt:56:1
 returns-2 : tie.Need-returns-2
 returns-2 c = c .chain-over2 .ensures ∙ sym (set-leaf _ _ _ _ _ _ _ (c .before .before .before .before .pointer-of .ensures) _ (c .before .before .enum-told2 .given .1))
 
--- src/build.rt:56:1
 returns-3 : tie.Need-returns-3
 returns-3 c = c .chain-set .ensures ∙ sym (set-chain _ _ _ _ _ _ _ (c .before .before .before .before .before .pointer-of .ensures) _ _ (c .before .before .before .named .given .1))
 
--- src/build.rt:56:1
 returns-4 : tie.Need-returns-4
 returns-4 c = c .split-set .ensures ∙ sym (set-split _ _ _ _ _ _ _ (c .before .before .before .before .before .pointer-of .ensures) _ (c .before .before .before .named2 .given .1))
 
--- src/build.rt:56:1
 returns-5 : tie.Need-returns-5
 returns-5 c = c .sparse-set .ensures ∙ sym (set-sparse _ _ _ _ _ _ _ (c .before .before .before .before .before .pointer-of .ensures) _ (c .before .before .before .named3 .given .1))
 
--- src/build.rt:56:1
 returns-6 : tie.Need-returns-6
 returns-6 c = set-none _ _ _ _ _ _ (c .before .pointer-of .result) (c .before .pointer-of .ensures) (c .match .keys6)
 

@@ -5,41 +5,28 @@ use Rattle.insertion.proofs.StagedBuild.{aside-leaf, aside-prefix, asid
 use borrow.Author.Needs.{needs}
 use Rattle.insertion.proofs.build.word_aside.Statement.{statement}
 use Rattle.insertion.proofs.build.word_aside.Tie as tie
-use Rattle.insertion.proofs.build.word_aside.Reads as reads
-use Rattle.insertion.proofs.build.word_aside.Lts as lts
-use Rattle.cells.proofs.cell.Reads as cell-reads
-use Rattle.cells.proofs.word_at.Reads as word-at-reads
-use Rattle.nodes.proofs.pointer.pointer_of.Reads as pointer-of-reads
 
--- src/build.rt:47:9
 pointer-of-requires : tie.Need-pointer-of-requires
 pointer-of-requires c κs = search needs
 
--- src/build.rt:49:29
 enum-told : tie.Need-enum-told
 enum-told c = search needs
 
--- src/build.rt:50:25
 enum-known-named : tie.Need-enum-known-named
 enum-known-named c = search needs
 
--- src/build.rt:50:44
 cell-requires : tie.Need-cell-requires
 cell-requires c κs = omega (arith, prefix-facts _ _ _ (c .before .before .before .pointer-of .ensures) _ (c .before .named .given .1) .2)
 
--- src/build.rt:50:36
 word-at-requires : tie.Need-word-at-requires
 word-at-requires c κs = omega (arith, cell-length _ _ _ (c .cell .ensures))
 
--- src/build.rt:43:1
 returns : tie.Need-returns
 returns c = aside-leaf _ _ _ _ (c .before .before .pointer-of .ensures) _ (c .enum-told .given .1)
 
--- src/build.rt:43:1
 returns-2 : tie.Need-returns-2
 returns-2 c = aside-prefix _ _ _ _ (c .before .before .before .before .before .pointer-of .ensures) _ _ _ (c .before .before .before .named .given .1) (c .before .cell .ensures) (c .word-at .ensures)
 
--- src/build.rt:43:1
 returns-3 : tie.Need-returns-3
 returns-3 c = aside-same _ _ _ (c .before .pointer-of .result) (c .before .pointer-of .ensures) (c .match .keys3)
 

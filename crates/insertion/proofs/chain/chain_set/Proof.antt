@@ -6,43 +6,28 @@ use Rattle.insertion.proofs.StagedChains.{chain-same-fits, chain-same-i
 use borrow.Author.Needs.{needs}
 use Rattle.insertion.proofs.chain.chain_set.Statement.{statement}
 use Rattle.insertion.proofs.chain.chain_set.Tie as tie
-use Rattle.insertion.proofs.chain.chain_set.Reads as reads
-use Rattle.insertion.proofs.chain.chain_set.Lts as lts
-use Rattle.cells.proofs.cell.Reads as cell-reads
-use Rattle.insertion.proofs.chain.chain_over.Reads as chain-over-reads
-use Rattle.insertion.proofs.new_cells.put_pair.Reads as put-pair-reads
-use Rattle.insertion.proofs.stage.allocated_as.Reads as allocated-as-reads
-use Rattle.nodes.proofs.chains.chain_child.Reads as chain-child-reads
 
--- src/chain.rt:77:9
 cell-requires : tie.Need-cell-requires
 cell-requires c κs = search needs
 
--- src/chain.rt:78:21
 shared-slice-read-character : tie.Need-shared-slice-read-character
 shared-slice-read-character c = omega (arith, ap length (c .before .cell .ensures), memory-length (c .before .before .before .args .block .now) (c .before .before .before .args .number))
 
--- src/chain.rt:80:9
 chain-over-requires : tie.Need-chain-over-requires
 chain-over-requires c κs = (search needs, chain-same-fits _ _ _ _ _ _ _ _ (c .before .before .before .cell .ensures) (c .before .if1 .taken) (c .before .before .before .before .before .pre .4))
 
--- src/chain.rt:80:9
 returns : tie.Need-returns
 returns c = chain-same-is _ _ _ _ _ _ _ _ (c .before .before .before .before .cell .ensures) _ _ (c .before .before .if1 .taken) (c .chain-over .ensures)
 
--- src/chain.rt:84:9
 chain-child-requires : tie.Need-chain-child-requires
 chain-child-requires c κs = (ap length (c .before .before .cell .ensures) ∙ memory-length _ _, search needs, search needs)
 
--- src/chain.rt:85:5
 put-pair-requires : tie.Need-put-pair-requires
 put-pair-requires c κs = chain-other-fits _ _ _ _ _ _ _ _ (c .before .before .before .before .cell .ensures) (c .before .before .if1 .left) (c .before .before .before .before .before .before .pre .4)
 
--- src/chain.rt:86:5
 allocated-as-requires : tie.Need-allocated-as-requires
 allocated-as-requires c κs = (search needs, search needs, chain-other-fits _ _ _ _ _ _ _ _ (c .before .before .before .before .before .cell .ensures) (c .before .before .before .if1 .left) (c .before .before .before .before .before .before .before .pre .4))
 
--- src/chain.rt:73:1
 returns-2 : tie.Need-returns-2
 returns-2 c = chain-other-is _ _ _ _ _ _ _ _ (c .before .before .before .before .before .before .cell .ensures) _ _ _ (c .before .before .before .before .if1 .left) (c .before .before .before .chain-child .ensures) (c .before .put-pair .ensures) (c .allocated-as .ensures)
 

@@ -3,26 +3,19 @@ use Rattle.insertion.proofs.StagedChains.{room-not-own, room-leaf, room
 use borrow.Author.Needs.{needs}
 use Rattle.insertion.proofs.chain.room_before.Statement.{statement}
 use Rattle.insertion.proofs.chain.room_before.Tie as tie
-use Rattle.insertion.proofs.chain.room_before.Reads as reads
-use Rattle.insertion.proofs.chain.room_before.Lts as lts
 
--- src/chain.rt:27:9
 returns : tie.Need-returns
 returns c = room-not-own _ _ (not-true _ (c .if1 .taken))
 
--- src/chain.rt:30:9
 returns-2 : tie.Need-returns-2
 returns-2 c = room-leaf _ _ (not-false _ (c .before .if1 .left)) (c .if2 .taken)
 
--- src/chain.rt:32:16
 cast-kind : tie.Need-cast-kind
 cast-kind c = search needs
 
--- src/chain.rt:34:9
 returns-3 : tie.Need-returns-3
 returns-3 c = room-no-chain _ _ (not-false _ (c .before .before .if1 .left)) (c .before .if2 .left) (c .if3 .taken)
 
--- src/chain.rt:23:1
 returns-4 : tie.Need-returns-4
 returns-4 c = room-kind _ _ (not-false _ (c .before .before .if1 .left)) (c .before .if2 .left) (c .if3 .left)
 

@@ -2,32 +2,22 @@ use Rattle.insertion.proofs.CellPuts.{put-head-law}
 use borrow.Author.Needs.{needs}
 use Rattle.insertion.proofs.new_cells.put_head.Statement.{statement}
 use Rattle.insertion.proofs.new_cells.put_head.Tie as tie
-use Rattle.insertion.proofs.new_cells.put_head.Reads as reads
-use Rattle.insertion.proofs.new_cells.put_head.Lts as lts
-use Rattle.insertion.proofs.new_cells.put_same_word.Reads as put-same-word-reads
-use Rattle.insertion.proofs.stage.put_blank.Reads as put-blank-reads
 
--- src/new_cells.rt:95:5
 put-blank-requires : tie.Need-put-blank-requires
 put-blank-requires c κs = search needs
 
--- src/new_cells.rt:96:5
 put-same-word-requires : tie.Need-put-same-word-requires
 put-same-word-requires c κs = search needs
 
--- src/new_cells.rt:97:5
 put-same-word-requires-2 : tie.Need-put-same-word-requires-2
 put-same-word-requires-2 c κs = search needs
 
--- src/new_cells.rt:98:5
 put-same-word-requires-3 : tie.Need-put-same-word-requires-3
 put-same-word-requires-3 c κs = search needs
 
--- src/new_cells.rt:99:5
 put-same-word-requires-4 : tie.Need-put-same-word-requires-4
 put-same-word-requires-4 c κs = search needs
 
--- src/new_cells.rt:91:1
 returns : tie.Need-returns
 returns c = put-head-law (c .before .before .before .before .before .before .before .before .put-blank .ensures) _ (c .before .before .before .before .before .before .put-same-word .ensures) (c .before .before .before .before .put-same-word2 .ensures) (c .before .before .put-same-word3 .ensures) (c .put-same-word4 .ensures)
 

@@ -2,28 +2,19 @@ use Rattle.insertion.proofs.CellPuts.{put-word-over}
 use borrow.Author.Needs.{needs}
 use Rattle.insertion.proofs.new_cells.put_head_copy.Statement.{statement}
 use Rattle.insertion.proofs.new_cells.put_head_copy.Tie as tie
-use Rattle.insertion.proofs.new_cells.put_head_copy.Reads as reads
-use Rattle.insertion.proofs.new_cells.put_head_copy.Lts as lts
-use Rattle.insertion.proofs.new_cells.put_head.Reads as put-head-reads
-use Rattle.insertion.proofs.stage.put_word_in.Reads as put-word-in-reads
 
--- src/new_cells.rt:107:5
 put-head-requires : tie.Need-put-head-requires
 put-head-requires c κs = search needs
 
--- src/new_cells.rt:108:33
 mul-put-word-in : tie.Need-mul-put-word-in
 mul-put-word-in c = search needs
 
--- src/new_cells.rt:108:28
 add-put-word-in : tie.Need-add-put-word-in
 add-put-word-in c = search needs
 
--- src/new_cells.rt:108:5
 put-word-in-requires : tie.Need-put-word-in-requires
 put-word-in-requires c κs = search needs
 
--- src/new_cells.rt:103:1
 returns : tie.Need-returns
 returns c = put-word-over _ _ (c .before .before .put-head .ensures) (c .put-word-in .ensures)
 

@@ -2,23 +2,16 @@ use Rattle.insertion.proofs.CellPuts.{put-pair-below, put-pair-above}
 use borrow.Author.Needs.{needs}
 use Rattle.insertion.proofs.new_cells.put_pair.Statement.{statement}
 use Rattle.insertion.proofs.new_cells.put_pair.Tie as tie
-use Rattle.insertion.proofs.new_cells.put_pair.Reads as reads
-use Rattle.insertion.proofs.new_cells.put_pair.Lts as lts
-use Rattle.insertion.proofs.new_cells.put_rising_pair.Reads as put-rising-pair-reads
 
--- src/new_cells.rt:54:9
 put-rising-pair-requires : tie.Need-put-rising-pair-requires
 put-rising-pair-requires c κs = search needs
 
--- src/new_cells.rt:55:9
 returns : tie.Need-returns
 returns c = put-pair-below _ _ _ _ (c .before .before .if1 .taken) (c .put-rising-pair .ensures)
 
--- src/new_cells.rt:57:5
 put-rising-pair-requires-2 : tie.Need-put-rising-pair-requires-2
 put-rising-pair-requires-2 c κs = search needs
 
--- src/new_cells.rt:49:1
 returns-2 : tie.Need-returns-2
 returns-2 c = put-pair-above _ _ _ _ (c .before .before .if1 .left) (c .put-rising-pair2 .ensures)
 

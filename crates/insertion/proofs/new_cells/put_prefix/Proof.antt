@@ -2,29 +2,19 @@ use Rattle.insertion.proofs.CellPuts.{put-prefix-law}
 use borrow.Author.Needs.{needs}
 use Rattle.insertion.proofs.new_cells.put_prefix.Statement.{statement}
 use Rattle.insertion.proofs.new_cells.put_prefix.Tie as tie
-use Rattle.insertion.proofs.new_cells.put_prefix.Reads as reads
-use Rattle.insertion.proofs.new_cells.put_prefix.Lts as lts
-use Rattle.insertion.proofs.stage.put_blank.Reads as put-blank-reads
-use Rattle.insertion.proofs.stage.put_byte.Reads as put-byte-reads
-use Rattle.insertion.proofs.stage.put_word_in.Reads as put-word-in-reads
 
--- src/new_cells.rt:29:5
 put-blank-requires : tie.Need-put-blank-requires
 put-blank-requires c κs = search needs
 
--- src/new_cells.rt:30:5
 put-word-in-requires : tie.Need-put-word-in-requires
 put-word-in-requires c κs = search needs
 
--- src/new_cells.rt:31:5
 put-word-in-requires-2 : tie.Need-put-word-in-requires-2
 put-word-in-requires-2 c κs = search needs
 
--- src/new_cells.rt:32:5
 put-byte-requires : tie.Need-put-byte-requires
 put-byte-requires c κs = search needs
 
--- src/new_cells.rt:25:1
 returns : tie.Need-returns
 returns c = put-prefix-law (c .before .before .before .before .before .before .put-blank .ensures) _ _ (c .before .before .before .before .put-word-in .ensures) (c .before .before .put-word-in2 .ensures) (c .put-byte .ensures)
 

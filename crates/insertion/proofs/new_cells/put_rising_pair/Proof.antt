@@ -2,37 +2,25 @@ use Rattle.insertion.proofs.CellPuts.{put-rising-law}
 use borrow.Author.Needs.{needs}
 use Rattle.insertion.proofs.new_cells.put_rising_pair.Statement.{statement}
 use Rattle.insertion.proofs.new_cells.put_rising_pair.Tie as tie
-use Rattle.insertion.proofs.new_cells.put_rising_pair.Reads as reads
-use Rattle.insertion.proofs.new_cells.put_rising_pair.Lts as lts
-use Rattle.insertion.proofs.stage.put_blank.Reads as put-blank-reads
-use Rattle.insertion.proofs.stage.put_byte.Reads as put-byte-reads
-use Rattle.insertion.proofs.stage.put_word_in.Reads as put-word-in-reads
 
--- src/new_cells.rt:40:5
 put-blank-requires : tie.Need-put-blank-requires
 put-blank-requires c κs = search needs
 
--- src/new_cells.rt:41:5
 put-word-in-requires : tie.Need-put-word-in-requires
 put-word-in-requires c κs = search needs
 
--- src/new_cells.rt:42:5
 put-word-in-requires-2 : tie.Need-put-word-in-requires-2
 put-word-in-requires-2 c κs = search needs
 
--- src/new_cells.rt:43:5
 put-byte-requires : tie.Need-put-byte-requires
 put-byte-requires c κs = search needs
 
--- src/new_cells.rt:44:5
 put-byte-requires-2 : tie.Need-put-byte-requires-2
 put-byte-requires-2 c κs = search needs
 
--- src/new_cells.rt:45:5
 put-byte-requires-3 : tie.Need-put-byte-requires-3
 put-byte-requires-3 c κs = search needs
 
--- src/new_cells.rt:36:1
 returns : tie.Need-returns
 returns c = put-rising-law (c .before .before .before .before .before .before .before .before .before .before .put-blank .ensures) _ _ _ _ (c .before .before .before .before .before .before .before .before .put-word-in .ensures) (c .before .before .before .before .before .before .put-word-in2 .ensures) (c .before .before .before .before .put-byte .ensures) (c .before .before .put-byte2 .ensures) (c .put-byte3 .ensures)
 

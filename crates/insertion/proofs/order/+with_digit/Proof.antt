@@ -25,7 +25,6 @@ abbrev with-digit-below : ℕ → In 1 with-digit-kinds.ps
 with-digit-below t =
     and 1 with-digit-kinds.ps (falls 1 with-digit-kinds.ps _<_ μ-with-digit t) with-digit.Pre
 
--- src/order.rt:25:9
 with-digit-returns :
     (t : ℕ) →
     with-digit-lts.Need-returns
@@ -34,14 +33,12 @@ with-digit-returns :
     with-digit.Post
 with-digit-returns t c = insert-none _ _ _ _ (none-left _ _ (c .if1 .taken))
 
--- src/order.rt:28:9
 with-digit-returns-2 : (t : ℕ) → with-digit-lts.Need-returns-2 (
   with-digit-below t,
   with-digit.Post,
 ) (with-digit-at t) with-digit.Post
 with-digit-returns-2 t c = insert-none _ _ _ _ (none-asked _ _ (c .if2 .taken))
 
--- src/order.rt:31:17
 with-digit-add-if3 :
     (t : ℕ) →
     with-digit-lts.Need-add-if3
@@ -50,63 +47,54 @@ with-digit-add-if3 :
     with-digit.Post
 with-digit-add-if3 t c = search needs
 
--- src/order.rt:31:12
 with-digit-shared-slice-read-if3 : (t : ℕ) → with-digit-lts.Need-shared-slice-read-if3 (
   with-digit-below t,
   with-digit.Post,
 ) (with-digit-at t) with-digit.Post
 with-digit-shared-slice-read-if3 t c = search needs
 
--- src/order.rt:32:16
 with-digit-mul-result : (t : ℕ) → with-digit-lts.Need-mul-result (
   with-digit-below t,
   with-digit.Post,
 ) (with-digit-at t) with-digit.Post
 with-digit-mul-result t c = search needs
 
--- src/order.rt:32:16
 with-digit-add-result : (t : ℕ) → with-digit-lts.Need-add-result (
   with-digit-below t,
   with-digit.Post,
 ) (with-digit-at t) with-digit.Post
 with-digit-add-result t c = search needs
 
--- src/order.rt:32:9
 with-digit-returns-3 : (t : ℕ) → with-digit-lts.Need-returns-3 (
   with-digit-below t,
   with-digit.Post,
 ) (with-digit-at t) with-digit.Post
 with-digit-returns-3 t c = insert-here _ _ _ _ _ _ (c .before .before .before .if1 .left) (left-one _ (c .before .before .if2 .left)) (c .before .before .before .before .before .pre .1 .4) (c .if3 .taken)
 
--- src/order.rt:34:42
 with-digit-sub-with-digit : (t : ℕ) → with-digit-lts.Need-sub-with-digit (
   with-digit-below t,
   with-digit.Post,
 ) (with-digit-at t) with-digit.Post
 with-digit-sub-with-digit t c = search needs
 
--- src/order.rt:34:5
 with-digit-with-digit-requires : (t : ℕ) → with-digit-lts.Need-with-digit-requires (
   with-digit-below t,
   with-digit.Post,
 ) (with-digit-at t) with-digit.Post
 with-digit-with-digit-requires t c κs = (search needs, (search needs, search needs, search needs, search needs, rest-encodes (λ d. d) 0 0 _ _ _ (c .before .before .before .if1 .left) (left-one _ (c .before .before .if2 .left)) (c .before .before .before .before .before .pre .1 .4)))
 
--- src/order.rt:34:5
 with-digit-mul-result-2 : (t : ℕ) → with-digit-lts.Need-mul-result-2 (
   with-digit-below t,
   with-digit.Post,
 ) (with-digit-at t) with-digit.Post
 with-digit-mul-result-2 t c = omega (arith, c .with-digit .ensures, insert-bound (sparseCharacter (c .before .before .before .before .before .before .args .cell .now)) (c .before .before .before .before .before .before .args .x) (c .before .before .before .before .before .before .args .digit) (c .before .before .before .before .before .before .args .left - 1) (c .before .before .before .before .before .before .args .rest / 6) (omega arith) (omega arith))
 
--- src/order.rt:34:5
 with-digit-add-result-2 : (t : ℕ) → with-digit-lts.Need-add-result-2 (
   with-digit-below t,
   with-digit.Post,
 ) (with-digit-at t) with-digit.Post
 with-digit-add-result-2 t c = omega (arith, c .with-digit .ensures, insert-bound (sparseCharacter (c .before .before .before .before .before .before .args .cell .now)) (c .before .before .before .before .before .before .args .x) (c .before .before .before .before .before .before .args .digit) (c .before .before .before .before .before .before .args .left - 1) (c .before .before .before .before .before .before .args .rest / 6) (omega arith) (omega arith))
 
--- src/order.rt:20:1
 with-digit-returns-4 : (t : ℕ) → with-digit-lts.Need-returns-4 (
   with-digit-below t,
   with-digit.Post,

@@ -4,15 +4,10 @@ use Prim.Native.Nat.{ℕ}
 use borrow.Author.Needs.{needs}
 use Rattle.insertion.proofs.prefix.leaf_alone.Statement.{statement}
 use Rattle.insertion.proofs.prefix.leaf_alone.Tie as tie
-use Rattle.insertion.proofs.prefix.leaf_alone.Reads as reads
-use Rattle.insertion.proofs.prefix.leaf_alone.Lts as lts
-use Rattle.nodes.proofs.pointer.leaf_word.Reads as leaf-word-reads
 
--- src/prefix.rt:50:9
 leaf-word-requires : tie.Need-leaf-word-requires
 leaf-word-requires c κs = search needs
 
--- src/prefix.rt:47:1
 returns : tie.Need-returns
 returns c = ap (λ (w : ℕ). record { word = w; own = false; count = 0 }) (c .leaf-word .ensures)
 

@@ -2,20 +2,13 @@ use Rattle.insertion.proofs.StageLaws.{put-allocate}
 use borrow.Author.Needs.{needs}
 use Rattle.insertion.proofs.prefix.new_prefix.Statement.{statement}
 use Rattle.insertion.proofs.prefix.new_prefix.Tie as tie
-use Rattle.insertion.proofs.prefix.new_prefix.Reads as reads
-use Rattle.insertion.proofs.prefix.new_prefix.Lts as lts
-use Rattle.insertion.proofs.new_cells.put_prefix.Reads as put-prefix-reads
-use Rattle.insertion.proofs.stage.allocated_as.Reads as allocated-as-reads
 
--- src/prefix.rt:29:5
 put-prefix-requires : tie.Need-put-prefix-requires
 put-prefix-requires c κs = search needs
 
--- src/prefix.rt:30:5
 allocated-as-requires : tie.Need-allocated-as-requires
 allocated-as-requires c κs = search needs
 
--- src/prefix.rt:25:1
 returns : tie.Need-returns
 returns c = put-allocate (c .before .put-prefix .ensures) _ _ _ (c .allocated-as .ensures)
 

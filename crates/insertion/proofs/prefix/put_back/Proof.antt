@@ -2,27 +2,19 @@ use Rattle.insertion.proofs.StagedEnds.{back-fits, back-held, back-empt
 use borrow.Author.Needs.{needs}
 use Rattle.insertion.proofs.prefix.put_back.Statement.{statement}
 use Rattle.insertion.proofs.prefix.put_back.Tie as tie
-use Rattle.insertion.proofs.prefix.put_back.Reads as reads
-use Rattle.insertion.proofs.prefix.put_back.Lts as lts
-use Rattle.insertion.proofs.prefix.new_prefix.Reads as new-prefix-reads
 
--- src/prefix.rt:41:21
 enum-known-held : tie.Need-enum-known-held
 enum-known-held c = search needs
 
--- src/prefix.rt:41:31
 new-prefix-requires : tie.Need-new-prefix-requires
 new-prefix-requires c κs = (search needs, back-fits _ _ _ _ _ _ (c .before .before .held .given .1) (c .before .before .before .before .pre .1))
 
--- src/prefix.rt:42:25
 enum-told : tie.Need-enum-told
 enum-told c = search needs
 
--- src/prefix.rt:34:1
 returns : tie.Need-returns
 returns c = back-held _ _ _ _ _ _ _ (c .before .before .before .held .given .1) (c .new-prefix .ensures)
 
--- src/prefix.rt:34:1
 returns-2 : tie.Need-returns-2
 returns-2 c = back-empty _ _ _ _ _ (c .enum-told .given .1)
 

@@ -11,9 +11,6 @@ use Rattle.insertion.proofs.StagedRows.{Making, making-start}
 use Rattle.insertion.proofs.StagedSplitOf.{endSlot, end-fits, end-more, mid-fits, mid-is}
 use Rattle.insertion.proofs.rows.mid_row.Statement.{statement}
 use Rattle.insertion.proofs.rows.mid_row.Tie as tie
-use Rattle.insertion.proofs.rows.mid_row.Reads as reads
-use Rattle.insertion.proofs.rows.mid_row.Lts as lts
-use Rattle.insertion.proofs.rows.table_row.Reads as table-row-reads
 
 abbrev Inv-loop : tie.InvT-loop
 Inv-loop layout numbers free stage₀ children i count ends₀ at₀ j₀ stage ends at j =
@@ -24,55 +21,42 @@ Inv-loop layout numbers free stage₀ children i count ends₀ at₀ j₀ stage 
 abbrev μ-loop : tie.MeasureT-loop
 μ-loop layout numbers free stage₀ children i count ends₀ at₀ j₀ stage ends at j = 8 - j
 
--- src/rows.rt:63:5
 loop-holds : tie.Need-loop-holds Inv-loop μ-loop
 loop-holds c = (omega arith, refl, making-start _ _ _)
 
--- src/rows.rt:64:69
 mul-table-row : tie.Need-mul-table-row Inv-loop μ-loop
 mul-table-row c = search needs
 
--- src/rows.rt:64:78
 mul-table-row-2 : tie.Need-mul-table-row-2 Inv-loop μ-loop
 mul-table-row-2 c = search needs
 
--- src/rows.rt:64:69
 add-table-row : tie.Need-add-table-row Inv-loop μ-loop
 add-table-row c = search needs
 
--- src/rows.rt:64:13
 table-row-requires : tie.Need-table-row-requires Inv-loop μ-loop
 table-row-requires c κs = (search needs, omega arith, end-fits _ _ _ _ _ _ _ _ (c .before .before .before .loop .inv .2) (7 - c .before .before .before .loop .j) (c .before .before .before .before .pre .2) (omega arith))
 
--- src/rows.rt:65:9
 mul-ends : tie.Need-mul-ends Inv-loop μ-loop
 mul-ends c = search needs
 
--- src/rows.rt:65:9
 array-write-ends : tie.Need-array-write-ends Inv-loop μ-loop
 array-write-ends c = search needs
 
--- src/rows.rt:67:9
 add-j : tie.Need-add-j Inv-loop μ-loop
 add-j c = search needs
 
--- src/rows.rt:63:5
 loop-less : tie.Need-loop-less Inv-loop μ-loop
 loop-less c = search needs
 
--- src/rows.rt:63:5
 loop-again : tie.Need-loop-again Inv-loop μ-loop
 loop-again c = (omega arith, search needs, end-more _ _ _ _ _ _ _ _ (c .before .before .before .before .loop .inv .2) _ _ _ (c .table-row .ensures) (omega arith) (omega arith))
 
--- src/rows.rt:69:45
 slice-aggregate-table-row : tie.Need-slice-aggregate-table-row Inv-loop μ-loop
 slice-aggregate-table-row c = search needs
 
--- src/rows.rt:69:5
 table-row-requires-2 : tie.Need-table-row-requires-2 Inv-loop μ-loop
 table-row-requires-2 c κs = (search needs, omega arith, mid-fits _ _ _ _ _ _ _ _ (c .before .before .before .loop .inv .2) (omega arith) (omega arith) (c .before .before .before .before .pre .2))
 
--- src/rows.rt:56:1
 returns : tie.Need-returns Inv-loop μ-loop
 returns c = mid-is _ _ _ _ _ _ _ _ (c .before .before .before .before .loop .inv .2) _ _ (omega arith) (omega arith) (c .table-row2 .ensures)
 

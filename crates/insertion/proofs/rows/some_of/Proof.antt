@@ -8,8 +8,6 @@ use Rattle.nodes.specs.Sparse.{someWord}
 use Rattle.nodes.proofs.WordRows.{some-stop, some-found, some-step}
 use Rattle.insertion.proofs.rows.some_of.Statement.{statement}
 use Rattle.insertion.proofs.rows.some_of.Tie as tie
-use Rattle.insertion.proofs.rows.some_of.Reads as reads
-use Rattle.insertion.proofs.rows.some_of.Lts as lts
 
 abbrev Inv-loop : tie.InvT-loop
 Inv-loop words base k₀ k =
@@ -18,39 +16,30 @@ Inv-loop words base k₀ k =
 abbrev μ-loop : tie.MeasureT-loop
 μ-loop words base k₀ k = 8 - k
 
--- src/rows.rt:26:5
 loop-holds : tie.Need-loop-holds Inv-loop μ-loop
 loop-holds c = (omega arith, refl)
 
--- src/rows.rt:27:26
 add-word : tie.Need-add-word Inv-loop μ-loop
 add-word c = search needs
 
--- src/rows.rt:27:20
 mul-word : tie.Need-mul-word Inv-loop μ-loop
 mul-word c = search needs
 
--- src/rows.rt:27:20
 shared-slice-read-word : tie.Need-shared-slice-read-word Inv-loop μ-loop
 shared-slice-read-word c = search needs
 
--- src/rows.rt:29:13
 returns : tie.Need-returns Inv-loop μ-loop
 returns c = sym (c .before .before .before .loop .inv .1 ∙ some-found _ _ (7 - c .before .before .before .loop .k) _ _ refl (c .if1 .taken) (omega arith))
 
--- src/rows.rt:31:9
 add-k : tie.Need-add-k Inv-loop μ-loop
 add-k c = search needs
 
--- src/rows.rt:26:5
 loop-less : tie.Need-loop-less Inv-loop μ-loop
 loop-less c = search needs
 
--- src/rows.rt:26:5
 loop-again : tie.Need-loop-again Inv-loop μ-loop
 loop-again c = (omega arith, c .before .before .before .loop .inv .1 ∙ some-step _ _ _ _ _ refl (c .if1 .left) (omega arith))
 
--- src/rows.rt:21:1
 returns-2 : tie.Need-returns-2 Inv-loop μ-loop
 returns-2 c = sym (c .before .loop .inv .1 ∙ some-stop _ _ _ (omega arith))
 

@@ -11,11 +11,6 @@ use Rattle.insertion.proofs.StagedRows.{Making, making-start}
 use Rattle.insertion.proofs.StagedSplitOf.{midSlot, mids-first-fits, mids-more, head-fits, split-of-is}
 use Rattle.insertion.proofs.rows.split_of.Statement.{statement}
 use Rattle.insertion.proofs.rows.split_of.Tie as tie
-use Rattle.insertion.proofs.rows.split_of.Reads as reads
-use Rattle.insertion.proofs.rows.split_of.Lts as lts
-use Rattle.insertion.proofs.new_cells.put_words.Reads as put-words-reads
-use Rattle.insertion.proofs.rows.mid_row.Reads as mid-row-reads
-use Rattle.insertion.proofs.stage.allocated_as.Reads as allocated-as-reads
 
 abbrev Inv-loop : tie.InvT-loop
 Inv-loop layout numbers free stage₀ children count mids₀ at₀ i₀ stage mids at i =
@@ -26,51 +21,39 @@ Inv-loop layout numbers free stage₀ children count mids₀ at₀ i₀ stage mi
 abbrev μ-loop : tie.MeasureT-loop
 μ-loop layout numbers free stage₀ children count mids₀ at₀ i₀ stage mids at i = 4 - i
 
--- src/rows.rt:80:5
 loop-holds : tie.Need-loop-holds Inv-loop μ-loop
 loop-holds c = (omega arith, refl, making-start _ _ _)
 
--- src/rows.rt:81:13
 mid-row-requires : tie.Need-mid-row-requires Inv-loop μ-loop
 mid-row-requires c κs = (search needs, omega arith, mids-first-fits _ _ _ _ _ _ _ (c .before .before .loop .inv .2) (3 - c .before .before .loop .i) (c .before .before .before .pre .1) (omega arith))
 
--- src/rows.rt:82:14
 add-mids : tie.Need-add-mids Inv-loop μ-loop
 add-mids c = search needs
 
--- src/rows.rt:82:9
 mul-mids : tie.Need-mul-mids Inv-loop μ-loop
 mul-mids c = search needs
 
--- src/rows.rt:82:9
 array-write-mids : tie.Need-array-write-mids Inv-loop μ-loop
 array-write-mids c = search needs
 
--- src/rows.rt:84:9
 add-i : tie.Need-add-i Inv-loop μ-loop
 add-i c = search needs
 
--- src/rows.rt:80:5
 loop-less : tie.Need-loop-less Inv-loop μ-loop
 loop-less c = search needs
 
--- src/rows.rt:80:5
 loop-again : tie.Need-loop-again Inv-loop μ-loop
 loop-again c = (omega arith, search needs, mids-more _ _ _ _ _ _ _ (c .before .before .before .loop .inv .2) _ _ _ (c .mid-row .ensures) (omega arith) (omega arith))
 
--- src/rows.rt:86:26
 slice-aggregate-put-words : tie.Need-slice-aggregate-put-words Inv-loop μ-loop
 slice-aggregate-put-words c = search needs
 
--- src/rows.rt:86:5
 put-words-requires : tie.Need-put-words-requires Inv-loop μ-loop
 put-words-requires c κs = (head-fits _ _ _ _ _ _ _ (c .before .before .before .loop .inv .2) _ _ refl (omega arith) (c .before .before .before .before .pre .1), omega arith, omega arith)
 
--- src/rows.rt:87:5
 allocated-as-requires : tie.Need-allocated-as-requires Inv-loop μ-loop
 allocated-as-requires c κs = (search needs, omega arith, head-fits _ _ _ _ _ _ _ (c .before .before .before .before .loop .inv .2) _ _ refl (omega arith) (c .before .before .before .before .before .pre .1))
 
--- src/rows.rt:73:1
 returns : tie.Need-returns Inv-loop μ-loop
 returns c = split-of-is _ _ _ _ _ _ _ (c .before .before .before .before .before .loop .inv .2) _ _ _ _ refl (omega arith) (omega arith) (c .before .put-words .ensures) (c .allocated-as .ensures)
 

@@ -3,29 +3,19 @@ use Rattle.insertion.proofs.StagedRows.{table-none, table-fits, table-s
 use borrow.Author.Needs.{needs}
 use Rattle.insertion.proofs.rows.table_row.Statement.{statement}
 use Rattle.insertion.proofs.rows.table_row.Tie as tie
-use Rattle.insertion.proofs.rows.table_row.Reads as reads
-use Rattle.insertion.proofs.rows.table_row.Lts as lts
-use Rattle.insertion.proofs.new_cells.put_words.Reads as put-words-reads
-use Rattle.insertion.proofs.rows.some_of.Reads as some-of-reads
-use Rattle.insertion.proofs.stage.allocated_as.Reads as allocated-as-reads
 
--- src/rows.rt:41:9
 some-of-requires : tie.Need-some-of-requires
 some-of-requires c κs = search needs
 
--- src/rows.rt:42:9
 returns : tie.Need-returns
 returns c = table-none _ _ _ (c .before .some-of .ensures) _ (not-true _ (c .if1 .taken))
 
--- src/rows.rt:47:5
 put-words-requires : tie.Need-put-words-requires
 put-words-requires c κs = (table-fits _ _ _ (c .before .before .some-of .ensures) _ _ (not-false _ (c .before .if1 .left)) (c .before .before .before .before .pre .2), search needs, search needs)
 
--- src/rows.rt:48:9
 allocated-as-requires : tie.Need-allocated-as-requires
 allocated-as-requires c κs = (search needs, search needs, table-fits _ _ _ (c .before .before .before .some-of .ensures) _ _ (not-false _ (c .before .before .if1 .left)) (c .before .before .before .before .before .pre .2))
 
--- src/rows.rt:37:1
 returns-2 : tie.Need-returns-2
 returns-2 c = table-some _ _ _ (c .before .before .before .before .some-of .ensures) _ _ _ _ (not-false _ (c .before .before .before .if1 .left)) (c .before .put-words .ensures) (c .allocated-as .ensures)
 

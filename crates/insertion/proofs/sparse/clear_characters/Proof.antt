@@ -8,9 +8,6 @@ use Rattle.insertion.proofs.CellPuts.{Filling}
 use Rattle.insertion.proofs.SparsePuts.{clearing-start, clearing-more, clearing-end}
 use Rattle.insertion.proofs.sparse.clear_characters.Statement.{statement}
 use Rattle.insertion.proofs.sparse.clear_characters.Tie as tie
-use Rattle.insertion.proofs.sparse.clear_characters.Reads as reads
-use Rattle.insertion.proofs.sparse.clear_characters.Lts as lts
-use Rattle.insertion.proofs.stage.put_byte.Reads as put-byte-reads
 
 abbrev Inv-loop : tie.InvT-loop
 Inv-loop stage₀ at from position₀ stage position =
@@ -19,31 +16,24 @@ Inv-loop stage₀ at from position₀ stage position =
 abbrev μ-loop : tie.MeasureT-loop
 μ-loop stage₀ at from position₀ stage position = 6 - position
 
--- src/sparse.rt:23:5
 loop-holds : tie.Need-loop-holds Inv-loop μ-loop
 loop-holds c = clearing-start _ _ _
 
--- src/sparse.rt:24:29
 add-put-byte : tie.Need-add-put-byte Inv-loop μ-loop
 add-put-byte c = search needs
 
--- src/sparse.rt:24:9
 put-byte-requires : tie.Need-put-byte-requires Inv-loop μ-loop
 put-byte-requires c κs = search needs
 
--- src/sparse.rt:25:9
 add-position : tie.Need-add-position Inv-loop μ-loop
 add-position c = search needs
 
--- src/sparse.rt:23:5
 loop-less : tie.Need-loop-less Inv-loop μ-loop
 loop-less c = search needs
 
--- src/sparse.rt:23:5
 loop-again : tie.Need-loop-again Inv-loop μ-loop
 loop-again c = clearing-more _ _ _ _ _ _ _ _ (c .before .before .before .loop .inv) (c .put-byte .ensures) (omega arith)
 
--- src/sparse.rt:18:1
 returns : tie.Need-returns Inv-loop μ-loop
 returns c = clearing-end _ _ _ _ _ _ (c .before .loop .inv) (omega arith)
 

@@ -2,27 +2,19 @@ use Rattle.insertion.proofs.SparsePuts.{put-order-law}
 use borrow.Author.Needs.{needs}
 use Rattle.insertion.proofs.sparse.put_order.Statement.{statement}
 use Rattle.insertion.proofs.sparse.put_order.Tie as tie
-use Rattle.insertion.proofs.sparse.put_order.Reads as reads
-use Rattle.insertion.proofs.sparse.put_order.Lts as lts
-use Rattle.insertion.proofs.stage.put_byte.Reads as put-byte-reads
 
--- src/sparse.rt:53:29
 cast-put-byte : tie.Need-cast-put-byte
 cast-put-byte c = search needs
 
--- src/sparse.rt:53:5
 put-byte-requires : tie.Need-put-byte-requires
 put-byte-requires c κs = search needs
 
--- src/sparse.rt:54:29
 cast-put-byte-2 : tie.Need-cast-put-byte-2
 cast-put-byte-2 c = search needs
 
--- src/sparse.rt:54:5
 put-byte-requires-2 : tie.Need-put-byte-requires-2
 put-byte-requires-2 c κs = search needs
 
--- src/sparse.rt:49:1
 returns : tie.Need-returns
 returns c = put-order-law _ (c .before .before .put-byte .ensures) (c .put-byte2 .ensures)
 

@@ -5,30 +5,19 @@ use Rattle.insertion.proofs.SparsePuts.{put-sparse-law}
 use borrow.Author.Needs.{needs}
 use Rattle.insertion.proofs.sparse.put_sparse.Statement.{statement}
 use Rattle.insertion.proofs.sparse.put_sparse.Tie as tie
-use Rattle.insertion.proofs.sparse.put_sparse.Reads as reads
-use Rattle.insertion.proofs.sparse.put_sparse.Lts as lts
-use Rattle.cells.proofs.cell.Reads as cell-reads
-use Rattle.insertion.proofs.sparse.clear_characters.Reads as clear-characters-reads
-use Rattle.insertion.proofs.stage.put_copy.Reads as put-copy-reads
-use Rattle.nodes.proofs.sparse.sparse_count.Reads as sparse-count-reads
 
--- src/sparse.rt:34:30
 cell-requires : tie.Need-cell-requires
 cell-requires c κs = search needs
 
--- src/sparse.rt:34:9
 sparse-count-requires : tie.Need-sparse-count-requires
 sparse-count-requires c κs = ap length (c .cell .ensures) ∙ memory-length _ _
 
--- src/sparse.rt:35:5
 put-copy-requires : tie.Need-put-copy-requires
 put-copy-requires c κs = search needs
 
--- src/sparse.rt:36:5
 clear-characters-requires : tie.Need-clear-characters-requires
 clear-characters-requires c κs = search needs
 
--- src/sparse.rt:30:1
 returns : tie.Need-returns
 returns c = put-sparse-law _ _ _ _ (c .before .before .before .before .before .cell .ensures) (c .before .before .before .before .sparse-count .ensures) (c .before .before .put-copy .ensures) (c .clear-characters .ensures)
 

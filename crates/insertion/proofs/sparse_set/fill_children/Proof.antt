@@ -8,9 +8,6 @@ use Rattle.nodes.specs.Sparse.{sparseChild}
 use Rattle.insertion.proofs.StagedSparse.{fill-next, fill-one}
 use Rattle.insertion.proofs.sparse_set.fill_children.Statement.{statement}
 use Rattle.insertion.proofs.sparse_set.fill_children.Tie as tie
-use Rattle.insertion.proofs.sparse_set.fill_children.Reads as reads
-use Rattle.insertion.proofs.sparse_set.fill_children.Lts as lts
-use Rattle.nodes.proofs.sparse.sparse_child.Reads as sparse-child-reads
 
 abbrev Inv-loop : tie.InvT-loop
 Inv-loop children₀ cell x word y₀ children y =
@@ -19,51 +16,39 @@ Inv-loop children₀ cell x word y₀ children y =
 abbrev μ-loop : tie.MeasureT-loop
 μ-loop children₀ cell x word y₀ children y = 256 - y
 
--- src/sparse_set.rt:43:5
 loop-holds : tie.Need-loop-holds Inv-loop μ-loop
 loop-holds c = (omega arith, refl, λ q below. absurd (omega arith))
 
--- src/sparse_set.rt:44:40
 cast-sparse-child : tie.Need-cast-sparse-child Inv-loop μ-loop
 cast-sparse-child c = search needs
 
--- src/sparse_set.rt:44:13
 sparse-child-requires : tie.Need-sparse-child-requires Inv-loop μ-loop
 sparse-child-requires c κs = search needs
 
--- src/sparse_set.rt:45:9
 mul-children : tie.Need-mul-children Inv-loop μ-loop
 mul-children c = search needs
 
--- src/sparse_set.rt:45:9
 slice-write-children : tie.Need-slice-write-children Inv-loop μ-loop
 slice-write-children c = search needs
 
--- src/sparse_set.rt:46:9
 add-y : tie.Need-add-y Inv-loop μ-loop
 add-y c = search needs
 
--- src/sparse_set.rt:43:5
 loop-less : tie.Need-loop-less Inv-loop μ-loop
 loop-less c = search needs
 
--- src/sparse_set.rt:43:5
 loop-again : tie.Need-loop-again Inv-loop μ-loop
 loop-again c = (omega arith, search needs, fill-next (c .before .before .loop .children) _ (c .before .before .loop .y) _ (c .before .before .loop .inv .2) (c .sparse-child .ensures) (omega arith))
 
--- src/sparse_set.rt:48:5
 mul-children-2 : tie.Need-mul-children-2 Inv-loop μ-loop
 mul-children-2 c = search needs
 
--- src/sparse_set.rt:48:5
 slice-write-children-2 : tie.Need-slice-write-children-2 Inv-loop μ-loop
 slice-write-children-2 c = search needs
 
--- src/sparse_set.rt:38:1
 same-length : tie.Need-same-length Inv-loop μ-loop
 same-length c = search needs
 
--- src/sparse_set.rt:38:1
 returns : tie.Need-returns Inv-loop μ-loop
 returns c = fill-one (c .before .loop .children) _ (c .before .loop .y) (c .before .before .before .before .args .x) _ (c .before .loop .inv .2) (omega (arith, c .before .before .before .before .fits .x)) (omega arith)
 

@@ -9,9 +9,6 @@ use Rattle.nodes.proofs.SparseSteps.{count-small}
 use Rattle.insertion.proofs.StagedSparse.{position-here, position-later, position-among, position-past}
 use Rattle.insertion.proofs.sparse_set.position_of.Statement.{statement}
 use Rattle.insertion.proofs.sparse_set.position_of.Tie as tie
-use Rattle.insertion.proofs.sparse_set.position_of.Reads as reads
-use Rattle.insertion.proofs.sparse_set.position_of.Lts as lts
-use Rattle.nodes.proofs.sparse.sparse_count.Reads as sparse-count-reads
 
 abbrev Inv-loop : tie.InvT-loop
 Inv-loop cell x count position₀ position =
@@ -20,39 +17,30 @@ Inv-loop cell x count position₀ position =
 abbrev μ-loop : tie.MeasureT-loop
 μ-loop cell x count position₀ position = count - position
 
--- src/sparse_set.rt:26:9
 sparse-count-requires : tie.Need-sparse-count-requires Inv-loop μ-loop
 sparse-count-requires c κs = search needs
 
--- src/sparse_set.rt:28:5
 loop-holds : tie.Need-loop-holds Inv-loop μ-loop
 loop-holds c = (omega arith, rw sub-zero)
 
--- src/sparse_set.rt:29:22
 add-if1 : tie.Need-add-if1 Inv-loop μ-loop
 add-if1 c = omega (arith, c .before .before .sparse-count .ensures, count-small (c .before .before .before .before .args .cell .now))
 
--- src/sparse_set.rt:29:17
 shared-slice-read-if1 : tie.Need-shared-slice-read-if1 Inv-loop μ-loop
 shared-slice-read-if1 c = omega (arith, c .before .before .before .sparse-count .ensures, count-small (c .before .before .before .before .before .args .cell .now))
 
--- src/sparse_set.rt:30:13
 returns : tie.Need-returns Inv-loop μ-loop
 returns c = position-among _ _ _ _ (c .before .before .before .before .sparse-count .ensures) (c .before .before .before .loop .inv .1 ∙ position-here _ _ _ (c .before .before .before .before .sparse-count .result - c .before .before .before .loop .position - 1) _ (c .if1 .taken) (omega arith))
 
--- src/sparse_set.rt:32:9
 add-position : tie.Need-add-position Inv-loop μ-loop
 add-position c = search needs
 
--- src/sparse_set.rt:28:5
 loop-less : tie.Need-loop-less Inv-loop μ-loop
 loop-less c = search needs
 
--- src/sparse_set.rt:28:5
 loop-again : tie.Need-loop-again Inv-loop μ-loop
 loop-again c = (omega arith, c .before .before .before .loop .inv .1 ∙ position-later _ _ _ _ _ (c .if1 .left) (omega arith))
 
--- src/sparse_set.rt:22:1
 returns-2 : tie.Need-returns-2 Inv-loop μ-loop
 returns-2 c = position-among _ _ _ _ (c .before .before .sparse-count .ensures) (c .before .loop .inv .1 ∙ position-past _ _ _ _ (omega arith))
 

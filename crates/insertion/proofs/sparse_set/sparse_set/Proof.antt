@@ -8,66 +8,43 @@ use Rattle.insertion.proofs.StagedSparse.{replaced-fits, replaced-is, a
 use borrow.Author.Needs.{needs}
 use Rattle.insertion.proofs.sparse_set.sparse_set.Statement.{statement}
 use Rattle.insertion.proofs.sparse_set.sparse_set.Tie as tie
-use Rattle.insertion.proofs.sparse_set.sparse_set.Reads as reads
-use Rattle.insertion.proofs.sparse_set.sparse_set.Lts as lts
-use Rattle.cells.proofs.cell.Reads as cell-reads
-use Rattle.insertion.proofs.rows.split_of.Reads as split-of-reads
-use Rattle.insertion.proofs.sparse.put_appended.Reads as put-appended-reads
-use Rattle.insertion.proofs.sparse.put_replaced.Reads as put-replaced-reads
-use Rattle.insertion.proofs.sparse_set.fill_children.Reads as fill-children-reads
-use Rattle.insertion.proofs.sparse_set.position_of.Reads as position-of-reads
-use Rattle.insertion.proofs.stage.allocated_as.Reads as allocated-as-reads
-use Rattle.nodes.proofs.sparse.sparse_count.Reads as sparse-count-reads
 
--- src/sparse_set.rt:58:9
 cell-requires : tie.Need-cell-requires
 cell-requires c κs = search needs
 
--- src/sparse_set.rt:59:9
 sparse-count-requires : tie.Need-sparse-count-requires
 sparse-count-requires c κs = ap length (c .cell .ensures) ∙ memory-length _ _
 
--- src/sparse_set.rt:60:9
 position-of-requires : tie.Need-position-of-requires
 position-of-requires c κs = ap length (c .before .cell .ensures) ∙ memory-length _ _
 
--- src/sparse_set.rt:62:9
 put-replaced-requires : tie.Need-put-replaced-requires
 put-replaced-requires c κs = (replaced-fits _ _ _ _ _ _ _ _ _ (c .before .before .before .before .cell .ensures) (c .before .before .before .sparse-count .ensures) (c .before .before .position-of .ensures) (c .before .if1 .taken) (c .before .before .before .before .before .before .pre .3), search needs, omega (arith, c .before .before .before .sparse-count .ensures, count-small (c .before .before .before .before .cell .result .now)))
 
--- src/sparse_set.rt:63:9
 allocated-as-requires : tie.Need-allocated-as-requires
 allocated-as-requires c κs = (search needs, search needs, replaced-fits _ _ _ _ _ _ _ _ _ (c .before .before .before .before .before .cell .ensures) (c .before .before .before .before .sparse-count .ensures) (c .before .before .before .position-of .ensures) (c .before .before .if1 .taken) (c .before .before .before .before .before .before .before .pre .3))
 
--- src/sparse_set.rt:63:9
 returns : tie.Need-returns
 returns c = replaced-is _ _ _ _ _ _ _ _ _ (c .before .before .before .before .before .before .cell .ensures) (c .before .before .before .before .before .sparse-count .ensures) (c .before .before .before .before .position-of .ensures) _ _ (c .before .before .before .if1 .taken) (c .before .put-replaced .ensures) (c .allocated-as .ensures)
 
--- src/sparse_set.rt:66:9
 put-appended-requires : tie.Need-put-appended-requires
 put-appended-requires c κs = (appended-fits _ _ _ _ _ _ _ _ _ (c .before .before .before .before .before .cell .ensures) (c .before .before .before .before .sparse-count .ensures) (c .before .before .before .position-of .ensures) (c .before .before .if1 .left) (c .before .if2 .taken) (c .before .before .before .before .before .before .before .pre .3), search needs, c .before .before .before .before .before .before .before .pre .2, omega (arith, c .before .before .before .before .sparse-count .ensures, ap sparseCount (c .before .before .before .before .before .cell .ensures)))
 
--- src/sparse_set.rt:67:9
 allocated-as-requires-2 : tie.Need-allocated-as-requires-2
 allocated-as-requires-2 c κs = (search needs, search needs, appended-fits _ _ _ _ _ _ _ _ _ (c .before .before .before .before .before .before .cell .ensures) (c .before .before .before .before .before .sparse-count .ensures) (c .before .before .before .before .position-of .ensures) (c .before .before .before .if1 .left) (c .before .before .if2 .taken) (c .before .before .before .before .before .before .before .before .pre .3))
 
--- src/sparse_set.rt:67:9
 returns-2 : tie.Need-returns-2
 returns-2 c = appended-is _ _ _ _ _ _ _ _ _ (c .before .before .before .before .before .before .before .cell .ensures) (c .before .before .before .before .before .before .sparse-count .ensures) (c .before .before .before .before .before .position-of .ensures) _ _ (c .before .before .before .before .if1 .left) (c .before .before .before .if2 .taken) (c .before .put-appended .ensures) (c .allocated-as2 .ensures)
 
--- src/sparse_set.rt:70:19
 slice-aggregate-fill-children : tie.Need-slice-aggregate-fill-children
 slice-aggregate-fill-children c = search needs
 
--- src/sparse_set.rt:70:5
 fill-children-requires : tie.Need-fill-children-requires
 fill-children-requires c κs = (search needs, ap length (c .before .before .before .before .before .cell .ensures) ∙ memory-length _ _)
 
--- src/sparse_set.rt:71:5
 split-of-requires : tie.Need-split-of-requires
 split-of-requires c κs = (search needs, seventh-fits _ _ _ _ _ _ _ _ _ (c .before .before .before .before .before .before .before .before .before .cell .ensures) (c .before .before .before .before .before .before .before .before .sparse-count .ensures) (c .before .before .before .before .before .before .before .position-of .ensures) _ (c .before .before .before .before .before .before .if1 .left) (c .before .before .before .before .before .if2 .left) (c .before .before .before .fill-children .ensures) (c .before .before .before .before .before .before .before .before .before .before .before .pre .3))
 
--- src/sparse_set.rt:52:1
 returns-3 : tie.Need-returns-3
 returns-3 c = seventh-is _ _ _ _ _ _ _ _ _ (c .before .before .before .before .before .before .before .before .before .before .cell .ensures) (c .before .before .before .before .before .before .before .before .before .sparse-count .ensures) (c .before .before .before .before .before .before .before .before .position-of .ensures) _ _ (c .before .before .before .before .before .before .before .if1 .left) (c .before .before .before .before .before .before .if2 .left) (c .before .before .before .before .fill-children .ensures) (c .split-of .ensures)
 

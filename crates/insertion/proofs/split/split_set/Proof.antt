@@ -4,62 +4,43 @@ use Rattle.insertion.proofs.StagedSplits.{mid-word-inside, end-word-ins
 use borrow.Author.Needs.{needs}
 use Rattle.insertion.proofs.split.split_set.Statement.{statement}
 use Rattle.insertion.proofs.split.split_set.Tie as tie
-use Rattle.insertion.proofs.split.split_set.Reads as reads
-use Rattle.insertion.proofs.split.split_set.Lts as lts
-use Rattle.cells.proofs.word_at.Reads as word-at-reads
-use Rattle.insertion.proofs.split.head_set.Reads as head-set-reads
-use Rattle.insertion.proofs.split.table_set.Reads as table-set-reads
-use Rattle.insertion.proofs.split.word_below.Reads as word-below-reads
 
--- src/split.rt:57:16
 cast-high : tie.Need-cast-high
 cast-high c = search needs
 
--- src/split.rt:58:18
 cast-middle : tie.Need-cast-middle
 cast-middle c = search needs
 
--- src/split.rt:59:15
 cast-low : tie.Need-cast-low
 cast-low c = search needs
 
--- src/split.rt:62:30
 mul-word-at : tie.Need-mul-word-at
 mul-word-at c = search needs
 
--- src/split.rt:62:50
 mul-word-at-2 : tie.Need-mul-word-at-2
 mul-word-at-2 c = search needs
 
--- src/split.rt:62:45
 add-word-at : tie.Need-add-word-at
 add-word-at c = search needs
 
--- src/split.rt:62:30
 add-word-at-2 : tie.Need-add-word-at-2
 add-word-at-2 c = search needs
 
--- src/split.rt:62:9
 word-at-requires : tie.Need-word-at-requires
 word-at-requires c κs = search needs
 
--- src/split.rt:63:9
 word-below-requires : tie.Need-word-below-requires
 word-below-requires c κs = (mid-word-inside _ _ _ (c .before .before .pre .0 .some) (c .before .before .pre .1) _ _ (c .before .before .pre .3 .1) (c .before .before .args .x / 64) _ (omega arith) (head-word-read _ _ (c .before .before .args .x / 64) _ (omega arith) (c .word-at .ensures)), omega arith)
 
--- src/split.rt:64:9
 table-set-requires : tie.Need-table-set-requires
 table-set-requires c κs = (search needs, end-word-inside _ _ _ (c .before .before .before .before .pre .0 .some) (c .before .before .before .before .pre .1) _ _ (c .before .before .before .before .pre .3 .1) (c .before .before .before .before .args .x / 64) (c .before .before .before .before .args .x / 8 % 8) _ _ (omega arith) (omega arith) (head-word-read _ _ (c .before .before .before .before .args .x / 64) _ (omega arith) (c .before .before .word-at .ensures)) (c .before .word-below .ensures), omega arith, omega (arith, split-fits _ _ _ _ _ _ (c .before .before .before .before .pre .4)))
 
--- src/split.rt:67:9
 table-set-requires-2 : tie.Need-table-set-requires-2
 table-set-requires-2 c κs = (search needs, mid-word-inside _ _ _ (c .before .before .before .before .before .before .pre .0 .some) (c .before .before .before .before .before .before .pre .1) _ _ (c .before .before .before .before .before .before .pre .3 .1) (c .before .before .before .before .before .before .args .x / 64) _ (omega arith) (head-word-read _ _ (c .before .before .before .before .before .before .args .x / 64) _ (omega arith) (c .before .before .before .before .word-at .ensures)), omega arith, omega (arith, allocated-count _ _ _ _ _ _ _ (c .before .table-set .ensures), split-fits _ _ _ _ _ _ (c .before .before .before .before .before .before .pre .4)))
 
--- src/split.rt:70:5
 head-set-requires : tie.Need-head-set-requires
 head-set-requires c κs = (search needs, search needs, omega arith, omega (arith, allocated-count _ _ _ _ _ _ _ (c .before .table-set2 .ensures), allocated-count _ _ _ _ _ _ _ (c .before .before .before .table-set .ensures), split-fits _ _ _ _ _ _ (c .before .before .before .before .before .before .before .before .pre .4)))
 
--- src/split.rt:53:1
 returns : tie.Need-returns
 returns c = split-is _ _ _ _ _ _ (head-word-read _ _ (c .before .before .before .before .before .before .before .before .before .args .x / 64) _ (omega (arith, c .before .before .before .before .before .before .before .before .before .fits .x)) (c .before .before .before .before .before .before .before .word-at .ensures)) (c .before .before .before .before .before .before .word-below .ensures) _ _ _ _ (c .before .before .before .before .table-set .ensures) (c .before .before .table-set2 .ensures) (c .head-set .ensures)
 

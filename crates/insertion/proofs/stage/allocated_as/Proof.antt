@@ -5,24 +5,16 @@ use Rattle.nodes.specs.Pointer.{wordTo}
 use borrow.Author.Needs.{needs}
 use Rattle.insertion.proofs.stage.allocated_as.Statement.{statement}
 use Rattle.insertion.proofs.stage.allocated_as.Tie as tie
-use Rattle.insertion.proofs.stage.allocated_as.Reads as reads
-use Rattle.insertion.proofs.stage.allocated_as.Lts as lts
-use Rattle.insertion.proofs.stage.number_at.Reads as number-at-reads
-use Rattle.insertion.proofs.stage.word_to.Reads as word-to-reads
 
--- src/stage.rt:113:9
 number-at-requires : tie.Need-number-at-requires
 number-at-requires c κs = search needs
 
--- src/stage.rt:114:9
 word-to-requires : tie.Need-word-to-requires
 word-to-requires c κs = search needs
 
--- src/stage.rt:118:16
 add-t8 : tie.Need-add-t8
 add-t8 c = search needs
 
--- src/stage.rt:109:1
 returns : tie.Need-returns
 returns c = ap (λ (w : ℕ). record { word = w; own = true; count = c .before .before .args .count + 1 }) (c .word-to .ensures ∙ ap (λ (n : ℕ). wordTo n (c .before .before .args .kind)) (c .before .number-at .ensures))
 

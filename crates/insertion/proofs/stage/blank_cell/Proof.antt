@@ -10,9 +10,6 @@ use Rattle.insertion.proofs.SplitWords.{blank-word}
 use Rattle.insertion.proofs.StageWrites.{writes-more, writes-end}
 use Rattle.insertion.proofs.stage.blank_cell.Statement.{statement}
 use Rattle.insertion.proofs.stage.blank_cell.Tie as tie
-use Rattle.insertion.proofs.stage.blank_cell.Reads as reads
-use Rattle.insertion.proofs.stage.blank_cell.Lts as lts
-use Rattle.cells.proofs.put_word.Reads as put-word-reads
 
 abbrev Inv-loop : tie.InvT-loop
 Inv-loop bytes₀ number i₀ bytes i =
@@ -21,35 +18,27 @@ Inv-loop bytes₀ number i₀ bytes i =
 abbrev μ-loop : tie.MeasureT-loop
 μ-loop bytes₀ number i₀ bytes i = 8 - i
 
--- src/stage.rt:37:5
 loop-holds : tie.Need-loop-holds Inv-loop μ-loop
 loop-holds c = (omega arith, refl, refl)
 
--- src/stage.rt:38:25
 mul-put-word : tie.Need-mul-put-word Inv-loop μ-loop
 mul-put-word c = search needs
 
--- src/stage.rt:38:39
 mul-put-word-2 : tie.Need-mul-put-word-2 Inv-loop μ-loop
 mul-put-word-2 c = search needs
 
--- src/stage.rt:38:25
 add-put-word : tie.Need-add-put-word Inv-loop μ-loop
 add-put-word c = search needs
 
--- src/stage.rt:38:9
 put-word-requires : tie.Need-put-word-requires Inv-loop μ-loop
 put-word-requires c κs = search needs
 
--- src/stage.rt:39:9
 add-i : tie.Need-add-i Inv-loop μ-loop
 add-i c = search needs
 
--- src/stage.rt:37:5
 loop-less : tie.Need-loop-less Inv-loop μ-loop
 loop-less c = search needs
 
--- src/stage.rt:37:5
 loop-again : tie.Need-loop-again Inv-loop μ-loop
 loop-again c = (
   omega arith,
@@ -57,11 +46,9 @@ loop-again c = (
   writes-more _ _ _ _ _ _ _ _ _ (c .before .before .before .before .before .loop .inv .2) (c .before .before .put-word .ensures) (sym (blank-word _)) (omega arith),
 )
 
--- src/stage.rt:32:1
 same-length : tie.Need-same-length Inv-loop μ-loop
 same-length c = search needs
 
--- src/stage.rt:32:1
 returns : tie.Need-returns Inv-loop μ-loop
 returns c = writes-end _ _ _ _ _ _ (c .before .loop .inv .2) (omega arith)
 

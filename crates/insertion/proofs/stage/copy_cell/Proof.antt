@@ -9,10 +9,6 @@ use Rattle.cells.specs.Writes.{written, wordWrites, cellWrites}
 use Rattle.insertion.proofs.StageWrites.{writes-more, writes-end, copied-word}
 use Rattle.insertion.proofs.stage.copy_cell.Statement.{statement}
 use Rattle.insertion.proofs.stage.copy_cell.Tie as tie
-use Rattle.insertion.proofs.stage.copy_cell.Reads as reads
-use Rattle.insertion.proofs.stage.copy_cell.Lts as lts
-use Rattle.cells.proofs.put_word.Reads as put-word-reads
-use Rattle.cells.proofs.word_at.Reads as word-at-reads
 
 abbrev Inv-loop : tie.InvT-loop
 Inv-loop bytes₀ number source from i₀ bytes i =
@@ -22,51 +18,39 @@ Inv-loop bytes₀ number source from i₀ bytes i =
 abbrev μ-loop : tie.MeasureT-loop
 μ-loop bytes₀ number source from i₀ bytes i = 8 - i
 
--- src/stage.rt:49:5
 loop-holds : tie.Need-loop-holds Inv-loop μ-loop
 loop-holds c = (omega arith, refl, refl)
 
--- src/stage.rt:50:36
 mul-word-at : tie.Need-mul-word-at Inv-loop μ-loop
 mul-word-at c = search needs
 
--- src/stage.rt:50:48
 mul-word-at-2 : tie.Need-mul-word-at-2 Inv-loop μ-loop
 mul-word-at-2 c = search needs
 
--- src/stage.rt:50:36
 add-word-at : tie.Need-add-word-at Inv-loop μ-loop
 add-word-at c = search needs
 
--- src/stage.rt:50:13
 word-at-requires : tie.Need-word-at-requires Inv-loop μ-loop
 word-at-requires c κs = search needs
 
--- src/stage.rt:51:25
 mul-put-word : tie.Need-mul-put-word Inv-loop μ-loop
 mul-put-word c = search needs
 
--- src/stage.rt:51:39
 mul-put-word-2 : tie.Need-mul-put-word-2 Inv-loop μ-loop
 mul-put-word-2 c = search needs
 
--- src/stage.rt:51:25
 add-put-word : tie.Need-add-put-word Inv-loop μ-loop
 add-put-word c = search needs
 
--- src/stage.rt:51:9
 put-word-requires : tie.Need-put-word-requires Inv-loop μ-loop
 put-word-requires c κs = search needs
 
--- src/stage.rt:52:9
 add-i : tie.Need-add-i Inv-loop μ-loop
 add-i c = search needs
 
--- src/stage.rt:49:5
 loop-less : tie.Need-loop-less Inv-loop μ-loop
 loop-less c = search needs
 
--- src/stage.rt:49:5
 loop-again : tie.Need-loop-again Inv-loop μ-loop
 loop-again c = (
   omega arith,
@@ -75,11 +59,9 @@ loop-again c = (
       (c .before .before .before .before .word-at .ensures ∙ copied-word _ _ _ (omega arith)) (omega arith),
 )
 
--- src/stage.rt:44:1
 same-length : tie.Need-same-length Inv-loop μ-loop
 same-length c = search needs
 
--- src/stage.rt:44:1
 returns : tie.Need-returns Inv-loop μ-loop
 returns c = writes-end _ _ _ _ _ _ (c .before .loop .inv .2) (omega arith)
 

@@ -4,27 +4,19 @@ use Rattle.insertion.proofs.StageLaws.{number-listed, number-past}
 use borrow.Author.Needs.{needs}
 use Rattle.insertion.proofs.stage.number_at.Statement.{statement}
 use Rattle.insertion.proofs.stage.number_at.Tie as tie
-use Rattle.insertion.proofs.stage.number_at.Reads as reads
-use Rattle.insertion.proofs.stage.number_at.Lts as lts
-use Rattle.insertion.proofs.stage.listed.Reads as listed-reads
 
--- src/stage.rt:103:9
 listed-requires : tie.Need-listed-requires
 listed-requires c κs = search needs
 
--- src/stage.rt:103:9
 returns : tie.Need-returns
 returns c = c .listed .ensures ∙ number-listed _ (c .before .before .before .args .numbers .now) (c .before .before .before .args .free) (c .before .before .before .args .place) (omega arith) (omega arith)
 
--- src/stage.rt:105:6
 sub-result : tie.Need-sub-result
 sub-result c = search needs
 
--- src/stage.rt:105:5
 cast-result : tie.Need-cast-result
 cast-result c = search needs
 
--- src/stage.rt:97:1
 returns-2 : tie.Need-returns-2
 returns-2 c = number-past _ (c .before .args .numbers .now) (c .before .args .free) (c .before .args .place) (omega arith)
 

@@ -4,15 +4,10 @@ use Rattle.insertion.proofs.StageLaws.{slice-bytes, put-cell-law}
 use borrow.Author.Needs.{needs}
 use Rattle.insertion.proofs.stage.put_copy.Statement.{statement}
 use Rattle.insertion.proofs.stage.put_copy.Tie as tie
-use Rattle.insertion.proofs.stage.put_copy.Reads as reads
-use Rattle.insertion.proofs.stage.put_copy.Lts as lts
-use Rattle.insertion.proofs.stage.copy_cell.Reads as copy-cell-reads
 
--- src/stage.rt:85:5
 copy-cell-requires : tie.Need-copy-cell-requires
 copy-cell-requires c κs = search needs
 
--- src/stage.rt:81:1
 returns : tie.Need-returns
 returns c = put-cell-law _ _ (omega arith) _ _ (memory-cell _ _ (slice-bytes _ (c .before .before .shared-slice-known .given))) (c .copy-cell .ensures)
 

@@ -4,31 +4,22 @@ use Rattle.nodes.proofs.LeastWays.{chain-least-broken, chain-least-none
 use borrow.Author.Needs.{needs}
 use Rattle.nodes.proofs.least.chain_least.Statement.{statement}
 use Rattle.nodes.proofs.least.chain_least.Tie as tie
-use Rattle.nodes.proofs.least.chain_least.Reads as reads
-use Rattle.nodes.proofs.least.chain_least.Lts as lts
-use Rattle.nodes.proofs.chains.chain_child.Reads as chain-child-reads
 
--- src/least.rt:35:9
 chain-child-requires : tie.Need-chain-child-requires
 chain-child-requires c κs = search needs
 
--- src/least.rt:37:9
 returns : tie.Need-returns
 returns c = chain-least-broken _ _ _ _ _ (c .before .chain-child .ensures) (c .before .before .before .pre .3) (c .if1 .taken)
 
--- src/least.rt:39:21
 shared-slice-read-character : tie.Need-shared-slice-read-character
 shared-slice-read-character c = search needs
 
--- src/least.rt:40:9
 cast-if2 : tie.Need-cast-if2
 cast-if2 c = omega (arith, c .shared-slice-known2 .given (c .before .before .before .before .args .place))
 
--- src/least.rt:41:9
 returns-2 : tie.Need-returns-2
 returns-2 c = chain-least-none _ _ _ _ _ (c .before .before .before .chain-child .ensures) (c .before .before .if1 .left) _ refl (c .before .before .before .before .before .pre .3) (c .if2 .taken)
 
--- src/least.rt:31:1
 returns-3 : tie.Need-returns-3
 returns-3 c = chain-least-found _ _ _ _ _ (c .before .before .before .chain-child .ensures) (c .before .before .if1 .left) _ refl (omega (arith, c .before .shared-slice-known2 .given (c .before .before .before .before .before .args .place))) (c .if2 .left)
 

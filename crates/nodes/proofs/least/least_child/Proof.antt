@@ -3,53 +3,37 @@ use Rattle.nodes.proofs.LeastWays.{least-past, least-nothing, least-lea
 use borrow.Author.Needs.{needs}
 use Rattle.nodes.proofs.least.least_child.Statement.{statement}
 use Rattle.nodes.proofs.least.least_child.Tie as tie
-use Rattle.nodes.proofs.least.least_child.Reads as reads
-use Rattle.nodes.proofs.least.least_child.Lts as lts
-use Rattle.nodes.proofs.least.plain_least.Reads as plain-least-reads
-use Rattle.nodes.proofs.least.prefix_least.Reads as prefix-least-reads
-use Rattle.nodes.proofs.pointer.pointer_of.Reads as pointer-of-reads
 
--- src/least.rt:132:9
 returns : tie.Need-returns
 returns c = least-past _ _ _ _ (c .if1 .taken)
 
--- src/least.rt:134:9
 pointer-of-requires : tie.Need-pointer-of-requires
 pointer-of-requires c κs = search needs
 
--- src/least.rt:136:29
 enum-told : tie.Need-enum-told
 enum-told c = search needs
 
--- src/least.rt:137:29
 enum-told-2 : tie.Need-enum-told-2
 enum-told-2 c = search needs
 
--- src/least.rt:138:25
 enum-known-pointer : tie.Need-enum-known-pointer
 enum-known-pointer c = search needs
 
--- src/least.rt:138:36
 prefix-least-requires : tie.Need-prefix-least-requires
 prefix-least-requires c κs = (c .before .before .before .before .before .before .pre .0, c .before .before .before .before .before .before .pre .1, prefix-facts _ _ _ (c .before .before .before .pointer-of .ensures) _ (c .before .pointer .given .1) .2, c .before .before .before .before .if1 .left)
 
--- src/least.rt:139:14
 plain-least-requires : tie.Need-plain-least-requires
 plain-least-requires c κs = search needs
 
--- src/least.rt:127:1
 returns-2 : tie.Need-returns-2
 returns-2 c = least-nothing _ _ _ _ _ (c .before .before .pointer-of .ensures) (c .before .before .before .if1 .left) (c .enum-told .given .1)
 
--- src/least.rt:127:1
 returns-3 : tie.Need-returns-3
 returns-3 c = least-leaf _ _ _ _ _ (c .before .before .pointer-of .ensures) (c .before .before .before .if1 .left) _ (c .enum-told2 .given .1)
 
--- src/least.rt:127:1
 returns-4 : tie.Need-returns-4
 returns-4 c = least-prefix _ _ _ _ _ (c .before .before .before .before .pointer-of .ensures) _ (c .before .before .pointer .given .1) _ (c .prefix-least .ensures)
 
--- src/least.rt:127:1
 returns-5 : tie.Need-returns-5
 returns-5 c = least-plain _ _ _ _ (c .before .before .pointer-of .result) (c .before .before .pointer-of .ensures) (c .before .match .keys4) _ (c .plain-least .ensures)
 

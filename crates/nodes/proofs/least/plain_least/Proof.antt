@@ -5,59 +5,41 @@ use Rattle.nodes.proofs.LeastWays.{plain-least-chain, plain-least-spars
 use borrow.Author.Needs.{needs}
 use Rattle.nodes.proofs.least.plain_least.Statement.{statement}
 use Rattle.nodes.proofs.least.plain_least.Tie as tie
-use Rattle.nodes.proofs.least.plain_least.Reads as reads
-use Rattle.nodes.proofs.least.plain_least.Lts as lts
-use Rattle.cells.proofs.cell.Reads as cell-reads
-use Rattle.nodes.proofs.least.chain_least.Reads as chain-least-reads
-use Rattle.nodes.proofs.least.sparse_least.Reads as sparse-least-reads
-use Rattle.nodes.proofs.least.split_least.Reads as split-least-reads
 
--- src/least.rt:106:24
 enum-known-pointer : tie.Need-enum-known-pointer
 enum-known-pointer c = search needs
 
--- src/least.rt:106:54
 cell-requires : tie.Need-cell-requires
 cell-requires c κs = omega (arith, chain-facts _ _ _ (c .before .before .before .before .pre .3 .1) _ _ (c .before .pointer .given .1) .3)
 
--- src/least.rt:106:42
 chain-least-requires : tie.Need-chain-least-requires
 chain-least-requires c κs = let facts = chain-facts _ _ _ (c .before .before .before .before .before .pre .3 .1) _ _ (c .before .before .pointer .given .1) in
     (cell-length _ _ _ (c .cell .ensures), omega (arith, facts .3), facts .2, c .before .before .before .before .before .pre .2)
 
--- src/least.rt:107:25
 enum-known-pointer-2 : tie.Need-enum-known-pointer-2
 enum-known-pointer-2 c = search needs
 
--- src/least.rt:107:49
 cell-requires-2 : tie.Need-cell-requires-2
 cell-requires-2 c κs = omega (arith, sparse-facts _ _ _ (c .before .before .before .before .pre .3 .1) _ (c .before .pointer2 .given .1) .2)
 
--- src/least.rt:107:36
 sparse-least-requires : tie.Need-sparse-least-requires
 sparse-least-requires c κs = (cell-length _ _ _ (c .cell2 .ensures), c .before .before .before .before .before .pre .2)
 
--- src/least.rt:108:24
 enum-known-pointer-3 : tie.Need-enum-known-pointer-3
 enum-known-pointer-3 c = search needs
 
--- src/least.rt:108:35
 split-least-requires : tie.Need-split-least-requires
 split-least-requires c κs = (c .before .before .before .before .pre .0, split-facts _ _ _ (c .before .before .before .before .pre .3 .1) _ (c .before .pointer3 .given .1) .2, c .before .before .before .before .pre .2)
 
--- src/least.rt:101:1
 returns : tie.Need-returns
 returns c = plain-least-chain _ _ _ _ _ _ _ (c .before .before .before .pointer .given .1) _ (c .before .cell .ensures) (c .chain-least .ensures)
 
--- src/least.rt:101:1
 returns-2 : tie.Need-returns-2
 returns-2 c = plain-least-sparse _ _ _ _ _ _ (c .before .before .before .pointer2 .given .1) _ (c .before .cell2 .ensures) (c .sparse-least .ensures)
 
--- src/least.rt:101:1
 returns-3 : tie.Need-returns-3
 returns-3 c = plain-least-split _ _ _ _ _ _ (c .before .before .pointer3 .given .1) (c .split-least .ensures)
 
--- src/least.rt:101:1
 returns-4 : tie.Need-returns-4
 returns-4 c = plain-least-other _ _ (c .before .before .args .pointer) (c .before .before .args .from) (c .before .before .pre .2) (c .match .keys4)
 

@@ -10,12 +10,6 @@ use Rattle.nodes.proofs.SparseLeast.{sparse-least-read, sparse-least-pa
 use Rattle.nodes.proofs.LeastWays.{sparse-least-broken}
 use Rattle.nodes.proofs.least.sparse_least.Statement.{statement}
 use Rattle.nodes.proofs.least.sparse_least.Tie as tie
-use Rattle.nodes.proofs.least.sparse_least.Reads as reads
-use Rattle.nodes.proofs.least.sparse_least.Lts as lts
-use Rattle.cells.proofs.word_at.Reads as word-at-reads
-use Rattle.nodes.proofs.sparse.is_valid_sparse.Reads as is-valid-sparse-reads
-use Rattle.nodes.proofs.sparse.sparse_count.Reads as sparse-count-reads
-use Rattle.nodes.proofs.sparse.sparse_position.Reads as sparse-position-reads
 
 abbrev Inv-loop : tie.InvT-loop
 Inv-loop bytes from count i₀ i = (i ≤ count) × ((j : ℕ) → j < i → characterAt bytes j < from)
@@ -23,64 +17,49 @@ Inv-loop bytes from count i₀ i = (i ≤ count) × ((j : ℕ) → j < i → cha
 abbrev μ-loop : tie.MeasureT-loop
 μ-loop bytes from count i₀ i = count - i
 
--- src/least.rt:51:9
 is-valid-sparse-requires : tie.Need-is-valid-sparse-requires Inv-loop μ-loop
 is-valid-sparse-requires c κs = search needs
 
--- src/least.rt:52:9
 returns : tie.Need-returns Inv-loop μ-loop
 returns c = sparse-least-broken _ _ _ (c .before .is-valid-sparse .ensures) (c .before .before .before .pre .1) (not-true _ (c .if1 .taken))
 
--- src/least.rt:54:9
 sparse-count-requires : tie.Need-sparse-count-requires Inv-loop μ-loop
 sparse-count-requires c κs = search needs
 
--- src/least.rt:56:5
 loop-holds : tie.Need-loop-holds Inv-loop μ-loop
 loop-holds c = (omega arith, λ j h. absurd (omega arith))
 
--- src/least.rt:57:13
 sparse-position-requires : tie.Need-sparse-position-requires Inv-loop μ-loop
 sparse-position-requires c κs = search needs
 
--- src/least.rt:58:31
 add-character : tie.Need-add-character Inv-loop μ-loop
 add-character c = omega (arith, position-small (c .before .before .before .before .before .before .before .args .bytes .now) (c .before .before .loop .i))
 
--- src/least.rt:58:25
 shared-slice-read-character : tie.Need-shared-slice-read-character Inv-loop μ-loop
 shared-slice-read-character c = omega (arith, position-small (c .before .before .before .before .before .before .before .before .args .bytes .now) (c .before .before .before .loop .i))
 
--- src/least.rt:59:21
 cast-if2 : tie.Need-cast-if2 Inv-loop μ-loop
 cast-if2 c = omega (arith, c .shared-slice-known2 .given (24 + c .before .sparse-position .result))
 
--- src/least.rt:60:59
 mul-word-at : tie.Need-mul-word-at Inv-loop μ-loop
 mul-word-at c = omega (arith, position-small (c .before .before .before .before .before .before .before .before .before .args .bytes .now) (c .before .before .before .before .loop .i))
 
--- src/least.rt:60:44
 word-at-requires : tie.Need-word-at-requires Inv-loop μ-loop
 word-at-requires c κs = omega (arith, position-small (c .before .before .before .before .before .before .before .before .before .args .bytes .now) (c .before .before .before .before .loop .i))
 
--- src/least.rt:60:13
 returns-2 : tie.Need-returns-2 Inv-loop μ-loop
 returns-2 c = sparse-least-read _ (sym (c .before .before .before .before .before .before .before .before .is-valid-sparse .ensures) ∙ not-false _ (c .before .before .before .before .before .before .before .if1 .left)) _ _ _ (c .before .before .before .before .before .before .sparse-count .ensures) (c .before .before .before .before .loop-test .taken)
     (c .before .before .before .before .before .loop .inv .1) _ (c .before .before .before .sparse-position .ensures) (c .before .if2 .taken) (omega (arith, c .before .before .shared-slice-known2 .given (24 + c .before .before .before .sparse-position .result))) _ (c .word-at .ensures)
 
--- src/least.rt:62:9
 add-i : tie.Need-add-i Inv-loop μ-loop
 add-i c = search needs
 
--- src/least.rt:56:5
 loop-less : tie.Need-loop-less Inv-loop μ-loop
 loop-less c = search needs
 
--- src/least.rt:56:5
 loop-again : tie.Need-loop-again Inv-loop μ-loop
 loop-again c = (omega arith, sparse-passed _ _ _ (c .before .before .before .before .loop .inv .1) _ (c .before .before .sparse-position .ensures) (c .if2 .left))
 
--- src/least.rt:47:1
 returns-3 : tie.Need-returns-3 Inv-loop μ-loop
 returns-3 c = sparse-least-past _ (sym (c .before .before .before .before .is-valid-sparse .ensures) ∙ not-false _ (c .before .before .before .if1 .left)) _ _ _ (c .before .before .sparse-count .ensures) (c .loop-test .left) (c .before .before .before .before .before .before .pre .1) (c .before .loop .inv .1)
 

@@ -11,12 +11,6 @@ use Rattle.nodes.proofs.StepWays.{cell-length}
 use Rattle.nodes.proofs.LeastWays.{split-least-broken, mid-passed, end-passed, end-broken, child-passed, child-broken, child-reached, walk-ends}
 use Rattle.nodes.proofs.least.split_least.Statement.{statement}
 use Rattle.nodes.proofs.least.split_least.Tie as tie
-use Rattle.nodes.proofs.least.split_least.Reads as reads
-use Rattle.nodes.proofs.least.split_least.Lts as lts
-use Rattle.cells.proofs.cell.Reads as cell-reads
-use Rattle.cells.proofs.word_at.Reads as word-at-reads
-use Rattle.nodes.proofs.split.is_valid_head.Reads as is-valid-head-reads
-use Rattle.nodes.proofs.step.table_step.Reads as table-step-reads
 
 abbrev Inv-loop : tie.InvT-loop
 Inv-loop layout block number from bytes x₀ x = (x ≤ 256) × (firstStep (splitStep layout (memoryOf block) number) (256 - from) from ≡ firstStep (splitStep layout (memoryOf block) number) (256 - x) x)
@@ -24,127 +18,96 @@ Inv-loop layout block number from bytes x₀ x = (x ≤ 256) × (firstStep (spli
 abbrev μ-loop : tie.MeasureT-loop
 μ-loop layout block number from bytes x₀ x = 256 - x
 
--- src/least.rt:72:9
 cell-requires : tie.Need-cell-requires Inv-loop μ-loop
 cell-requires c κs = search needs
 
--- src/least.rt:73:9
 is-valid-head-requires : tie.Need-is-valid-head-requires Inv-loop μ-loop
 is-valid-head-requires c κs = cell-length _ _ _ (c .cell .ensures)
 
--- src/least.rt:74:9
 returns : tie.Need-returns Inv-loop μ-loop
 returns c = split-least-broken _ _ _ _ _ (c .before .before .cell .ensures) _ (c .before .is-valid-head .ensures) (c .before .before .before .before .pre .2) (not-true _ (c .if1 .taken))
 
--- src/least.rt:77:5
 loop-holds : tie.Need-loop-holds Inv-loop μ-loop
 loop-holds c = (omega arith, refl)
 
--- src/least.rt:78:39
 mul-word-at : tie.Need-mul-word-at Inv-loop μ-loop
 mul-word-at c = search needs
 
--- src/least.rt:78:34
 add-word-at : tie.Need-add-word-at Inv-loop μ-loop
 add-word-at c = search needs
 
--- src/least.rt:78:13
 word-at-requires : tie.Need-word-at-requires Inv-loop μ-loop
 word-at-requires c κs = omega (arith, cell-length _ _ _ (c .before .before .before .before .cell .ensures))
 
--- src/least.rt:80:18
 add-x : tie.Need-add-x Inv-loop μ-loop
 add-x c = search needs
 
--- src/least.rt:80:17
 mul-x : tie.Need-mul-x Inv-loop μ-loop
 mul-x c = search needs
 
--- src/least.rt:77:5
 loop-less : tie.Need-loop-less Inv-loop μ-loop
 loop-less c = search needs
 
--- src/least.rt:77:5
 loop-again : tie.Need-loop-again Inv-loop μ-loop
 loop-again c = (omega arith, c .before .before .before .loop .inv .1 ∙ mid-passed _ _ _ _ _ (c .before .before .before .before .before .before .cell .ensures) _ (c .before .before .before .before .before .is-valid-head .ensures) (c .before .before .loop-test .taken) (not-false _ (c .before .before .before .before .if1 .left)) _ (c .before .word-at .ensures) (c .if2 .taken))
 
--- src/least.rt:82:17
 table-step-requires : tie.Need-table-step-requires Inv-loop μ-loop
 table-step-requires c κs = search needs
 
--- src/least.rt:84:38
 enum-told : tie.Need-enum-told Inv-loop μ-loop
 enum-told c = search needs
 
--- src/least.rt:84:38
 returns-2 : tie.Need-returns-2 Inv-loop μ-loop
 returns-2 c = sym (c .before .before .before .before .before .before .loop .inv .1 ∙ end-broken _ _ _ _ _ (c .before .before .before .before .before .before .before .before .before .cell .ensures) _ (c .before .before .before .before .before .before .before .before .is-valid-head .ensures) (c .before .before .before .before .before .loop-test .taken) (not-false _ (c .before .before .before .before .before .before .before .if1 .left)) _ (c .before .before .before .before .word-at .ensures) (c .before .before .before .if2 .left) _ (c .before .before .table-step .ensures) (c .enum-told .given .1))
 
--- src/least.rt:85:44
 enum-told-2 : tie.Need-enum-told-2 Inv-loop μ-loop
 enum-told-2 c = search needs
 
--- src/least.rt:85:44
 add-x-2 : tie.Need-add-x-2 Inv-loop μ-loop
 add-x-2 c = search needs
 
--- src/least.rt:85:43
 mul-x-2 : tie.Need-mul-x-2 Inv-loop μ-loop
 mul-x-2 c = search needs
 
--- src/least.rt:77:5
 loop-less-2 : tie.Need-loop-less-2 Inv-loop μ-loop
 loop-less-2 c = search needs
 
--- src/least.rt:77:5
 loop-again-2 : tie.Need-loop-again-2 Inv-loop μ-loop
 loop-again-2 c = (omega arith, c .before .before .before .before .before .before .loop .inv .1 ∙ end-passed _ _ _ _ _ (c .before .before .before .before .before .before .before .before .before .cell .ensures) _ (c .before .before .before .before .before .before .before .before .is-valid-head .ensures) (c .before .before .before .before .before .loop-test .taken) (not-false _ (c .before .before .before .before .before .before .before .if1 .left)) _ (c .before .before .before .before .word-at .ensures) (c .before .before .before .if2 .left) _ (c .before .before .table-step .ensures) (c .enum-told2 .given .1))
 
--- src/least.rt:86:34
 enum-known-below : tie.Need-enum-known-below Inv-loop μ-loop
 enum-known-below c = search needs
 
--- src/least.rt:87:25
 table-step-requires-2 : tie.Need-table-step-requires-2 Inv-loop μ-loop
 table-step-requires-2 c κs = search needs
 
--- src/least.rt:89:46
 enum-told-3 : tie.Need-enum-told-3 Inv-loop μ-loop
 enum-told-3 c = search needs
 
--- src/least.rt:89:46
 returns-3 : tie.Need-returns-3 Inv-loop μ-loop
 returns-3 c = sym (c .before .before .before .before .before .before .before .before .before .before .loop .inv .1 ∙ child-broken _ _ _ _ _ (c .before .before .before .before .before .before .before .before .before .before .before .before .before .cell .ensures) _ (c .before .before .before .before .before .before .before .before .before .before .before .before .is-valid-head .ensures) (c .before .before .before .before .before .before .before .before .before .loop-test .taken) (not-false _ (c .before .before .before .before .before .before .before .before .before .before .before .if1 .left)) _ (c .before .before .before .before .before .before .before .before .word-at .ensures) (c .before .before .before .before .before .before .before .if2 .left) _ (c .before .before .before .before .before .before .table-step .ensures) _ (c .before .before .before .before .below .given .1) _ (c .before .before .table-step2 .ensures) (c .enum-told3 .given .1))
 
--- src/least.rt:90:47
 enum-told-4 : tie.Need-enum-told-4 Inv-loop μ-loop
 enum-told-4 c = search needs
 
--- src/least.rt:90:47
 add-x-3 : tie.Need-add-x-3 Inv-loop μ-loop
 add-x-3 c = search needs
 
--- src/least.rt:77:5
 loop-less-3 : tie.Need-loop-less-3 Inv-loop μ-loop
 loop-less-3 c = search needs
 
--- src/least.rt:77:5
 loop-again-3 : tie.Need-loop-again-3 Inv-loop μ-loop
 loop-again-3 c = (omega arith, c .before .before .before .before .before .before .before .before .before .before .loop .inv .1 ∙ child-passed _ _ _ _ _ (c .before .before .before .before .before .before .before .before .before .before .before .before .before .cell .ensures) _ (c .before .before .before .before .before .before .before .before .before .before .before .before .is-valid-head .ensures) (c .before .before .before .before .before .before .before .before .before .loop-test .taken) (not-false _ (c .before .before .before .before .before .before .before .before .before .before .before .if1 .left)) _ (c .before .before .before .before .before .before .before .before .word-at .ensures) (c .before .before .before .before .before .before .before .if2 .left) _ (c .before .before .before .before .before .before .table-step .ensures) _ (c .before .before .before .before .below .given .1) _ (c .before .before .table-step2 .ensures) (c .enum-told4 .given .1))
 
--- src/least.rt:91:42
 enum-known-last : tie.Need-enum-known-last Inv-loop μ-loop
 enum-known-last c = search needs
 
--- src/least.rt:91:72
 cast-t25 : tie.Need-cast-t25 Inv-loop μ-loop
 cast-t25 c = search needs
 
--- src/least.rt:91:52
 returns-4 : tie.Need-returns-4 Inv-loop μ-loop
 returns-4 c = sym (c .before .before .before .before .before .before .before .before .before .before .before .loop .inv .1 ∙ child-reached _ _ _ _ _ (c .before .before .before .before .before .before .before .before .before .before .before .before .before .before .cell .ensures) _ (c .before .before .before .before .before .before .before .before .before .before .before .before .before .is-valid-head .ensures) (c .before .before .before .before .before .before .before .before .before .before .loop-test .taken) (not-false _ (c .before .before .before .before .before .before .before .before .before .before .before .before .if1 .left)) _ (c .before .before .before .before .before .before .before .before .before .word-at .ensures) (c .before .before .before .before .before .before .before .before .if2 .left) _ (c .before .before .before .before .before .before .before .table-step .ensures) _ (c .before .before .before .before .before .below .given .1) _ (c .before .before .before .table-step2 .ensures) _ (c .before .last .given .1))
 
--- src/least.rt:68:1
 returns-5 : tie.Need-returns-5 Inv-loop μ-loop
 returns-5 c = sym (c .before .loop .inv .1 ∙ walk-ends _ _ (c .loop-test .left))
 

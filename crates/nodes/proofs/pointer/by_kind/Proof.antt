@@ -3,26 +3,19 @@ use Rattle.nodes.specs.Pointer.{byKind}
 use Rattle.nodes.proofs.Pointers.{kind-chain, kind-split, kind-sparse, kind-prefix, kind-other}
 use Rattle.nodes.proofs.pointer.by_kind.Statement.{statement}
 use Rattle.nodes.proofs.pointer.by_kind.Tie as tie
-use Rattle.nodes.proofs.pointer.by_kind.Reads as reads
-use Rattle.nodes.proofs.pointer.by_kind.Lts as lts
 
--- src/pointer.rt:25:9
 returns : tie.Need-returns
 returns c = sym (kind-chain _ _ (c .if1 .taken))
 
--- src/pointer.rt:28:9
 returns-2 : tie.Need-returns-2
 returns-2 c = sym (ap (byKind _) (c .if2 .taken) ∙ kind-split _)
 
--- src/pointer.rt:31:9
 returns-3 : tie.Need-returns-3
 returns-3 c = sym (ap (byKind _) (c .if3 .taken) ∙ kind-sparse _)
 
--- src/pointer.rt:34:9
 returns-4 : tie.Need-returns-4
 returns-4 c = sym (ap (byKind _) (c .if4 .taken) ∙ kind-prefix _)
 
--- src/pointer.rt:21:1
 returns-5 : tie.Need-returns-5
 returns-5 c = sym (kind-other _ _ (c .before .before .before .if1 .left) (c .before .before .if2 .left) (c .before .if3 .left) (c .if4 .left))
 

@@ -6,45 +6,31 @@ use Rattle.nodes.proofs.Pointers.{pointer-zero, pointer-leaf, pointer-c
 use borrow.Author.Needs.{needs}
 use Rattle.nodes.proofs.pointer.pointer_of.Statement.{statement}
 use Rattle.nodes.proofs.pointer.pointer_of.Tie as tie
-use Rattle.nodes.proofs.pointer.pointer_of.Reads as reads
-use Rattle.nodes.proofs.pointer.pointer_of.Lts as lts
-use Rattle.cells.proofs.inverted.Reads as inverted-reads
-use Rattle.nodes.proofs.layout.is_usable.Reads as is-usable-reads
-use Rattle.nodes.proofs.pointer.by_kind.Reads as by-kind-reads
 
--- src/pointer.rt:44:9
 returns : tie.Need-returns
 returns c = sym (ap (pointer _) (c .if1 .taken) ∙ pointer-zero _)
 
--- src/pointer.rt:47:30
 inverted-requires : tie.Need-inverted-requires
 inverted-requires c κs = search needs
 
--- src/pointer.rt:47:9
 returns-2 : tie.Need-returns-2
 returns-2 c = ap leaf (c .inverted .ensures) ∙ sym (pointer-leaf _ _ (c .before .if2 .taken))
 
--- src/pointer.rt:49:16
 cast-cell : tie.Need-cast-cell
 cast-cell c = search needs
 
--- src/pointer.rt:50:9
 is-usable-requires : tie.Need-is-usable-requires
 is-usable-requires c κs = search needs
 
--- src/pointer.rt:51:9
 returns-3 : tie.Need-returns-3
 returns-3 c = sym (pointer-invalid _ _ (c .before .before .before .if1 .left) (c .before .before .if2 .left) (sym (c .before .is-usable .ensures) ∙ not-true _ (c .if3 .taken)))
 
--- src/pointer.rt:53:19
 cast-by-kind : tie.Need-cast-by-kind
 cast-by-kind c = search needs
 
--- src/pointer.rt:53:5
 by-kind-requires : tie.Need-by-kind-requires
 by-kind-requires c κs = search needs
 
--- src/pointer.rt:40:1
 returns-4 : tie.Need-returns-4
 returns-4 c = c .by-kind .ensures ∙ sym (pointer-cell _ _ (c .before .before .before .before .if1 .left) (c .before .before .before .if2 .left) (sym (c .before .before .is-usable .ensures) ∙ not-false _ (c .before .if3 .left)))
 

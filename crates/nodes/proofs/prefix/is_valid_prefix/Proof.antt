@@ -2,23 +2,16 @@ use Rattle.nodes.proofs.PrefixSteps.{prefix-top, prefix-by-byte}
 use borrow.Author.Needs.{needs}
 use Rattle.nodes.proofs.prefix.is_valid_prefix.Statement.{statement}
 use Rattle.nodes.proofs.prefix.is_valid_prefix.Tie as tie
-use Rattle.nodes.proofs.prefix.is_valid_prefix.Reads as reads
-use Rattle.nodes.proofs.prefix.is_valid_prefix.Lts as lts
-use Rattle.cells.proofs.word_at.Reads as word-at-reads
 
--- src/prefix.rt:12:9
 word-at-requires : tie.Need-word-at-requires
 word-at-requires c κs = search needs
 
--- src/prefix.rt:14:9
 returns : tie.Need-returns
 returns c = prefix-top _ _ (c .before .word-at .ensures) (c .if1 .taken)
 
--- src/prefix.rt:16:5
 shared-slice-read-result : tie.Need-shared-slice-read-result
 shared-slice-read-result c = search needs
 
--- src/prefix.rt:8:1
 returns-2 : tie.Need-returns-2
 returns-2 c = prefix-by-byte _ _ (c .before .before .word-at .ensures) (c .before .if1 .left)
 

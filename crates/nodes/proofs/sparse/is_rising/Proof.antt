@@ -7,9 +7,6 @@ use Rattle.nodes.proofs.SparseSteps.{count-small}
 use Rattle.nodes.proofs.RisingWalk.{RisingFrom, rising-start, rising-on, rising-fails, rising-end}
 use Rattle.nodes.proofs.sparse.is_rising.Statement.{statement}
 use Rattle.nodes.proofs.sparse.is_rising.Tie as tie
-use Rattle.nodes.proofs.sparse.is_rising.Reads as reads
-use Rattle.nodes.proofs.sparse.is_rising.Lts as lts
-use Rattle.nodes.proofs.sparse.sparse_order.Reads as sparse-order-reads
 
 abbrev Inv-loop : tie.InvT-loop
 Inv-loop cell count rest₀ last₀ i₀ rest last i = RisingFrom cell rest last i
@@ -17,51 +14,39 @@ Inv-loop cell count rest₀ last₀ i₀ rest last i = RisingFrom cell rest last
 abbrev μ-loop : tie.MeasureT-loop
 μ-loop cell count rest₀ last₀ i₀ rest last i = count - i
 
--- src/sparse.rt:43:20
 sparse-order-requires : tie.Need-sparse-order-requires Inv-loop μ-loop
 sparse-order-requires c κs = search needs
 
--- src/sparse.rt:43:20
 cast-rest : tie.Need-cast-rest Inv-loop μ-loop
 cast-rest c = search needs
 
--- src/sparse.rt:44:25
 add-last : tie.Need-add-last Inv-loop μ-loop
 add-last c = search needs
 
--- src/sparse.rt:44:20
 shared-slice-read-last : tie.Need-shared-slice-read-last Inv-loop μ-loop
 shared-slice-read-last c = search needs
 
--- src/sparse.rt:46:5
 loop-holds : tie.Need-loop-holds Inv-loop μ-loop
 loop-holds c = rising-start _ _ _ (c .before .sparse-order .ensures) refl
 
--- src/sparse.rt:48:25
 add-next : tie.Need-add-next Inv-loop μ-loop
 add-next c = search needs
 
--- src/sparse.rt:48:20
 shared-slice-read-next : tie.Need-shared-slice-read-next Inv-loop μ-loop
 shared-slice-read-next c = search needs
 
--- src/sparse.rt:50:13
 returns : tie.Need-returns Inv-loop μ-loop
 returns c = rising-fails _ _ _ _ _ (c .before .before .before .loop .inv) (c .before .before .before .before .before .before .before .pre .1) (c .before .before .loop-test .taken) _ refl (c .if1 .taken)
 
--- src/sparse.rt:53:9
 add-i : tie.Need-add-i Inv-loop μ-loop
 add-i c = omega (arith, count-small (c .before .before .before .before .before .before .before .args .cell .now))
 
--- src/sparse.rt:46:5
 loop-less : tie.Need-loop-less Inv-loop μ-loop
 loop-less c = search needs
 
--- src/sparse.rt:46:5
 loop-again : tie.Need-loop-again Inv-loop μ-loop
 loop-again c = rising-on _ _ _ _ _ (c .before .before .before .loop .inv) (c .before .before .before .before .before .before .before .pre .1) (c .before .before .loop-test .taken) _ refl (c .if1 .left)
 
--- src/sparse.rt:39:1
 returns-2 : tie.Need-returns-2 Inv-loop μ-loop
 returns-2 c = rising-end _ _ _ _ _ (c .before .loop .inv) (c .before .before .before .before .before .pre .1) (c .loop-test .left)
 

@@ -4,59 +4,40 @@ use Rattle.nodes.proofs.SparseSteps.{count-small, count-most, order-rea
 use borrow.Author.Needs.{needs}
 use Rattle.nodes.proofs.sparse.is_valid_sparse.Statement.{statement}
 use Rattle.nodes.proofs.sparse.is_valid_sparse.Tie as tie
-use Rattle.nodes.proofs.sparse.is_valid_sparse.Reads as reads
-use Rattle.nodes.proofs.sparse.is_valid_sparse.Lts as lts
-use Rattle.nodes.proofs.sparse.is_rising.Reads as is-rising-reads
-use Rattle.nodes.proofs.sparse.sparse_count.Reads as sparse-count-reads
-use Rattle.nodes.proofs.sparse.sparse_order.Reads as sparse-order-reads
-use Rattle.nodes.proofs.words.every_word.Reads as every-word-reads
-use Rattle.nodes.proofs.words.some_word.Reads as some-word-reads
-use Rattle.order_words.proofs.is_valid_order.Reads as is-valid-order-reads
 
--- src/sparse.rt:63:24
 sparse-order-requires : tie.Need-sparse-order-requires
 sparse-order-requires c κs = search needs
 
--- src/sparse.rt:63:9
 is-valid-order-requires : tie.Need-is-valid-order-requires
 is-valid-order-requires c κs = search needs
 
--- src/sparse.rt:64:9
 returns : tie.Need-returns
 returns c = sparse-order-fails _ _ (order-read _ _ _ (c .before .before .sparse-order .ensures) (c .before .is-valid-order .ensures)) (not-true _ (c .if1 .taken))
 
--- src/sparse.rt:66:9
 sparse-count-requires : tie.Need-sparse-count-requires
 sparse-count-requires c κs = search needs
 
--- src/sparse.rt:67:9
 every-word-requires : tie.Need-every-word-requires
 every-word-requires c κs = omega (arith, count-small (c .before .before .before .before .before .args .cell .now))
 
--- src/sparse.rt:68:9
 returns-2 : tie.Need-returns-2
 returns-2 c = sparse-word-missing _ _ (order-read _ _ _ (c .before .before .before .before .before .sparse-order .ensures) (c .before .before .before .before .is-valid-order .ensures))
     _ (every-read _ _ _ (c .before .before .sparse-count .ensures) (c .before .every-word .ensures)) (not-false _ (c .before .before .before .if1 .left)) (not-true _ (c .if2 .taken))
 
--- src/sparse.rt:70:27
 sub-some-word : tie.Need-sub-some-word
 sub-some-word c = omega (arith, count-most _ _ (order-read _ _ _ (c .before .before .before .before .before .sparse-order .ensures) (c .before .before .before .before .is-valid-order .ensures)) (not-false _ (c .before .before .before .if1 .left)) _ (c .before .before .sparse-count .ensures))
 
--- src/sparse.rt:70:8
 some-word-requires : tie.Need-some-word-requires
 some-word-requires c κs = omega (arith, count-most _ _ (order-read _ _ _ (c .before .before .before .before .before .sparse-order .ensures) (c .before .before .before .before .is-valid-order .ensures)) (not-false _ (c .before .before .before .if1 .left)) _ (c .before .before .sparse-count .ensures))
 
--- src/sparse.rt:71:9
 returns-3 : tie.Need-returns-3
 returns-3 c = sparse-word-beyond _ _ (order-read _ _ _ (c .before .before .before .before .before .before .before .sparse-order .ensures) (c .before .before .before .before .before .before .is-valid-order .ensures))
     _ (every-read _ _ _ (c .before .before .before .before .sparse-count .ensures) (c .before .before .before .every-word .ensures)) (not-false _ (c .before .before .before .before .before .if1 .left))
     _ (rest-read _ _ _ (c .before .before .before .before .sparse-count .ensures) (c .before .some-word .ensures)) (not-false _ (c .before .before .if2 .left)) (c .if3 .taken)
 
--- src/sparse.rt:73:5
 is-rising-requires : tie.Need-is-rising-requires
 is-rising-requires c κs = search needs
 
--- src/sparse.rt:59:1
 returns-4 : tie.Need-returns-4
 returns-4 c = sparse-by-rising _ _ (order-read _ _ _ (c .before .before .before .before .before .before .before .before .sparse-order .ensures) (c .before .before .before .before .before .before .before .is-valid-order .ensures))
     _ (every-read _ _ _ (c .before .before .before .before .before .sparse-count .ensures) (c .before .before .before .before .every-word .ensures)) (not-false _ (c .before .before .before .before .before .before .if1 .left))

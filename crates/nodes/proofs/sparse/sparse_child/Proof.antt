@@ -7,10 +7,6 @@ use Rattle.nodes.proofs.SparseSteps.{count-small, child-start, child-st
 use borrow.Author.Needs.{needs}
 use Rattle.nodes.proofs.sparse.sparse_child.Statement.{statement}
 use Rattle.nodes.proofs.sparse.sparse_child.Tie as tie
-use Rattle.nodes.proofs.sparse.sparse_child.Reads as reads
-use Rattle.nodes.proofs.sparse.sparse_child.Lts as lts
-use Rattle.cells.proofs.word_at.Reads as word-at-reads
-use Rattle.nodes.proofs.sparse.sparse_count.Reads as sparse-count-reads
 
 abbrev Inv-loop : tie.InvT-loop
 Inv-loop cell character count i₀ i = (i ≤ count) × (sparseChild cell character ≡ childFrom cell (count - i) i character)
@@ -18,47 +14,36 @@ Inv-loop cell character count i₀ i = (i ≤ count) × (sparseChild cell charac
 abbrev μ-loop : tie.MeasureT-loop
 μ-loop cell character count i₀ i = count - i
 
--- src/sparse.rt:81:9
 sparse-count-requires : tie.Need-sparse-count-requires Inv-loop μ-loop
 sparse-count-requires c κs = search needs
 
--- src/sparse.rt:83:5
 loop-holds : tie.Need-loop-holds Inv-loop μ-loop
 loop-holds c = (omega arith, child-start _ _ _ (c .sparse-count .ensures))
 
--- src/sparse.rt:84:30
 add-if1 : tie.Need-add-if1 Inv-loop μ-loop
 add-if1 c = omega (arith, count-small (c .before .before .before .before .args .cell .now))
 
--- src/sparse.rt:84:25
 shared-slice-read-if1 : tie.Need-shared-slice-read-if1 Inv-loop μ-loop
 shared-slice-read-if1 c = omega (arith, count-small (c .before .before .before .before .before .args .cell .now))
 
--- src/sparse.rt:85:34
 mul-word-at : tie.Need-mul-word-at Inv-loop μ-loop
 mul-word-at c = omega (arith, count-small (c .before .before .before .before .before .before .args .cell .now))
 
--- src/sparse.rt:85:13
 word-at-requires : tie.Need-word-at-requires Inv-loop μ-loop
 word-at-requires c κs = omega (arith, count-small (c .before .before .before .before .before .before .args .cell .now))
 
--- src/sparse.rt:85:13
 returns : tie.Need-returns Inv-loop μ-loop
 returns c = c .word-at .ensures ∙ sym (c .before .before .before .before .loop .inv .1 ∙ child-found _ _ (c .before .before .before .before .before .sparse-count .result - (c .before .before .before .before .loop .i + 1)) _ _ (c .before .if1 .taken) (omega arith))
 
--- src/sparse.rt:87:9
 add-i : tie.Need-add-i Inv-loop μ-loop
 add-i c = search needs
 
--- src/sparse.rt:83:5
 loop-less : tie.Need-loop-less Inv-loop μ-loop
 loop-less c = search needs
 
--- src/sparse.rt:83:5
 loop-again : tie.Need-loop-again Inv-loop μ-loop
 loop-again c = (omega arith, c .before .before .before .loop .inv .1 ∙ child-step _ _ _ _ _ (c .if1 .left) (omega arith))
 
--- src/sparse.rt:77:1
 returns-2 : tie.Need-returns-2 Inv-loop μ-loop
 returns-2 c = sym (c .before .loop .inv .1 ∙ child-stop _ _ _ _ (omega arith))
 

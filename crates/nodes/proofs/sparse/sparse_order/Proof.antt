@@ -2,34 +2,25 @@ use native.Mathlib.Omega.{arith}
 use borrow.Author.Needs.{needs}
 use Rattle.nodes.proofs.sparse.sparse_order.Statement.{statement}
 use Rattle.nodes.proofs.sparse.sparse_order.Tie as tie
-use Rattle.nodes.proofs.sparse.sparse_order.Reads as reads
-use Rattle.nodes.proofs.sparse.sparse_order.Lts as lts
 
--- src/sparse.rt:19:6
 shared-slice-read-result : tie.Need-shared-slice-read-result
 shared-slice-read-result c = search needs
 
--- src/sparse.rt:19:6
 cast-result : tie.Need-cast-result
 cast-result c = omega (arith, c .shared-slice-known .given 30)
 
--- src/sparse.rt:19:5
 mul-result : tie.Need-mul-result
 mul-result c = omega (arith, c .shared-slice-known .given 30)
 
--- src/sparse.rt:19:32
 shared-slice-read-result-2 : tie.Need-shared-slice-read-result-2
 shared-slice-read-result-2 c = search needs
 
--- src/sparse.rt:19:32
 cast-result-2 : tie.Need-cast-result-2
 cast-result-2 c = omega (arith, c .shared-slice-known2 .given 31)
 
--- src/sparse.rt:19:5
 add-result : tie.Need-add-result
 add-result c = omega (arith, c .before .shared-slice-known .given 30, c .shared-slice-known2 .given 31)
 
--- src/sparse.rt:15:1
 returns : tie.Need-returns
 returns c = search needs
 

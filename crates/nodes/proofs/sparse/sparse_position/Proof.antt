@@ -2,20 +2,13 @@ use Rattle.nodes.proofs.SparseSteps.{position-read}
 use borrow.Author.Needs.{needs}
 use Rattle.nodes.proofs.sparse.sparse_position.Statement.{statement}
 use Rattle.nodes.proofs.sparse.sparse_position.Tie as tie
-use Rattle.nodes.proofs.sparse.sparse_position.Reads as reads
-use Rattle.nodes.proofs.sparse.sparse_position.Lts as lts
-use Rattle.nodes.proofs.sparse.sparse_order.Reads as sparse-order-reads
-use Rattle.order_words.proofs.digit_at.Reads as digit-at-reads
 
--- src/sparse.rt:35:14
 sparse-order-requires : tie.Need-sparse-order-requires
 sparse-order-requires c κs = search needs
 
--- src/sparse.rt:35:5
 digit-at-requires : tie.Need-digit-at-requires
 digit-at-requires c κs = search needs
 
--- src/sparse.rt:31:1
 returns : tie.Need-returns
 returns c = position-read _ _ _ _ (c .before .sparse-order .ensures) (c .digit-at .ensures)
 

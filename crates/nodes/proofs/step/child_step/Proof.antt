@@ -3,49 +3,34 @@ use Rattle.nodes.proofs.StepWays.{step-nothing, step-leaf, step-prefix,
 use borrow.Author.Needs.{needs}
 use Rattle.nodes.proofs.step.child_step.Statement.{statement}
 use Rattle.nodes.proofs.step.child_step.Tie as tie
-use Rattle.nodes.proofs.step.child_step.Reads as reads
-use Rattle.nodes.proofs.step.child_step.Lts as lts
-use Rattle.nodes.proofs.pointer.pointer_of.Reads as pointer-of-reads
-use Rattle.nodes.proofs.step.plain_step.Reads as plain-step-reads
-use Rattle.nodes.proofs.step.prefix_step.Reads as prefix-step-reads
 
--- src/step.rt:131:9
 pointer-of-requires : tie.Need-pointer-of-requires
 pointer-of-requires c κs = search needs
 
--- src/step.rt:133:29
 enum-told : tie.Need-enum-told
 enum-told c = search needs
 
--- src/step.rt:134:29
 enum-told-2 : tie.Need-enum-told-2
 enum-told-2 c = search needs
 
--- src/step.rt:135:25
 enum-known-pointer : tie.Need-enum-known-pointer
 enum-known-pointer c = search needs
 
--- src/step.rt:135:36
 prefix-step-requires : tie.Need-prefix-step-requires
 prefix-step-requires c κs = (c .before .before .before .before .before .pre .0, c .before .before .before .before .before .pre .1, prefix-facts _ _ _ (c .before .before .before .pointer-of .ensures) _ (c .before .pointer .given .1) .2)
 
--- src/step.rt:136:14
 plain-step-requires : tie.Need-plain-step-requires
 plain-step-requires c κs = (c .before .before .before .pre .0, c .before .before .before .pre .1, (_, c .before .pointer-of .ensures))
 
--- src/step.rt:127:1
 returns : tie.Need-returns
 returns c = step-nothing _ _ _ _ _ (c .before .before .pointer-of .ensures) (c .enum-told .given .1)
 
--- src/step.rt:127:1
 returns-2 : tie.Need-returns-2
 returns-2 c = step-leaf _ _ _ _ _ (c .before .before .pointer-of .ensures) _ (c .enum-told2 .given .1)
 
--- src/step.rt:127:1
 returns-3 : tie.Need-returns-3
 returns-3 c = step-prefix _ _ _ _ _ (c .before .before .before .before .pointer-of .ensures) _ (c .before .before .pointer .given .1) _ (c .prefix-step .ensures)
 
--- src/step.rt:127:1
 returns-4 : tie.Need-returns-4
 returns-4 c = step-plain _ _ _ _ (c .before .before .pointer-of .result) (c .before .before .pointer-of .ensures) (c .before .match .keys4) _ (c .plain-step .ensures)
 

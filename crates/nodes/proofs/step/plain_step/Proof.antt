@@ -5,59 +5,41 @@ use Rattle.nodes.proofs.StepWays.{cell-length, plain-chain, plain-spars
 use borrow.Author.Needs.{needs}
 use Rattle.nodes.proofs.step.plain_step.Statement.{statement}
 use Rattle.nodes.proofs.step.plain_step.Tie as tie
-use Rattle.nodes.proofs.step.plain_step.Reads as reads
-use Rattle.nodes.proofs.step.plain_step.Lts as lts
-use Rattle.cells.proofs.cell.Reads as cell-reads
-use Rattle.nodes.proofs.step.chain_step.Reads as chain-step-reads
-use Rattle.nodes.proofs.step.sparse_step.Reads as sparse-step-reads
-use Rattle.nodes.proofs.step.split_step.Reads as split-step-reads
 
--- src/step.rt:106:24
 enum-known-pointer : tie.Need-enum-known-pointer
 enum-known-pointer c = search needs
 
--- src/step.rt:106:53
 cell-requires : tie.Need-cell-requires
 cell-requires c κs = omega (arith, chain-facts _ _ _ (c .before .before .before .before .pre .2 .1) _ _ (c .before .pointer .given .1) .3)
 
--- src/step.rt:106:42
 chain-step-requires : tie.Need-chain-step-requires
 chain-step-requires c κs = let facts = chain-facts _ _ _ (c .before .before .before .before .before .pre .2 .1) _ _ (c .before .before .pointer .given .1) in
     (cell-length _ _ _ (c .cell .ensures), omega (arith, facts .3), facts .2)
 
--- src/step.rt:107:25
 enum-known-pointer-2 : tie.Need-enum-known-pointer-2
 enum-known-pointer-2 c = search needs
 
--- src/step.rt:107:48
 cell-requires-2 : tie.Need-cell-requires-2
 cell-requires-2 c κs = omega (arith, sparse-facts _ _ _ (c .before .before .before .before .pre .2 .1) _ (c .before .pointer2 .given .1) .2)
 
--- src/step.rt:107:36
 sparse-step-requires : tie.Need-sparse-step-requires
 sparse-step-requires c κs = cell-length _ _ _ (c .cell2 .ensures)
 
--- src/step.rt:108:24
 enum-known-pointer-3 : tie.Need-enum-known-pointer-3
 enum-known-pointer-3 c = search needs
 
--- src/step.rt:108:35
 split-step-requires : tie.Need-split-step-requires
 split-step-requires c κs = (c .before .before .before .before .pre .0, split-facts _ _ _ (c .before .before .before .before .pre .2 .1) _ (c .before .pointer3 .given .1) .2)
 
--- src/step.rt:101:1
 returns : tie.Need-returns
 returns c = plain-chain _ _ _ _ _ _ _ (c .before .before .before .pointer .given .1) _ (c .before .cell .ensures) (c .chain-step .ensures)
 
--- src/step.rt:101:1
 returns-2 : tie.Need-returns-2
 returns-2 c = plain-sparse _ _ _ _ _ _ (c .before .before .before .pointer2 .given .1) _ (c .before .cell2 .ensures) (c .sparse-step .ensures)
 
--- src/step.rt:101:1
 returns-3 : tie.Need-returns-3
 returns-3 c = plain-split _ _ _ _ _ _ (c .before .before .pointer3 .given .1) (c .split-step .ensures)
 
--- src/step.rt:101:1
 returns-4 : tie.Need-returns-4
 returns-4 c = rest-of-plain _ _ (c .before .before .args .pointer) (c .before .before .args .character) (c .match .keys4)
 

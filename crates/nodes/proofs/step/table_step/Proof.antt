@@ -5,51 +5,34 @@ use Rattle.nodes.proofs.StepWays.{cell-length, table-other, table-broke
 use borrow.Author.Needs.{needs}
 use Rattle.nodes.proofs.step.table_step.Statement.{statement}
 use Rattle.nodes.proofs.step.table_step.Tie as tie
-use Rattle.nodes.proofs.step.table_step.Reads as reads
-use Rattle.nodes.proofs.step.table_step.Lts as lts
-use Rattle.cells.proofs.cell.Reads as cell-reads
-use Rattle.cells.proofs.word_at.Reads as word-at-reads
-use Rattle.nodes.proofs.pointer.pointer_of.Reads as pointer-of-reads
-use Rattle.nodes.proofs.split.is_valid_table.Reads as is-valid-table-reads
-use Rattle.nodes.proofs.step.word_step.Reads as word-step-reads
 
--- src/step.rt:69:34
 pointer-of-requires : tie.Need-pointer-of-requires
 pointer-of-requires c κs = search needs
 
--- src/step.rt:69:24
 enum-known-number : tie.Need-enum-known-number
 enum-known-number c = search needs
 
--- src/step.rt:70:9
 returns : tie.Need-returns
 returns c = table-other _ _ _ _ (c .before .pointer-of .result) (c .before .pointer-of .ensures) (c .match .keys2)
 
--- src/step.rt:72:9
 cell-requires : tie.Need-cell-requires
 cell-requires c κs = omega (arith, split-facts _ _ _ (c .before .before .before .pointer-of .ensures) _ (c .before .number .given .1) .2)
 
--- src/step.rt:73:9
 is-valid-table-requires : tie.Need-is-valid-table-requires
 is-valid-table-requires c κs = cell-length _ _ _ (c .cell .ensures)
 
--- src/step.rt:74:9
 returns-2 : tie.Need-returns-2
 returns-2 c = table-broken _ _ _ _ _ (c .before .before .before .before .before .before .pointer-of .ensures) _ (c .before .before .before .before .number .given .1) _ (c .before .before .cell .ensures) _ (c .before .is-valid-table .ensures) (not-true _ (c .if1 .taken))
 
--- src/step.rt:76:30
 mul-word-at : tie.Need-mul-word-at
 mul-word-at c = search needs
 
--- src/step.rt:76:15
 word-at-requires : tie.Need-word-at-requires
 word-at-requires c κs = omega (arith, cell-length _ _ _ (c .before .before .cell .ensures))
 
--- src/step.rt:76:5
 word-step-requires : tie.Need-word-step-requires
 word-step-requires c κs = search needs
 
--- src/step.rt:65:1
 returns-3 : tie.Need-returns-3
 returns-3 c = table-taken _ _ _ _ _ (c .before .before .before .before .before .before .before .before .pointer-of .ensures) _ (c .before .before .before .before .before .before .number .given .1) _ (c .before .before .before .before .cell .ensures) _ (c .before .before .before .is-valid-table .ensures) (not-false _ (c .before .before .if1 .left)) _ (c .before .word-at .ensures) _ (c .word-step .ensures)
 

@@ -1,14 +1,10 @@
 use Rattle.nodes.proofs.StepWays.{word-missing, word-found}
 use Rattle.nodes.proofs.step.word_step.Statement.{statement}
 use Rattle.nodes.proofs.step.word_step.Tie as tie
-use Rattle.nodes.proofs.step.word_step.Reads as reads
-use Rattle.nodes.proofs.step.word_step.Lts as lts
 
--- src/step.rt:33:9
 returns : tie.Need-returns
 returns c = word-missing _ (c .if1 .taken)
 
--- src/step.rt:29:1
 returns-2 : tie.Need-returns-2
 returns-2 c = word-found _ (c .if1 .left)
 

@@ -5,41 +5,28 @@ use Rattle.nodes.proofs.ValueWays.{value-leaf, value-prefix, value-none
 use borrow.Author.Needs.{needs}
 use Rattle.nodes.proofs.value.value_at.Statement.{statement}
 use Rattle.nodes.proofs.value.value_at.Tie as tie
-use Rattle.nodes.proofs.value.value_at.Reads as reads
-use Rattle.nodes.proofs.value.value_at.Lts as lts
-use Rattle.cells.proofs.cell.Reads as cell-reads
-use Rattle.cells.proofs.word_at.Reads as word-at-reads
-use Rattle.nodes.proofs.pointer.pointer_of.Reads as pointer-of-reads
 
--- src/value.rt:24:11
 pointer-of-requires : tie.Need-pointer-of-requires
 pointer-of-requires c κs = search needs
 
--- src/value.rt:25:23
 enum-known-value : tie.Need-enum-known-value
 enum-known-value c = search needs
 
--- src/value.rt:26:25
 enum-known-number : tie.Need-enum-known-number
 enum-known-number c = search needs
 
--- src/value.rt:26:56
 cell-requires : tie.Need-cell-requires
 cell-requires c κs = omega (arith, prefix-facts _ _ _ (c .before .before .before .pointer-of .ensures) _ (c .before .number .given .1) .2)
 
--- src/value.rt:26:48
 word-at-requires : tie.Need-word-at-requires
 word-at-requires c κs = omega (arith, cell-length _ _ _ (c .cell .ensures))
 
--- src/value.rt:20:1
 returns : tie.Need-returns
 returns c = value-leaf _ _ _ _ (c .before .before .before .pointer-of .ensures) _ (c .before .value .given .1)
 
--- src/value.rt:20:1
 returns-2 : tie.Need-returns-2
 returns-2 c = value-prefix _ _ _ _ (c .before .before .before .before .before .pointer-of .ensures) _ (c .before .before .before .number .given .1) _ (c .before .cell .ensures) _ (c .word-at .ensures)
 
--- src/value.rt:20:1
 returns-3 : tie.Need-returns-3
 returns-3 c = value-none _ _ _ (c .before .pointer-of .result) (c .before .pointer-of .ensures) (c .match .keys3)
 

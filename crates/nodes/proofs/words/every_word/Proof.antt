@@ -8,9 +8,6 @@ use Rattle.nodes.proofs.WordRows.{every-start, every-step, every-fails,
 use borrow.Author.Needs.{needs}
 use Rattle.nodes.proofs.words.every_word.Statement.{statement}
 use Rattle.nodes.proofs.words.every_word.Tie as tie
-use Rattle.nodes.proofs.words.every_word.Reads as reads
-use Rattle.nodes.proofs.words.every_word.Lts as lts
-use Rattle.cells.proofs.word_at.Reads as word-at-reads
 
 abbrev Inv-loop : tie.InvT-loop
 Inv-loop cell start count from end i₀ i = (i ≤ end) × (everyWord (wordsFrom cell start) count from ≡ everyWord (wordsFrom cell start) (end - i) i)
@@ -18,43 +15,33 @@ Inv-loop cell start count from end i₀ i = (i ≤ end) × (everyWord (wordsFrom
 abbrev μ-loop : tie.MeasureT-loop
 μ-loop cell start count from end i₀ i = end - i
 
--- src/words.rt:31:15
 add-end : tie.Need-add-end Inv-loop μ-loop
 add-end c = search needs
 
--- src/words.rt:33:5
 loop-holds : tie.Need-loop-holds Inv-loop μ-loop
 loop-holds c = (omega arith, every-start _ _ _)
 
--- src/words.rt:34:42
 mul-word-at : tie.Need-mul-word-at Inv-loop μ-loop
 mul-word-at c = search needs
 
--- src/words.rt:34:34
 add-word-at : tie.Need-add-word-at Inv-loop μ-loop
 add-word-at c = search needs
 
--- src/words.rt:34:13
 word-at-requires : tie.Need-word-at-requires Inv-loop μ-loop
 word-at-requires c κs = search needs
 
--- src/words.rt:36:13
 returns : tie.Need-returns Inv-loop μ-loop
 returns c = sym (c .before .before .before .loop .inv .1 ∙ every-fails _ _ (c .before .before .before .before .before .args .from + c .before .before .before .before .before .args .count - (c .before .before .before .loop .i + 1)) _ _ (c .before .word-at .ensures) (c .if1 .taken) (omega arith))
 
--- src/words.rt:38:9
 add-i : tie.Need-add-i Inv-loop μ-loop
 add-i c = search needs
 
--- src/words.rt:33:5
 loop-less : tie.Need-loop-less Inv-loop μ-loop
 loop-less c = search needs
 
--- src/words.rt:33:5
 loop-again : tie.Need-loop-again Inv-loop μ-loop
 loop-again c = (omega arith, c .before .before .before .loop .inv .1 ∙ every-step _ _ _ _ _ (c .before .word-at .ensures) (c .if1 .left) (omega arith))
 
--- src/words.rt:27:1
 returns-2 : tie.Need-returns-2 Inv-loop μ-loop
 returns-2 c = sym (c .before .loop .inv .1 ∙ every-stop _ _ _ (omega arith))
 

@@ -8,9 +8,6 @@ use Rattle.nodes.proofs.WordRows.{some-start, some-step, some-found, so
 use borrow.Author.Needs.{needs}
 use Rattle.nodes.proofs.words.some_word.Statement.{statement}
 use Rattle.nodes.proofs.words.some_word.Tie as tie
-use Rattle.nodes.proofs.words.some_word.Reads as reads
-use Rattle.nodes.proofs.words.some_word.Lts as lts
-use Rattle.cells.proofs.word_at.Reads as word-at-reads
 
 abbrev Inv-loop : tie.InvT-loop
 Inv-loop cell start count from end i₀ i = (i ≤ end) × (someWord (wordsFrom cell start) count from ≡ someWord (wordsFrom cell start) (end - i) i)
@@ -18,43 +15,33 @@ Inv-loop cell start count from end i₀ i = (i ≤ end) × (someWord (wordsFrom 
 abbrev μ-loop : tie.MeasureT-loop
 μ-loop cell start count from end i₀ i = end - i
 
--- src/words.rt:14:15
 add-end : tie.Need-add-end Inv-loop μ-loop
 add-end c = search needs
 
--- src/words.rt:16:5
 loop-holds : tie.Need-loop-holds Inv-loop μ-loop
 loop-holds c = (omega arith, some-start _ _ _)
 
--- src/words.rt:17:42
 mul-word-at : tie.Need-mul-word-at Inv-loop μ-loop
 mul-word-at c = search needs
 
--- src/words.rt:17:34
 add-word-at : tie.Need-add-word-at Inv-loop μ-loop
 add-word-at c = search needs
 
--- src/words.rt:17:13
 word-at-requires : tie.Need-word-at-requires Inv-loop μ-loop
 word-at-requires c κs = search needs
 
--- src/words.rt:19:13
 returns : tie.Need-returns Inv-loop μ-loop
 returns c = sym (c .before .before .before .loop .inv .1 ∙ some-found _ _ (c .before .before .before .before .before .args .from + c .before .before .before .before .before .args .count - (c .before .before .before .loop .i + 1)) _ _ (c .before .word-at .ensures) (c .if1 .taken) (omega arith))
 
--- src/words.rt:21:9
 add-i : tie.Need-add-i Inv-loop μ-loop
 add-i c = search needs
 
--- src/words.rt:16:5
 loop-less : tie.Need-loop-less Inv-loop μ-loop
 loop-less c = search needs
 
--- src/words.rt:16:5
 loop-again : tie.Need-loop-again Inv-loop μ-loop
 loop-again c = (omega arith, c .before .before .before .loop .inv .1 ∙ some-step _ _ _ _ _ (c .before .word-at .ensures) (c .if1 .left) (omega arith))
 
--- src/words.rt:10:1
 returns-2 : tie.Need-returns-2 Inv-loop μ-loop
 returns-2 c = sym (c .before .loop .inv .1 ∙ some-stop _ _ _ (omega arith))
 

@@ -8,8 +8,6 @@ use lib.ListN.{length, drop, replicate, set, length-set}
 use Rattle.store.proofs.FormatSteps.{filled}
 use Rattle.store.proofs.formatting.clear.Statement.{statement}
 use Rattle.store.proofs.formatting.clear.Tie as tie
-use Rattle.store.proofs.formatting.clear.Reads as reads
-use Rattle.store.proofs.formatting.clear.Lts as lts
 
 abbrev Inv-loop : tie.InvT-loop
 Inv-loop bytes₀ i₀ bytes i = (i ≤ length bytes₀) × (length bytes ≡ length bytes₀) × (bytes ≡ replicate i 0 ++ drop i bytes₀)
@@ -17,23 +15,18 @@ Inv-loop bytes₀ i₀ bytes i = (i ≤ length bytes₀) × (length bytes ≡ le
 abbrev μ-loop : tie.MeasureT-loop
 μ-loop bytes₀ i₀ bytes i = length bytes₀ - i
 
--- src/formatting.rt:19:5
 loop-holds : tie.Need-loop-holds Inv-loop μ-loop
 loop-holds c = search needs
 
--- src/formatting.rt:20:9
 slice-write-bytes : tie.Need-slice-write-bytes Inv-loop μ-loop
 slice-write-bytes c = search needs
 
--- src/formatting.rt:21:9
 add-i : tie.Need-add-i Inv-loop μ-loop
 add-i c = search needs
 
--- src/formatting.rt:19:5
 loop-less : tie.Need-loop-less Inv-loop μ-loop
 loop-less c = search needs
 
--- src/formatting.rt:19:5
 loop-again : tie.Need-loop-again Inv-loop μ-loop
 loop-again c = (
   omega arith,
@@ -41,11 +34,9 @@ loop-again c = (
   ap (λ (l : List ℕ). set l (c .before .loop .i) 0) (c .before .loop .inv .2) ∙ fill-more (c .before .loop .i) 0 (c .before .before .args .bytes .now) (omega arith),
 )
 
--- src/formatting.rt:15:1
 same-length : tie.Need-same-length Inv-loop μ-loop
 same-length c = search needs
 
--- src/formatting.rt:15:1
 returns : tie.Need-returns Inv-loop μ-loop
 returns c = filled _ _ _ (omega arith) (c .before .loop .inv .0) (c .before .loop .inv .2)
 

@@ -5,58 +5,40 @@ use Rattle.blocks.proofs.TrailerSteps.{size-facts}
 use borrow.Author.Needs.{needs}
 use Rattle.store.proofs.formatting.format.Statement.{statement}
 use Rattle.store.proofs.formatting.format.Tie as tie
-use Rattle.store.proofs.formatting.format.Reads as reads
-use Rattle.store.proofs.formatting.format.Lts as lts
-use Rattle.cells.proofs.put_word.Reads as put-word-reads
-use Rattle.store.proofs.formatting.clear.Reads as clear-reads
-use Rattle.blocks.proofs.trailer_fields.is_bad_size.Reads as is-bad-size-reads
-use Rattle.blocks.proofs.trailer_fields.trailer_at.Reads as trailer-at-reads
 
--- src/formatting.rt:29:8
 is-bad-size-requires : tie.Need-is-bad-size-requires
 is-bad-size-requires c κs = search needs
 
--- src/formatting.rt:30:9
 same-length : tie.Need-same-length
 same-length c = search needs
 
--- src/formatting.rt:30:9
 returns : tie.Need-returns
 returns c = format-refused _ (sym (c .before .is-bad-size .ensures) ∙ c .if1 .taken)
 
--- src/formatting.rt:33:9
 trailer-at-requires : tie.Need-trailer-at-requires
 trailer-at-requires c κs = omega (arith, size-facts _ (sym (c .before .is-bad-size .ensures) ∙ c .if1 .left))
 
--- src/formatting.rt:34:5
 clear-requires : tie.Need-clear-requires
 clear-requires c κs = search needs
 
--- src/formatting.rt:35:21
 add-put-word : tie.Need-add-put-word
 add-put-word c = search needs
 
--- src/formatting.rt:35:33
 cast-put-word : tie.Need-cast-put-word
 cast-put-word c = omega (arith, size-facts _ (sym (c .before .before .before .before .before .before .before .is-bad-size .ensures) ∙ c .before .before .before .before .before .before .if1 .left))
 
--- src/formatting.rt:35:5
 put-word-requires : tie.Need-put-word-requires
 put-word-requires c κs = omega (arith, size-facts _ (sym (c .before .before .before .before .before .before .before .is-bad-size .ensures) ∙ c .before .before .before .before .before .before .if1 .left))
 
--- src/formatting.rt:36:21
 add-put-word-2 : tie.Need-add-put-word-2
 add-put-word-2 c = search needs
 
--- src/formatting.rt:36:5
 put-word-requires-2 : tie.Need-put-word-requires-2
 put-word-requires-2 c κs = omega (arith, size-facts _ (sym (c .before .before .before .before .before .before .before .before .before .before .before .is-bad-size .ensures) ∙ c .before .before .before .before .before .before .before .before .before .before .if1 .left))
 
--- src/formatting.rt:26:1
 same-length-2 : tie.Need-same-length-2
 same-length-2 c = search needs
 
--- src/formatting.rt:26:1
 returns-2 : tie.Need-returns-2
 returns-2 c =
     format-done _ _ _ _ _ (sym (c .before .before .before .before .before .before .before .before .before .before .before .before .before .before .is-bad-size .ensures) ∙ c .before .before .before .before .before .before .before .before .before .before .before .before .before .if1 .left) (c .before .before .before .before .before .before .before .before .before .before .before .before .trailer-at .ensures)

@@ -12,13 +12,11 @@ use Rattle.store.specs.Free.{countUp}
 use Rattle.store.proofs.FreeSteps.{trailer-one, unmarked, Walked, walk-start, listed-more, walk-kept, walk-dropped, walk-end, walk-done}
 use Rattle.store.proofs.free_cells.free_cells.Statement.{statement}
 use Rattle.store.proofs.free_cells.free_cells.Tie as tie
-use Rattle.store.proofs.free_cells.free_cells.Reads as reads
-use Rattle.store.proofs.free_cells.free_cells.Lts as lts
-use Rattle.nodes.proofs.layout.trailer_cells.Reads as trailer-cells-reads
+use Rattle.nodes.specs.Layout.{cellLimit}
 
 abbrev Inv-loop : tie.InvT-loop
 Inv-loop root stamps numbers₀ cells end count₀ cell₀ numbers count cell =
-    (1 ≤ cell) × (end ≤ 2048) × (count < cell) × (count ≤ length numbers)
+    (1 ≤ cell) × (end ≤ cellLimit) × (count < cell) × (count ≤ length numbers)
     × Walked (unmarked stamps) (select (unmarked stamps) (countUp (end - 1) 1)) numbers count (end - cell) cell
 
 abbrev μ-loop : tie.MeasureT-loop

@@ -3,11 +3,6 @@ use borrow.Author.Needs.{needs}
 use Rattle.store.proofs.CommitSteps.{commit-root}
 use Rattle.store.proofs.inserting.commit.Statement.{statement}
 use Rattle.store.proofs.inserting.commit.Tie as tie
-use Rattle.store.proofs.inserting.commit.Reads as reads
-use Rattle.store.proofs.inserting.commit.Lts as lts
-use Rattle.store.proofs.inserting.commit_cells.Reads as commit-cells-reads
-use Rattle.blocks.proofs.trailer_fields.trailer_at.Reads as trailer-at-reads
-use Rattle.cells.proofs.put_word.Reads as put-word-reads
 
 trailer-at-requires : tie.Need-trailer-at-requires
 trailer-at-requires c κs = search needs

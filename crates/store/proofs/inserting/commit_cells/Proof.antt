@@ -10,9 +10,6 @@ use Rattle.insertion.specs.Staged.{staged}
 use Rattle.store.proofs.CommitSteps.{commit-none, commit-more, commit-all}
 use Rattle.store.proofs.inserting.commit_cells.Statement.{statement}
 use Rattle.store.proofs.inserting.commit_cells.Tie as tie
-use Rattle.store.proofs.inserting.commit_cells.Reads as reads
-use Rattle.store.proofs.inserting.commit_cells.Lts as lts
-use Rattle.insertion.proofs.stage.copy_cell.Reads as copy-cell-reads
 
 abbrev Inv-loop : tie.InvT-loop
 Inv-loop block₀ stage numbers count i₀ block i =

@@ -7,13 +7,6 @@ use Rattle.store.proofs.InsertRefused.{insert-size, insert-unsound, ins
 use borrow.Author.Needs.{needs}
 use Rattle.store.proofs.inserting.insert.Statement.{statement}
 use Rattle.store.proofs.inserting.insert.Tie as tie
-use Rattle.store.proofs.inserting.insert.Reads as reads
-use Rattle.store.proofs.inserting.insert.Lts as lts
-use Rattle.store.proofs.inserting.insert_valid.Reads as insert-valid-reads
-use Rattle.blocks.proofs.key.is_bad_key.Reads as is-bad-key-reads
-use Rattle.blocks.proofs.trailer_fields.is_bad_size.Reads as is-bad-size-reads
-use Rattle.blocks.proofs.trailer_fields.layout_of.Reads as layout-of-reads
-use Rattle.blocks.proofs.validate.is_sound.Reads as is-sound-reads
 
 is-bad-size-requires : tie.Need-is-bad-size-requires
 is-bad-size-requires c κs = search needs

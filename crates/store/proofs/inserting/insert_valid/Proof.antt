@@ -4,12 +4,6 @@ use Rattle.store.proofs.InsertCode.{insertable-fits, build-ready, made-
 use borrow.Author.Needs.{needs}
 use Rattle.store.proofs.inserting.insert_valid.Statement.{statement}
 use Rattle.store.proofs.inserting.insert_valid.Tie as tie
-use Rattle.store.proofs.inserting.insert_valid.Reads as reads
-use Rattle.store.proofs.inserting.insert_valid.Lts as lts
-use Rattle.store.proofs.free_cells.free_cells.Reads as free-cells-reads
-use Rattle.store.proofs.inserting.commit.Reads as commit-reads
-use Rattle.insertion.proofs.build.build_from.Reads as build-from-reads
-use Rattle.blocks.proofs.trailer_fields.root_word.Reads as root-word-reads
 
 root-word-requires : tie.Need-root-word-requires
 root-word-requires c κs = insertable-fits _ _ _ _ _ (c .before .before .before .pre)
@@ -17,8 +11,8 @@ root-word-requires c κs = insertable-fits _ _ _ _ _ (c .before .before .before 
 free-cells-requires : tie.Need-free-cells-requires
 free-cells-requires c κs = let f = insertable-fits _ _ _ _ _ (c .before .before .before .before .before .pre) in (omega (arith, f .least), f .most)
 
-build-from-requires : tie.Need-build-from-requires
-build-from-requires c κs =
+build-requires : tie.Need-build-requires
+build-requires c κs =
     let listed = c .before .before .before in
     build-ready _ _ _ _ _ (listed .before .before .before .before .before .before .pre) _ _ _ (listed .before .before .root-word .ensures) (listed .free-cells .ensures)
 
@@ -29,16 +23,16 @@ returns : tie.Need-returns
 returns c =
     let listed = c .before .before .before .before .before in
     insert-lacks _ _ _ _ _ (listed .before .before .before .before .before .before .pre) _ _ _ (listed .before .before .root-word .ensures) (listed .free-cells .ensures)
-    _ _ (c .before .build-from .ensures) (c .if1 .taken)
+    _ _ (c .before .build .ensures) (c .if1 .taken)
 
 commit-requires : tie.Need-commit-requires
 commit-requires c κs =
     let listed = c .before .before .before .before .before .before .before .before in
     let built = c .before .before .before .before in (
       insertable-fits _ _ _ _ _ (listed .before .before .before .before .before .before .pre),
-      made-most _ _ _ _ _ (listed .before .before .before .before .before .before .pre) _ _ _ (listed .before .before .root-word .ensures) (listed .free-cells .ensures) _ _ (built .build-from .ensures),
+      made-most _ _ _ _ _ (listed .before .before .before .before .before .before .pre) _ _ _ (listed .before .before .root-word .ensures) (listed .free-cells .ensures) _ _ (built .build .ensures),
       taken-inside _ _ _ _ _ (listed .before .before .before .before .before .before .pre) _ _ _ (listed .before .before .root-word .ensures) (listed .free-cells .ensures)
-          _ _ (built .build-from .ensures) (c .before .before .before .if1 .left),
+          _ _ (built .build .ensures) (c .before .before .before .if1 .left),
     )
 
 cast-t26 : tie.Need-cast-t26
@@ -47,7 +41,7 @@ cast-t26 c =
     omega (
       arith,
       made-most _ _ _ _ _ (listed .before .before .before .before .before .before .pre) _ _ _
-          (listed .before .before .root-word .ensures) (listed .free-cells .ensures) _ _ (c .before .before .before .before .before .before .before .build-from .ensures),
+          (listed .before .before .root-word .ensures) (listed .free-cells .ensures) _ _ (c .before .before .before .before .before .before .before .build .ensures),
     )
 
 same-length-2 : tie.Need-same-length-2
@@ -57,7 +51,7 @@ returns-2 : tie.Need-returns-2
 returns-2 c =
     let listed = c .before .before .before .before .before .before .before .before .before .before .before in
     insert-takes _ _ _ _ _ (listed .before .before .before .before .before .before .pre) _ _ _ (listed .before .before .root-word .ensures) (listed .free-cells .ensures)
-    _ _ (c .before .before .before .before .before .before .before .build-from .ensures) (c .before .before .before .before .before .before .if1 .left) _ (c .before .before .commit .ensures)
+    _ _ (c .before .before .before .before .before .before .before .build .ensures) (c .before .before .before .before .before .before .if1 .left) _ (c .before .before .commit .ensures)
 
 pub insert-valid-spec : {M : Type 1} → statement M
 insert-valid-spec =
@@ -65,7 +59,7 @@ insert-valid-spec =
     (tie.spec
     root-word-requires
     free-cells-requires
-    build-from-requires
+    build-requires
     same-length
     returns
     commit-requires

@@ -2,29 +2,19 @@ use Rattle.store.proofs.SnapshotSteps.{restore-put}
 use borrow.Author.Needs.{needs}
 use Rattle.store.proofs.snapshots.put_restore.Statement.{statement}
 use Rattle.store.proofs.snapshots.put_restore.Tie as tie
-use Rattle.store.proofs.snapshots.put_restore.Reads as reads
-use Rattle.store.proofs.snapshots.put_restore.Lts as lts
-use Rattle.cells.proofs.put_word.Reads as put-word-reads
-use Rattle.blocks.proofs.trailer_fields.slot_word.Reads as slot-word-reads
-use Rattle.blocks.proofs.trailer_fields.trailer_at.Reads as trailer-at-reads
 
--- src/snapshots.rt:87:9
 slot-word-requires : tie.Need-slot-word-requires
 slot-word-requires c κs = search needs
 
--- src/snapshots.rt:88:21
 trailer-at-requires : tie.Need-trailer-at-requires
 trailer-at-requires c κs = search needs
 
--- src/snapshots.rt:88:5
 put-word-requires : tie.Need-put-word-requires
 put-word-requires c κs = search needs
 
--- src/snapshots.rt:83:1
 same-length : tie.Need-same-length
 same-length c = search needs
 
--- src/snapshots.rt:83:1
 returns : tie.Need-returns
 returns c = restore-put _ _ _ _ _ _ (c .before .before .before .before .before .slot-word .ensures) (c .before .before .before .trailer-at .ensures) (c .before .before .put-word .ensures)
 

@@ -1,18 +1,13 @@
 use Rattle.store.proofs.SnapshotSteps.{bit-one, bit-two, bit-three}
 use Rattle.store.proofs.snapshots.slot_bit.Statement.{statement}
 use Rattle.store.proofs.snapshots.slot_bit.Tie as tie
-use Rattle.store.proofs.snapshots.slot_bit.Reads as reads
-use Rattle.store.proofs.snapshots.slot_bit.Lts as lts
 
--- src/snapshots.rt:30:9
 returns : tie.Need-returns
 returns c = bit-one _ (c .if1 .taken)
 
--- src/snapshots.rt:33:9
 returns-2 : tie.Need-returns-2
 returns-2 c = bit-two _ (c .if2 .taken)
 
--- src/snapshots.rt:25:1
 returns-3 : tie.Need-returns-3
 returns-3 c = bit-three _ _ (c .before .before .pre) (c .before .if1 .left) (c .if2 .left)
 

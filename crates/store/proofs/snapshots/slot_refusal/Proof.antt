@@ -5,40 +5,28 @@ use Rattle.blocks.proofs.RefusalSteps.{refused-number, done-number}
 use borrow.Author.Needs.{needs}
 use Rattle.store.proofs.snapshots.slot_refusal.Statement.{statement}
 use Rattle.store.proofs.snapshots.slot_refusal.Tie as tie
-use Rattle.store.proofs.snapshots.slot_refusal.Reads as reads
-use Rattle.store.proofs.snapshots.slot_refusal.Lts as lts
-use Rattle.blocks.proofs.trailer_fields.is_valid_slot.Reads as is-valid-slot-reads
-use Rattle.blocks.proofs.trailer_fields.layout_of.Reads as layout-of-reads
-use Rattle.blocks.proofs.validate.validate.Reads as validate-reads
 
--- src/snapshots.rt:104:9
 validate-requires : tie.Need-validate-requires
 validate-requires c κs = search needs
 
 enum-told : tie.Need-enum-told
 enum-told c = search needs
 
--- src/snapshots.rt:106:9
 enum-told-2 : tie.Need-enum-told-2
 enum-told-2 c = search needs
 
--- src/snapshots.rt:106:9
 returns : tie.Need-returns
 returns c = block-refused _ _ _ (c .before .before .validate .ensures) (refused-number _ _ (c .enum-told2 .given .1))
 
--- src/snapshots.rt:108:23
 layout-of-requires : tie.Need-layout-of-requires
 layout-of-requires c κs = valid-size _ (c .before .before .validate .ensures ∙ done-number _ (c .enum-told .given .1))
 
--- src/snapshots.rt:108:9
 is-valid-slot-requires : tie.Need-is-valid-slot-requires
 is-valid-slot-requires c κs = search needs
 
--- src/snapshots.rt:109:9
 returns-2 : tie.Need-returns-2
 returns-2 c = slot-refused _ _ (c .before .before .before .before .before .validate .ensures ∙ done-number _ (c .before .before .before .enum-told .given .1)) _ _ (c .before .before .layout-of .ensures) (c .before .is-valid-slot .ensures) (not-true _ (c .if1 .taken))
 
--- src/snapshots.rt:101:1
 returns-3 : tie.Need-returns-3
 returns-3 c = slot-accepted _ _ (c .before .before .before .before .before .validate .ensures ∙ done-number _ (c .before .before .before .enum-told .given .1)) _ _ (c .before .before .layout-of .ensures) (c .before .is-valid-slot .ensures) (not-false _ (c .if1 .left))
 

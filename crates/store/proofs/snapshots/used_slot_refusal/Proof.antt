@@ -5,40 +5,28 @@ use Rattle.blocks.proofs.RefusalSteps.{refused-number, done-number}
 use borrow.Author.Needs.{needs}
 use Rattle.store.proofs.snapshots.used_slot_refusal.Statement.{statement}
 use Rattle.store.proofs.snapshots.used_slot_refusal.Tie as tie
-use Rattle.store.proofs.snapshots.used_slot_refusal.Reads as reads
-use Rattle.store.proofs.snapshots.used_slot_refusal.Lts as lts
-use Rattle.store.proofs.snapshots.slot_refusal.Reads as slot-refusal-reads
-use Rattle.blocks.proofs.trailer_fields.is_in_use.Reads as is-in-use-reads
-use Rattle.blocks.proofs.trailer_fields.layout_of.Reads as layout-of-reads
 
--- src/snapshots.rt:118:9
 slot-refusal-requires : tie.Need-slot-refusal-requires
 slot-refusal-requires c κs = search needs
 
 enum-told : tie.Need-enum-told
 enum-told c = search needs
 
--- src/snapshots.rt:120:9
 enum-told-2 : tie.Need-enum-told-2
 enum-told-2 c = search needs
 
--- src/snapshots.rt:120:9
 returns : tie.Need-returns
 returns c = earlier-refused _ _ _ (c .before .before .slot-refusal .ensures) (refused-number _ _ (c .enum-told2 .given .1))
 
--- src/snapshots.rt:122:19
 layout-of-requires : tie.Need-layout-of-requires
 layout-of-requires c κs = slot-size _ _ (c .before .before .slot-refusal .ensures ∙ done-number _ (c .enum-told .given .1))
 
--- src/snapshots.rt:122:9
 is-in-use-requires : tie.Need-is-in-use-requires
 is-in-use-requires c κs = slot-fits _ _ (c .before .before .before .slot-refusal .ensures ∙ done-number _ (c .before .enum-told .given .1)) _ (c .layout-of .ensures)
 
--- src/snapshots.rt:123:9
 returns-2 : tie.Need-returns-2
 returns-2 c = use-refused _ _ (c .before .before .before .before .before .slot-refusal .ensures ∙ done-number _ (c .before .before .before .enum-told .given .1)) _ _ (c .before .before .layout-of .ensures) (c .before .is-in-use .ensures) (not-true _ (c .if1 .taken))
 
--- src/snapshots.rt:115:1
 returns-3 : tie.Need-returns-3
 returns-3 c = use-accepted _ _ (c .before .before .before .before .before .slot-refusal .ensures ∙ done-number _ (c .before .before .before .enum-told .given .1)) _ _ (c .before .before .layout-of .ensures) (c .before .is-in-use .ensures) (not-false _ (c .if1 .left))
 

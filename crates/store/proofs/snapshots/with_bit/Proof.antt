@@ -5,37 +5,25 @@ use Rattle.store.proofs.SnapshotSteps.{bit-kept, bit-added, bit-room}
 use borrow.Author.Needs.{needs}
 use Rattle.store.proofs.snapshots.with_bit.Statement.{statement}
 use Rattle.store.proofs.snapshots.with_bit.Tie as tie
-use Rattle.store.proofs.snapshots.with_bit.Reads as reads
-use Rattle.store.proofs.snapshots.with_bit.Lts as lts
-use Rattle.store.proofs.snapshots.slot_bit.Reads as slot-bit-reads
-use Rattle.blocks.proofs.trailer_fields.is_in_use.Reads as is-in-use-reads
-use Rattle.blocks.proofs.trailer_fields.trailer_at.Reads as trailer-at-reads
 
--- src/snapshots.rt:43:22
 trailer-at-requires : tie.Need-trailer-at-requires
 trailer-at-requires c κs = search needs
 
--- src/snapshots.rt:43:22
 add-bits : tie.Need-add-bits
 add-bits c = search needs
 
--- src/snapshots.rt:43:16
 shared-slice-read-bits : tie.Need-shared-slice-read-bits
 shared-slice-read-bits c = search needs
 
--- src/snapshots.rt:44:8
 is-in-use-requires : tie.Need-is-in-use-requires
 is-in-use-requires c κs = search needs
 
--- src/snapshots.rt:45:9
 returns : tie.Need-returns
 returns c = bit-kept _ _ _ _ (c .before .before .before .trailer-at .ensures) (sym (c .before .is-in-use .ensures) ∙ c .if1 .taken)
 
--- src/snapshots.rt:47:12
 slot-bit-requires : tie.Need-slot-bit-requires
 slot-bit-requires c κs = search needs
 
--- src/snapshots.rt:47:5
 add-result : tie.Need-add-result
 add-result c =
     omega (
@@ -44,7 +32,6 @@ add-result c =
           (sym (c .before .before .is-in-use .ensures) ∙ c .before .if1 .left) (c .before .before .before .shared-slice-known2 .given (c .before .before .before .before .trailer-at .result + 16) .fits),
     )
 
--- src/snapshots.rt:39:1
 returns-2 : tie.Need-returns-2
 returns-2 c = bit-added _ _ _ _ (c .before .before .before .before .trailer-at .ensures) _ (c .slot-bit .ensures) (sym (c .before .before .is-in-use .ensures) ∙ c .before .if1 .left)
 

@@ -18,7 +18,7 @@ use Rattle.trees.proofs.next_key.+first_below.{statement}
 use Rattle.trees.proofs.next_key.+first_below.Tie.{close}
 
 abbrev μ-first-below : Measures 2 first-below-kinds.ps ℕ
-μ-first-below κs a = 48 - a .1 .1 .1 .1 .0
+μ-first-below κs a = keyLimit - a .1 .1 .1 .1 .0
 
 abbrev first-below-at : ℕ → In 2 first-below-kinds.ps
 first-below-at t =

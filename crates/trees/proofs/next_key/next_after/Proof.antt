@@ -6,11 +6,9 @@ use Rattle.trees.proofs.next_key.next_after.Statement.{statement}
 use Rattle.trees.proofs.next_key.next_after.Tie as tie
 
 next-from-requires : tie.Need-next-from-requires
-unfolding keyLimit
 next-from-requires c κs = (search needs, search needs, omega arith, c .before .before .before .pre .2)
 
 returns : tie.Need-returns
-unfolding keyLimit
 returns c = c .next-from .ensures
 
 pub next-after-spec : {M : Type 1} → statement M

@@ -13,7 +13,6 @@ node-check-requires : tie.Need-node-check-requires
 node-check-requires c κs = search needs
 
 returns-2 : tie.Need-returns-2
-unfolding keyLimit
 returns-2 c = judged-same _ _ _ _ _ _ (root-plain _ _ _ (c .before .before .if1 .left)) (c .node-check .ensures)
 
 pub root-check-spec : {M : Type 1} → statement M
