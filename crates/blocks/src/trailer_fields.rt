@@ -7,6 +7,7 @@ ghost use Rattle.blocks.specs.Trailer.{badSize, layoutOf, rootWord, slot
 ghost use Rattle.blocks.specs.Fits.{Fits};
 ghost use Rattle.nodes.specs.Layout.{cellLimit};
 use cells::word_at;
+use nodes::layout::CELL_LIMIT;
 use nodes::layout::Layout;
 
 // Whether a block is no valid number of whole cells.

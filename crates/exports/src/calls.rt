@@ -8,11 +8,11 @@ use blocks::answer::ChangeAnswer;
 use blocks::answer::number;
 use blocks::next::next_key;
 use blocks::validate::validate;
+use nodes::layout::KEY_LIMIT;
 use store::formatting::format;
 use store::snapshots::release;
 use store::snapshots::restore;
 use store::snapshots::snapshot;
-use nodes::layout::KEY_LIMIT;
 
 // The answer number of a change.
 fn change_number(answer: ChangeAnswer) -> u8

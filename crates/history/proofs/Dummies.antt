@@ -15,7 +15,7 @@ use Rattle.cells.proofs.Choice.{never}
 use Rattle.cells.proofs.Words.{set-bytes, bytes-zeros}
 use Rattle.nodes.specs.Layout.{keyLimit}
 use Rattle.trees.specs.Lookup.{emptyTable, sameKey, update}
-use Rattle.insertion.specs.Build.{cellsNeeded}
+use Rattle.updates.specs.Build.{cellsNeeded}
 use Rattle.blocks.specs.Trailer.{badSize, layoutOf, rootWord, slots, validSlot}
 use Rattle.blocks.specs.Refusal.{overLong, badKey, badNewKey, badValue}
 use Rattle.blocks.specs.Refusal.{Changed}

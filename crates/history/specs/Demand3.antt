@@ -12,8 +12,8 @@ use Rattle.cells.specs.Memory.{memoryOf}
 use Rattle.cells.specs.Occurrences.{occurrences, select}
 use Rattle.trees.specs.Root.{rootCells}
 use Rattle.trees.specs.Lookup.{Table, lookup}
-use Rattle.insertion.specs.Build.{cellsNeeded}
-use Rattle.insertion.specs.Commit.{memoryWith}
+use Rattle.updates.specs.Build.{cellsNeeded}
+use Rattle.updates.specs.Commit.{memoryWith}
 use Rattle.blocks.specs.Trailer.{badSize, layoutOf, rootWord, slots, validSlot, slotWord, inUse}
 use Rattle.blocks.specs.Sound.{sound, reachable}
 use Rattle.blocks.specs.Refusal.{badNewKey, badValue}

@@ -8,6 +8,7 @@ use Rattle.nodes.specs.Pointer.Pointer.{leaf, chain, split, sparse, pref
 use Rattle.nodes.specs.Coded.{pointerOf}
 use Rattle.nodes.specs.declared.pointer.Pointer.the-variants.{Leaf, Chain, Split, Sparse, Prefix}
 use Rattle.nodes.proofs.Pointers.{names, usable-inside}
+use Rattle.nodes.specs.declared.pointer.Pointer.{Pointer as CodedPointer}
 
 module _ (layout : Layout) (p : CodedPointer) (w : ℕ) (coded : pointerOf p ≡ pointer layout w) where
   -- what the word names

@@ -21,6 +21,7 @@ use Rattle.nodes.specs.declared.step.ChildStep.the-variants.{Found, Miss
 use Rattle.nodes.proofs.Rest.{Among, rest-of-plain}
 use Rattle.nodes.proofs.StepWays.{chain-broken, chain-found, chain-missing, sparse-broken, split-broken, split-missing, split-onwards, plain-chain, plain-sparse, plain-split, prefix-broken, prefix-taken, step-nothing, step-leaf, step-prefix, step-plain}
 use Rattle.nodes.proofs.FirstStep.{skip, first-none, first-found, first-broken, first-same}
+use Rattle.nodes.specs.declared.pointer.Pointer.{Pointer as CodedPointer}
 
 -- a chain
 module _ (bytes : List ℕ) (c k from child : ℕ) (read : child ≡ chainChild bytes c k) where

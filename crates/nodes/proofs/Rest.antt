@@ -14,6 +14,9 @@ use Rattle.nodes.specs.Coded.{pointerOf, stepOf}
 use Rattle.nodes.specs.declared.pointer.Pointer.the-variants.{Nothing, Leaf, Chain, Split, Sparse, Prefix, Invalid}
 use Rattle.nodes.specs.declared.step.ChildStep.{ChildStep}
 use Rattle.nodes.specs.declared.step.ChildStep.the-variants.{Found, Missing, Broken}
+use Rattle.nodes.specs.declared.pointer.Pointer.{Pointer as CodedPointer}
+use Rattle.nodes.proofs.pointer.Pointer.{the-type as pointer-type}
+use Rattle.nodes.proofs.step.ChildStep.{the-type as step-type}
 
 -- a pointer, or a step, of one of some cases, each by its place in the list of cases
 abbrev pub Among : List ℕ → CodedPointer → Type 0

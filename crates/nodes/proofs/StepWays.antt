@@ -22,6 +22,7 @@ use Rattle.nodes.specs.declared.step.ChildStep.{ChildStep}
 use Rattle.nodes.specs.declared.step.ChildStep.the-variants.{Found}
 use Rattle.nodes.proofs.Frame.{split-cell-is}
 use Rattle.nodes.proofs.Rest.{Among, AmongSteps, rest-of-split, rest-of-step, rest-of-found}
+use Rattle.nodes.specs.declared.pointer.Pointer.{Pointer as CodedPointer}
 
 -- the bytes of a cell read from a block are 32
 pub cell-length : (bytes block : List ℕ) (c : ℕ) → bytes ≡ memoryOf block c → length bytes ≡ 32

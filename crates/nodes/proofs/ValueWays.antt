@@ -11,6 +11,7 @@ use Rattle.nodes.specs.Value.{pointerValue, valueOf}
 use Rattle.nodes.specs.Coded.{pointerOf}
 use Rattle.nodes.specs.declared.pointer.Pointer.the-variants.{Leaf, Prefix}
 use Rattle.nodes.proofs.Rest.{Among, rest-of-value}
+use Rattle.nodes.specs.declared.pointer.Pointer.{Pointer as CodedPointer}
 
 module _ (layout : Layout) (m : Memory) (word : ℕ) (p : CodedPointer) (coded : pointerOf p ≡ pointer layout word) where
   at-pointer : pointerValue m (pointerOf p) ≡ valueOf layout m word

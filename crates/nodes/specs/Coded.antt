@@ -13,6 +13,7 @@ use Rattle.nodes.specs.declared.step.ChildStep.the-variants.{Found, Miss
 use Rattle.nodes.specs.declared.least.Least.{Least}
 use Rattle.nodes.specs.declared.value.Value.{Value}
 use Rattle.nodes.specs.declared.value.Value.the-variants.{Held, Empty}
+use Rattle.nodes.specs.declared.pointer.Pointer.{Pointer as CodedPointer}
 
 -- what a word names
 abbrev pub pointerOf : CodedPointer → Pointer

@@ -2,7 +2,6 @@
 use mathlib.Core.Bool.{Bool, _&&_}
 use Prim.Native.Nat.{ℕ, _+_}
 use lib.Dec.{leb, ltb}
-use Rattle.nodes.specs.Layout.{cellLimit}
 
 -- edition and number of cells, as the code's struct has them
 abbrev pub Layout : Type 0
@@ -22,4 +21,4 @@ keyLimit = 48
 
 -- 01: "n from 4 to 2,048"
 abbrev pub cellLimit : ℕ
-cellLimit = cellLimit
+cellLimit = 2048

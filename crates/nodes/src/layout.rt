@@ -1,12 +1,25 @@
 // What a block's edition and size decide.
 ghost use mathlib.Core.Path.{_≡_};
-ghost use Rattle.nodes.specs.Layout.{trailerCells, usable};
+ghost use Rattle.nodes.specs.Layout.{trailerCells, usable, keyLimit, cellLimit};
 
 // The most characters that a key may have.
 pub const KEY_LIMIT: usize = 48;
 
 // The most cells that a block may have.
 pub const CELL_LIMIT: usize = 2048;
+
+// The two limits are those of the definitions.
+pub fn key_limit() -> usize
+    ensures { λ r. ⌜ r ≡ keyLimit ⌝ }
+{
+    KEY_LIMIT
+}
+
+pub fn cell_limit() -> usize
+    ensures { λ r. ⌜ r ≡ cellLimit ⌝ }
+{
+    CELL_LIMIT
+}
 
 pub struct Layout {
     pub edition: u32,

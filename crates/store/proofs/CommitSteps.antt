@@ -10,10 +10,10 @@ use Rattle.cells.specs.Memory.{memoryOf}
 use Rattle.cells.specs.Writes.{written, cellWrites}
 use Rattle.cells.proofs.CellWrites.{written-append}
 use Rattle.nodes.specs.Layout.{Layout}
-use Rattle.insertion.specs.Built.{Built}
-use Rattle.insertion.specs.Commit.{buildWrites}
-use Rattle.insertion.specs.Staged.{staged}
-use Rattle.insertion.proofs.StageLaws.{staged-length}
+use Rattle.updates.specs.Built.{Built}
+use Rattle.updates.specs.Commit.{buildWrites}
+use Rattle.staging.specs.Stage.{staged}
+use Rattle.staging.proofs.StageLaws.{staged-length}
 use Rattle.blocks.specs.Trailer.{trailerAt}
 use Rattle.store.specs.Committed.{commitWrites}
 

@@ -16,10 +16,10 @@ use Rattle.cells.specs.Occurrences.{occurrences}
 use Rattle.cells.proofs.Words.{word-same, byte-other}
 use Rattle.cells.proofs.Memory.{memory-byte, memory-written-same, memory-written-other}
 use Rattle.cells.proofs.CellWrites.{written-length, written-bytes, written-append}
-use Rattle.insertion.specs.Built.{Built}
-use Rattle.insertion.specs.Commit.{buildWrites, memoryWith}
-use Rattle.insertion.proofs.CellBytes.{Whole}
-use Rattle.insertion.proofs.Commit.{memoryWith-other, numbers-free, free-written}
+use Rattle.updates.specs.Built.{Built}
+use Rattle.updates.specs.Commit.{buildWrites, memoryWith}
+use Rattle.updates.proofs.BuildBytes.{Whole}
+use Rattle.updates.proofs.Commit.{memoryWith-other, numbers-free, free-written}
 use Rattle.blocks.specs.Trailer.{trailerAt, layoutOf, rootWord, slotWord, inUse, validTrailer}
 use Rattle.blocks.specs.Sound.{reachable}
 use Rattle.blocks.proofs.Trailer.{Sized, trailer-fits, TrailerSays, root-changed}

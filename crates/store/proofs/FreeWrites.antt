@@ -7,9 +7,9 @@ use Rattle.cells.specs.Occurrences.{occurrences}
 use Rattle.cells.specs.Writes.{Write, wordWrites}
 use Rattle.cells.proofs.Occurrences.{occurrences-here, occurrences-later}
 use Rattle.cells.proofs.Pointers.{cell-of-made}
-use Rattle.insertion.specs.Commit.{buildWrites}
-use Rattle.insertion.proofs.Claims.{numbers}
-use Rattle.insertion.proofs.Commit.{numbers-free}
+use Rattle.updates.specs.Commit.{buildWrites}
+use Rattle.updates.proofs.Claims.{numbers}
+use Rattle.updates.proofs.Commit.{numbers-free}
 use Rattle.blocks.specs.Trailer.{layoutOf}
 use Rattle.store.specs.Free.{free}
 use Rattle.store.specs.Insert.{numbering, blockBuild}

@@ -18,12 +18,13 @@ use Rattle.cells.proofs.Memory.{memory-length, memory-bytes}
 use Rattle.nodes.specs.Layout.{Layout, keyLimit}
 use Rattle.trees.specs.Root.{validRoot, rootCells}
 use Rattle.trees.specs.Lookup.{lookup, update}
-use Rattle.insertion.specs.Build.{cellsNeeded}
-use Rattle.insertion.specs.Commit.{memoryWith}
-use Rattle.insertion.proofs.CellBytes.{Whole, memory-cell, build-whole}
-use Rattle.insertion.proofs.Bound.{build-bound}
-use Rattle.insertion.proofs.Taken.{enough-free}
-use Rattle.insertion.proofs.InsertLaw.{Inserted as BuildInserted, insert-law}
+use Rattle.updates.specs.Build.{cellsNeeded}
+use Rattle.updates.specs.Commit.{memoryWith}
+use Rattle.updates.proofs.BuildBytes.{Whole, build-whole}
+use Rattle.staging.proofs.CellBytes.{memory-cell}
+use Rattle.updates.proofs.Bound.{build-bound}
+use Rattle.updates.proofs.Taken.{enough-free}
+use Rattle.updates.proofs.InsertLaw.{Inserted as BuildInserted, insert-law}
 use Rattle.blocks.specs.Trailer.{badSize, layoutOf, rootWord, slotWord, inUse}
 use Rattle.blocks.specs.Sound.{sound}
 use Rattle.blocks.specs.Refusal.{firstRefusal, overLong, badKey, badNewKey, badValue, Inserted}

@@ -12,16 +12,18 @@ use Rattle.cells.proofs.Occurrences.{occurrences-at}
 use Rattle.nodes.specs.Layout.{Layout, keyLimit}
 use Rattle.nodes.proofs.Pointers.{usable-inside}
 use Rattle.trees.specs.Tree.{tree}
-use Rattle.trees.proofs.RootCheck.{key-limit}
-use Rattle.insertion.specs.Built.{Built}
-use Rattle.insertion.specs.Build.{build, cellsNeeded}
-use Rattle.insertion.specs.Commit.{numberFrom, buildWrites}
-use Rattle.insertion.specs.Staged.{stageCells, staged, Numbered, builtOf, HasTree}
-use Rattle.insertion.specs.declared.stage.Made.{Made}
-use Rattle.insertion.proofs.Bound.{build-bound}
-use Rattle.insertion.proofs.Count.{count-needed}
-use Rattle.insertion.proofs.Commit.{numbering-free}
-use Rattle.insertion.proofs.StageLaws.{staged-length, number-listed}
+use Rattle.updates.specs.Built.{Built}
+use Rattle.updates.specs.Build.{build, cellsNeeded}
+use Rattle.staging.specs.Numbering.{numberFrom}
+use Rattle.updates.specs.Commit.{buildWrites}
+use Rattle.staging.specs.Stage.{stageCells, staged}
+use Rattle.staging.specs.Numbering.{Numbered}
+use Rattle.updates.specs.Staged.{builtOf, HasTree}
+use Rattle.staging.specs.declared.stage.Made.{Made}
+use Rattle.updates.proofs.Bound.{build-bound}
+use Rattle.updates.proofs.Count.{count-needed}
+use Rattle.updates.proofs.Commit.{numbering-free}
+use Rattle.staging.proofs.StageLaws.{staged-length, number-listed}
 use Rattle.blocks.specs.Fits.{Fits}
 use Rattle.blocks.specs.Trailer.{trailerAt, layoutOf, rootWord}
 use Rattle.blocks.specs.Sound.{soundWith}
@@ -44,7 +46,7 @@ module _ (layout : Layout) (b stamps key : List ℕ) (value : ℕ) (p : Insertab
   insertable-fits = layout-fits b layout (p .size) (p .stated)
 
   pub insertable-key : length key ≤ keyLimit
-  insertable-key = omega (arith, key-fits key (p .good-key), key-limit)
+  insertable-key = omega (arith, key-fits key (p .good-key))
 
   module _ (root : ℕ) (numbers : List ℕ) (count : ℕ) (root-is : root ≡ rootWord layout b) (listed : Listed numbers count (unstamped layout root stamps)) where
     -- the numbers listed are the free cells

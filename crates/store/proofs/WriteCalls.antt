@@ -11,7 +11,7 @@ use Rattle.cells.specs.Bytes.{IsBytes}
 use Rattle.cells.specs.Memory.{memoryOf}
 use Rattle.cells.specs.Occurrences.{occurrences, all, distinct}
 use Rattle.trees.specs.Lookup.{Table, update}
-use Rattle.insertion.specs.Build.{cellsNeeded}
+use Rattle.updates.specs.Build.{cellsNeeded}
 use Rattle.blocks.specs.Trailer.{badSize, layoutOf, rootWord, validSlot, inUse}
 use Rattle.blocks.specs.Sound.{sound}
 use Rattle.blocks.specs.Refusal.{Refusal, refusal, firstRefusal, Changed, changedBy, badNewKey, badValue, Inserted}

@@ -4,8 +4,8 @@ use Prim.Native.Nat.{ℕ, _+_, _*_, _≤_, _<_}
 use lib.ListN.{getD}
 use Rattle.cells.specs.Writes.{Write}
 use Rattle.nodes.specs.Layout.{Layout}
-use Rattle.insertion.specs.Built.{Built}
-use Rattle.insertion.specs.Commit.{buildWrites}
+use Rattle.updates.specs.Built.{Built}
+use Rattle.updates.specs.Commit.{buildWrites}
 use Rattle.blocks.specs.Trailer.{trailerAt}
 
 -- the cells of the first so many numbers lie inside so many bytes

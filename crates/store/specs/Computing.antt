@@ -18,12 +18,13 @@ use Rattle.nodes.specs.Node.{chainNode, plain, readAt, read}
 use Rattle.trees.specs.Tree.{spread, step, tree}
 use Rattle.trees.specs.Root.{isRoot, rootTree, onceVisited, cellsOf}
 use Rattle.trees.specs.Lookup.{lookup}
-use Rattle.insertion.specs.NewCells.{blank, chainCell, prefixCell, pairCell, sparsePair, withoutCharacters, sparseCopy, withOrder, appendedCell, tableCopy, headCopy, withWords}
-use Rattle.insertion.specs.Built.{allocate, room, characterBefore, chainWith, chainOver}
-use Rattle.insertion.specs.SplitBuild.{tableRow, rows, endRow, midRow, splitOf, splitCopied}
-use Rattle.insertion.specs.SetChild.{chainSet, sparseSet, setChild}
-use Rattle.insertion.specs.Build.{wordAside, valueAside, putBack, childOf, pathCopy, valueAt, build, cellsNeeded}
-use Rattle.insertion.specs.Commit.{numberFrom, buildWrites}
+use Rattle.staging.specs.NewCells.{blank, chainCell, prefixCell, pairCell, sparsePair, withoutCharacters, sparseCopy, withOrder, appendedCell, tableCopy, headCopy, withWords}
+use Rattle.updates.specs.Built.{allocate, room, characterBefore, chainWith, chainOver}
+use Rattle.updates.specs.SplitBuild.{tableRow, rows, endRow, midRow, splitOf, splitCopied}
+use Rattle.updates.specs.SetChild.{chainSet, sparseSet, setChild}
+use Rattle.updates.specs.Build.{wordAside, valueAside, putBack, childOf, pathCopy, valueAt, build, cellsNeeded}
+use Rattle.staging.specs.Numbering.{numberFrom}
+use Rattle.updates.specs.Commit.{buildWrites}
 use Rattle.blocks.specs.Trailer.{badSize, layoutOf, rootWord, slots, validSlot, slotAt, inUse, everySlot, validTrailer}
 use Rattle.blocks.specs.Sound.{slotRoots, roots, soundWith, reachedFrom}
 use Rattle.blocks.specs.Refusal.{firstRefusal, overLong, badKey, badNewKey, badValue}

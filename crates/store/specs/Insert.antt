@@ -6,9 +6,10 @@ use lib.Dec.{ltb, eqb}
 use lib.ListN.{length}
 use Rattle.cells.specs.Memory.{memoryOf}
 use Rattle.cells.specs.Writes.{Write, written}
-use Rattle.insertion.specs.Built.{Built}
-use Rattle.insertion.specs.Build.{build, cellsNeeded}
-use Rattle.insertion.specs.Commit.{numberFrom, buildWrites}
+use Rattle.updates.specs.Built.{Built}
+use Rattle.updates.specs.Build.{build, cellsNeeded}
+use Rattle.staging.specs.Numbering.{numberFrom}
+use Rattle.updates.specs.Commit.{buildWrites}
 use Rattle.blocks.specs.Trailer.{layoutOf, trailerAt, rootWord}
 use Rattle.blocks.specs.Refusal.{Refusal, refusal, firstRefusal, Inserted, badNewKey, badValue}
 use Rattle.blocks.specs.Read.{blockRefusals}

@@ -3,8 +3,9 @@ ghost use mathlib.Core.Path.{_≡_};
 ghost use Prim.Native.Nat.{_≤_};
 ghost use lib.ListN.{length, getD};
 ghost use Rattle.cells.specs.Writes.{written};
-ghost use Rattle.insertion.specs.Commit.{buildWrites};
-ghost use Rattle.insertion.specs.Staged.{stageCells, staged, builtOf};
+ghost use Rattle.updates.specs.Commit.{buildWrites};
+ghost use Rattle.staging.specs.Stage.{stageCells, staged};
+ghost use Rattle.updates.specs.Staged.{builtOf};
 ghost use Rattle.blocks.specs.Answers.{insertedOutcome};
 ghost use Rattle.blocks.specs.Fits.{Fits};
 ghost use Rattle.store.specs.Committed.{Inside, commitWrites};
@@ -20,12 +21,12 @@ use blocks::trailer_fields::root_word;
 use blocks::trailer_fields::trailer_at;
 use blocks::validate::is_sound;
 use cells::put_word;
-use insertion::build::build;
-use insertion::stage::Made;
-use insertion::stage::STAGE_SIZE;
-use insertion::stage::copy_cell;
 use nodes::layout::CELL_LIMIT;
 use nodes::layout::Layout;
+use staging::stage::Made;
+use staging::stage::STAGE_SIZE;
+use staging::stage::copy_cell;
+use updates::build::build;
 
 // Writes the staged cells, in the order allocated, into the block at their numbers.
 fn commit_cells(

@@ -27,6 +27,8 @@ use Rattle.trees.specs.Coded.{Grown, keyBelow}
 use Rattle.trees.proofs.NextParts.{least-none, least-later, least-here, else-none, else-some}
 use Rattle.trees.proofs.NextWalk.{first-key-end, first-key-more, next-from-end, next-from-nil, next-from-cons}
 use Rattle.trees.proofs.LookSteps.{grown-read, child-word, child-grown, found-word, stopped-word}
+use Rattle.nodes.specs.declared.step.ChildStep.the-variants.{Found as FoundChild}
+use Rattle.nodes.proofs.least.Least.{the-type as least-type}
 
 -- a least child is one of the words, and not NONE
 pub least-held : (words : ℕ → ℕ) (count from x : ℕ) → leastFrom words count from ≡ some x → (from ≤ x) × (x < from + count) × (words x ≢ 0)

@@ -19,10 +19,6 @@ use Rattle.trees.proofs.Usable.{Usable, tree-usable}
 use Rattle.trees.proofs.Admit.{Inside, Admitted, admitted, distinct-admit, admit-refused}
 use Rattle.trees.proofs.Judging.{visit-nothing, visit-found}
 
--- the limit that the code has
-pub key-limit : keyLimit ≡ 48
-key-limit = refl
-
 -- every cell that a root visits is usable
 pub root-usable : (layout : Layout) (m : Memory) (word : ℕ) (cs : List ℕ) → rootTree layout m word ≡ some cs → Usable layout cs
 unfolding rootTree

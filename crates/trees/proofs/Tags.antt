@@ -16,6 +16,7 @@ use Rattle.nodes.proofs.Rest.{Among}
 use Rattle.trees.specs.Tree.{tree}
 use Rattle.trees.specs.Parts.{isPlain, plainTree}
 use Rattle.trees.proofs.ChildTrees.{plain-is, plain-not, tree-invalid}
+use Rattle.nodes.specs.declared.pointer.Pointer.{Pointer as CodedPointer}
 
 -- any but a chain, sparse or split
 pub not-plain : (p : CodedPointer) → Among (0 ∷ 1 ∷ 5 ∷ 6 ∷ []) p → isPlain (pointerOf p) ≡ false

@@ -5,8 +5,8 @@ use native.Mathlib.Omega.{arith}
 use lib.ListN.{length, getD}
 use borrow.Author.Needs.{needs}
 use Rattle.cells.specs.Writes.{written}
-use Rattle.insertion.specs.Commit.{buildWrites}
-use Rattle.insertion.specs.Staged.{staged}
+use Rattle.updates.specs.Commit.{buildWrites}
+use Rattle.staging.specs.Stage.{staged}
 use Rattle.store.proofs.CommitSteps.{commit-none, commit-more, commit-all}
 use Rattle.store.proofs.inserting.commit_cells.Statement.{statement}
 use Rattle.store.proofs.inserting.commit_cells.Tie as tie

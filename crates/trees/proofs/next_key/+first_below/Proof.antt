@@ -1,5 +1,6 @@
 -- `first_below` meets its contract: one law for each answer, and the room left falls with each character. Assumes nothing.
 use Prim.Native.Nat.{ℕ, _-_, _<_}
+use Rattle.nodes.specs.Layout.{keyLimit}
 use native.Mathlib.Omega.{arith}
 use mathlib.Core.Path.{refl, sym, ap, _∙_}
 use borrow.Author.Needs.{needs}

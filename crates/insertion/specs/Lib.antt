@@ -1,8 +1,0 @@
-pub mod NewCells
-pub mod Built
-pub mod SplitBuild
-pub mod SetChild
-pub mod Build
-pub mod Commit
-pub mod OldChild
-pub mod Staged

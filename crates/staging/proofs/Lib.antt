@@ -1,0 +1,7 @@
+pub mod CellBytes
+pub mod TableWords
+pub mod StageLaws
+pub mod StageWrites
+pub mod CellPuts
+pub mod OrderInsert
+pub mod SparsePuts

@@ -1,0 +1,87 @@
+-- The words copied so far, and those left to copy, make up the cell.
+use mathlib.Core.Path.{_≡_, refl, _∙_}
+use native.Mathlib.Omega.{arith}
+use Prim.Native.Nat.{_-_, _≤_}
+use lib.ListN.{length}
+use borrow.Author.Needs.{needs}
+use Rattle.cells.specs.Memory.{memoryOf}
+use Rattle.cells.specs.Writes.{written, wordWrites, cellWrites}
+use Rattle.staging.proofs.StageWrites.{writes-more, writes-end, copied-word}
+use Rattle.staging.proofs.stage.copy_cell.Statement.{statement}
+use Rattle.staging.proofs.stage.copy_cell.Tie as tie
+
+abbrev Inv-loop : tie.InvT-loop
+Inv-loop bytes₀ number source from i₀ bytes i =
+    (i ≤ 8) × (length bytes ≡ length bytes₀)
+    × (written bytes₀ (cellWrites number (memoryOf source from)) ≡ written bytes (wordWrites number (memoryOf source from) (8 - i) i))
+
+abbrev μ-loop : tie.MeasureT-loop
+μ-loop bytes₀ number source from i₀ bytes i = 8 - i
+
+loop-holds : tie.Need-loop-holds Inv-loop μ-loop
+loop-holds c = (omega arith, refl, refl)
+
+mul-word-at : tie.Need-mul-word-at Inv-loop μ-loop
+mul-word-at c = search needs
+
+mul-word-at-2 : tie.Need-mul-word-at-2 Inv-loop μ-loop
+mul-word-at-2 c = search needs
+
+add-word-at : tie.Need-add-word-at Inv-loop μ-loop
+add-word-at c = search needs
+
+word-at-requires : tie.Need-word-at-requires Inv-loop μ-loop
+word-at-requires c κs = search needs
+
+mul-put-word : tie.Need-mul-put-word Inv-loop μ-loop
+mul-put-word c = search needs
+
+mul-put-word-2 : tie.Need-mul-put-word-2 Inv-loop μ-loop
+mul-put-word-2 c = search needs
+
+add-put-word : tie.Need-add-put-word Inv-loop μ-loop
+add-put-word c = search needs
+
+put-word-requires : tie.Need-put-word-requires Inv-loop μ-loop
+put-word-requires c κs = search needs
+
+add-i : tie.Need-add-i Inv-loop μ-loop
+add-i c = search needs
+
+loop-less : tie.Need-loop-less Inv-loop μ-loop
+loop-less c = search needs
+
+loop-again : tie.Need-loop-again Inv-loop μ-loop
+loop-again c = (
+  omega arith,
+  search needs,
+  writes-more _ _ _ _ _ _ _ _ _ (c .before .before .before .before .before .before .loop .inv .2) (c .before .before .put-word .ensures)
+      (c .before .before .before .before .word-at .ensures ∙ copied-word _ _ _ (omega arith)) (omega arith),
+)
+
+same-length : tie.Need-same-length Inv-loop μ-loop
+same-length c = search needs
+
+returns : tie.Need-returns Inv-loop μ-loop
+returns c = writes-end _ _ _ _ _ _ (c .before .loop .inv .2) (omega arith)
+
+pub copy-cell-spec : {M : Type 1} → statement M
+copy-cell-spec =
+    tie.close
+    (tie.spec
+    Inv-loop
+    μ-loop
+    loop-holds
+    mul-word-at
+    mul-word-at-2
+    add-word-at
+    word-at-requires
+    mul-put-word
+    mul-put-word-2
+    add-put-word
+    put-word-requires
+    add-i
+    loop-less
+    loop-again
+    same-length
+    returns)

@@ -1,0 +1,3 @@
+pub mod NewCells
+pub mod Numbering
+pub mod Stage

@@ -1,0 +1,105 @@
+-- What is said of a build: where its cells stand in a memory, and what its word then names and shows.
+use mathlib.Core.Path.{_≡_, ap}
+use mathlib.Core.Logic.{_≢_}
+use mathlib.Core.Bool.{true}
+use mathlib.Core.List.{List, [], _∷_}
+use mathlib.Core.Option.{none, some}
+use native.Mathlib.Omega.{arith}
+use Prim.Native.Nat.{ℕ, zero, suc, _+_, _≤_, _<_}
+use lib.ListN.{length, getD}
+use Rattle.cells.specs.Memory.{Memory}
+use Rattle.cells.specs.Occurrences.{occurrences}
+use Rattle.nodes.specs.Layout.{Layout, usable}
+use Rattle.nodes.specs.Pointer.{pointer, wordTo}
+use Rattle.nodes.specs.Node.{Node, read, plain}
+use Rattle.trees.specs.Tree.{tree}
+use Rattle.trees.specs.Lookup.{lookup, update}
+use Rattle.updates.specs.Built.{Built, roomOf}
+use Rattle.updates.specs.SetChild.{withChild}
+
+-- a cell's bytes are those of s from byte k on; all of them where k is 0
+abbrev pub From : ℕ → List ℕ → List ℕ → Type 0
+From zero bytes s = bytes ≡ s
+From (suc k) bytes s = (j : ℕ) → suc k ≤ j → j < 32 → getD bytes j 0 ≡ getD s j 0
+
+pub from-all : (k : ℕ) (bytes s : List ℕ) → bytes ≡ s → From k bytes s
+from-all zero bytes s e = e
+from-all (suc k) bytes s e = λ j a b. ap (λ z. getD z j 0) e
+
+pub from-at : (k : ℕ) (bytes s : List ℕ) (j : ℕ) → From k bytes s → k ≤ j → j < 32 → getD bytes j 0 ≡ getD s j 0
+from-at zero bytes s j f a b = ap (λ z. getD z j 0) f
+from-at (suc k) bytes s j f a b = f j a b
+
+-- the numbers of the allocated cells, newest first
+unfoldable pub numbers : (ℕ → ℕ) → List (List ℕ) → List ℕ
+numbers number [] = []
+numbers number (newest ∷ rest) = number (length rest) ∷ numbers number rest
+
+pub numbers-more : (number : ℕ → ℕ) (c : ℕ) (newest : List ℕ) (rest : List (List ℕ))
+    → occurrences c (numbers number (newest ∷ rest)) ≡ occurrences c (number (length rest) ∷ []) + occurrences c (numbers number rest)
+unfolding numbers occurrences
+numbers-more number c newest rest = omega arith
+
+-- a usable cell holds s from byte k on
+pub record Stands (layout : Layout) (m : Memory) (k c : ℕ) (s : List ℕ) : Type 0 where
+  pub free : usable layout c ≡ true
+  pub bytes : From k (m c) s
+
+module _ (layout : Layout) (number : ℕ → ℕ) where
+  -- the allocated cells stand at their numbers
+  abbrev pub Holds : Memory → List (List ℕ) → Type 0
+  Holds m [] = Unit {0}
+  Holds m (newest ∷ rest) = Stands layout m 0 (number (length rest)) newest × Holds m rest
+
+  -- the same, the newest from byte k on: below it the cell can still take characters
+  abbrev pub HoldsFrom : Memory → ℕ → List (List ℕ) → Type 0
+  HoldsFrom m k [] = Unit {0}
+  HoldsFrom m k (newest ∷ rest) = Stands layout m k (number (length rest)) newest × Holds m rest
+
+  abbrev pub Held : Memory → Built → Type 0
+  Held m b = HoldsFrom m (roomOf b) (b .cells)
+
+  pub holds-from : (m : Memory) (k : ℕ) (cells : List (List ℕ)) → Holds m cells → HoldsFrom m k cells
+  holds-from m k [] h = tt
+  holds-from m k (newest ∷ rest) h = (record { free = h .0 .free; bytes = from-all k _ _ (h .0 .bytes) }, h .1)
+
+  -- a chain that can take a character before it stands in the newest cell
+  abbrev pub Run : ℕ → ℕ → List (List ℕ) → Type 0
+  Run zero word cells = Unit {0}
+  Run (suc k) word [] = ⊥
+  Run (suc k) word (newest ∷ rest) = (word ≡ wordTo (number (length rest)) (suc k)) × (suc k ≤ 27) × (length newest ≡ 32)
+
+  -- the word of a build is a pointer
+  pub record Fine (b : Built) : Type 0 where
+    pub nonzero : b .word ≢ 0
+    pub small : b .word < 4294967296
+    pub run : Run (roomOf b) (b .word) (b .cells)
+
+  -- the node at the word of `after` has the children of Y with the word of b for the character x, and no value:
+  -- it visits no more than the cells of Y and those allocated since b, and each of the latter
+  pub record Placed (m′ : Memory) (Y : Node) (x : ℕ) (b after : Built) : Type 0 where
+    pub node : Node
+    pub reads : plain layout m′ (pointer layout (after .word)) ≡ some node
+    pub value : node .value ≡ none
+    pub child : (y : ℕ) → y < 256 → node .child y ≡ withChild (Y .child) x (b .word) y
+    pub most : (c : ℕ) → occurrences c (node .cells) + occurrences c (numbers number (b .cells)) ≤ occurrences c (Y .cells) + occurrences c (numbers number (after .cells))
+    pub least : (c : ℕ) → occurrences c (numbers number (after .cells)) ≤ occurrences c (node .cells) + occurrences c (numbers number (b .cells))
+    pub fine : Fine after
+
+  -- the same of a node with its value put back
+  pub record Changed (m′ : Memory) (X : Node) (x : ℕ) (b after : Built) : Type 0 where
+    pub node : Node
+    pub reads : read layout m′ (after .word) ≡ some node
+    pub value : node .value ≡ X .value
+    pub child : (y : ℕ) → y < 256 → node .child y ≡ withChild (X .child) x (b .word) y
+    pub most : (c : ℕ) → occurrences c (node .cells) + occurrences c (numbers number (b .cells)) ≤ occurrences c (X .cells) + occurrences c (numbers number (after .cells))
+    pub least : (c : ℕ) → occurrences c (numbers number (after .cells)) ≤ occurrences c (node .cells) + occurrences c (numbers number (b .cells))
+    pub fine : Fine after
+
+  -- the tree and the table at a built word, by those of the old word w
+  pub record Grown (m m′ : Memory) (depth w : ℕ) (cs key : List ℕ) (value : ℕ) (b : Built) : Type 0 where
+    pub cells : List ℕ
+    pub valid : tree layout m′ depth (b .word) ≡ some cells
+    pub most : (c : ℕ) → occurrences c cells ≤ occurrences c cs + occurrences c (numbers number (b .cells))
+    pub least : (c : ℕ) → occurrences c (numbers number (b .cells)) ≤ occurrences c cells
+    pub table : (k : List ℕ) → lookup layout m′ (b .word) k ≡ update (lookup layout m w) key value k

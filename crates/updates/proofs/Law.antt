@@ -1,0 +1,129 @@
+-- The law of the build: in any memory where its cells stand, and that is alike on the cells of the old tree, its word has
+-- a tree of old cells and of each allocated one, and the old table with the key updated.
+use mathlib.Core.Path.{_≡_, refl, sym, ap, _∙_, subst}
+use mathlib.Core.Logic.{_≢_}
+use mathlib.Core.Bool.{true}
+use mathlib.Core.List.{List, [], _∷_}
+use mathlib.Core.Option.{Option, none, some}
+use Prim.Native.Nat.{ℕ, zero, suc, _≤_, _<_}
+use native.Mathlib.Omega.{arith}
+use lib.ListN.{length}
+use Rattle.cells.specs.Bytes.{IsBytes}
+use Rattle.cells.specs.Memory.{Memory}
+use Rattle.cells.proofs.Choice.{never, absurd-false}
+use Rattle.cells.proofs.Words.{bytes-tail}
+use Rattle.cells.proofs.Occurrences.{Agree, agree-less}
+use Rattle.nodes.specs.Layout.{Layout, cellLimit}
+use Rattle.nodes.specs.Pointer.{Pointer, pointer}
+use Rattle.nodes.specs.Pointer.Pointer.{nothing, leaf, chain, split, sparse, prefix, invalid}
+use Rattle.nodes.specs.Node.{Node, plain, read}
+use Rattle.trees.specs.Tree.{tree}
+use Rattle.trees.specs.Root.{isRoot}
+use Rattle.trees.proofs.Tree.{tree-cut, tree-below}
+use Rattle.updates.specs.Built.{Built}
+use Rattle.updates.specs.SetChild.{setChild}
+use Rattle.updates.specs.Build.{wordAside, valueAside, putBack, childOf, pathCopy, build}
+use Rattle.updates.proofs.Claims.{Held, Fine, Placed, Grown}
+use Rattle.updates.proofs.Aside.{child-of, aside, nodeSet, node-held, bare-placed, node-changed}
+use Rattle.updates.proofs.KeyEnd.{end-grown}
+use Rattle.updates.proofs.Grow.{grow}
+
+-- a root has no value, and a chain, sparse or split is one
+root-value : (layout : Layout) (m : Memory) (p : Pointer) → isRoot p ≡ true → valueAside layout m p ≡ none
+unfolding isRoot valueAside
+root-value layout m nothing root = refl
+root-value layout m (leaf v) root = absurd-false root
+root-value layout m (chain c k) root = refl
+root-value layout m (split c) root = refl
+root-value layout m (sparse c) root = refl
+root-value layout m (prefix c) root = absurd-false root
+root-value layout m invalid root = refl
+
+plain-root : (layout : Layout) (m : Memory) (p : Pointer) (Z : Node) → plain layout m p ≡ some Z → isRoot p ≡ true
+unfolding plain isRoot
+plain-root layout m nothing Z e = never e
+plain-root layout m (leaf v) Z e = never e
+plain-root layout m (chain c k) Z e = refl
+plain-root layout m (split c) Z e = refl
+plain-root layout m (sparse c) Z e = refl
+plain-root layout m (prefix c) Z e = never e
+plain-root layout m invalid Z e = never e
+
+-- the word of a build is that of a root, and not NONE
+abbrev pub Rooted : Layout → Built → Type 0
+Rooted layout b = (isRoot (pointer layout (b .word)) ≡ true) × (b .word ≢ 0)
+
+-- a placed node is a root where no value is put back over it
+bare-root : (layout : Layout) (number : ℕ → ℕ) (m′ : Memory) (value : Option ℕ) → value ≡ none → (Y : Node) (x : ℕ) (b r : Built)
+    → Held layout number m′ (putBack layout number value r) → (Held layout number m′ r → Placed layout number m′ Y x b r)
+    → Rooted layout (putBack layout number value r)
+unfolding putBack
+bare-root layout number m′ none bare Y x b r held placed =
+    let p = placed held in (plain-root layout m′ (pointer layout (r .word)) (p .node) (p .reads), p .fine .nonzero)
+bare-root layout number m′ (some v) bare Y x b r held placed = never (sym bare)
+
+-- one character down: the node of a tree, and the tree below its child
+record Descent (layout : Layout) (m m′ : Memory) (d w x : ℕ) : Type 0 where
+  node : Node
+  reads : read layout m w ≡ some node
+  agree : Agree m m′ (node .cells)
+  cells : List ℕ
+  child : childOf (read layout m w) x ≡ node .child x
+  found : tree layout m d (childOf (read layout m w) x) ≡ some cells
+  agree-below : Agree m m′ cells
+
+descend : (layout : Layout) (m m′ : Memory) (d w x : ℕ) (cs : List ℕ) → x < 256 → tree layout m (suc d) w ≡ some cs → Agree m m′ cs
+    → Descent layout m m′ d w x
+descend layout m m′ d w x cs near found agree =
+    let q = tree-cut layout m (suc d) w cs found in
+    let l = tree-below layout m d w x cs (q .0) near found (q .2) in
+    let child : childOf (read layout m w) x ≡ q .0 .child x = child-of (read layout m w) (q .0) x (q .2) in
+    record {
+      node = q .0;
+      reads = q .2;
+      agree = agree-less m m′ cs (q .0 .cells) (λ c h. omega (arith, q .5 c)) agree;
+      cells = l .0;
+      child = child;
+      found = ap (tree layout m d) child ∙ l .1;
+      agree-below = agree-less m m′ cs (l .0) (λ c h. omega (arith, l .2 c)) agree;
+    }
+
+module _ (layout : Layout) (small : layout .cells ≤ cellLimit) (number : ℕ → ℕ) (m m′ : Memory)
+    (bytes : (c : ℕ) → IsBytes (m c)) (whole : (c : ℕ) → length (m c) ≡ 32) (value : ℕ) (clear : value < 2147483648) where
+  pub law : (key : List ℕ) → IsBytes key → (d w : ℕ) (cs : List ℕ) → length key ≤ d → tree layout m d w ≡ some cs → Agree m m′ cs
+      → Held layout number m′ (build layout number m w key value)
+      → Fine layout number (build layout number m w key value) × Grown layout number m m′ d w cs key value (build layout number m w key value)
+  unfolding build pathCopy
+  law [] is-bytes d w cs fits found agree held = end-grown layout small number m m′ bytes value clear d w cs found agree held
+  law (x ∷ key) is-bytes zero w cs fits found agree held = absurd (omega arith)
+  law (x ∷ key) is-bytes (suc d) w cs fits found agree held =
+      let near : x < 256 = is-bytes .below 0 in
+      let u : ℕ = childOf (read layout m w) x in
+      let b : Built = build layout number m u key value in
+      let s = descend layout m m′ d w x cs near found agree in
+      let later =
+      law key (bytes-tail x key is-bytes) d u (s .cells) (omega arith) (s .found) (s .agree-below) (node-held layout small number m m′ bytes whole w x b held) in
+      let changed = node-changed layout small number m m′ bytes whole w (s .node) (s .reads) (s .agree) x near b (later .0) held in (
+        changed .fine,
+        grow layout small number m m′ bytes d w cs found agree (s .node) (s .reads) x near (s .cells) (ap (tree layout m d) (sym (s .child)) ∙ s .found)
+            key value b (nodeSet layout number m w x b) changed (later .0)
+            (subst (λ v. Grown layout number m m′ d v (s .cells) key value b) (s .child) (later .1)),
+      )
+
+  -- a key that is not empty, built at a root, gives a chain, sparse or split
+  pub rooted : (key : List ℕ) → IsBytes key → 1 ≤ length key → (d w : ℕ) (cs : List ℕ) → length key ≤ d → tree layout m d w ≡ some cs
+      → Agree m m′ cs → isRoot (pointer layout w) ≡ true → Held layout number m′ (build layout number m w key value)
+      → Rooted layout (build layout number m w key value)
+  unfolding build pathCopy
+  rooted [] is-bytes some-key d w cs fits found agree root held = absurd (omega arith)
+  rooted (x ∷ key) is-bytes some-key zero w cs fits found agree root held = absurd (omega arith)
+  rooted (x ∷ key) is-bytes some-key (suc d) w cs fits found agree root held =
+      let near : x < 256 = is-bytes .below 0 in
+      let u : ℕ = childOf (read layout m w) x in
+      let b : Built = build layout number m u key value in
+      let s = descend layout m m′ d w x cs near found agree in
+      let later =
+      law key (bytes-tail x key is-bytes) d u (s .cells) (omega arith) (s .found) (s .agree-below) (node-held layout small number m m′ bytes whole w x b held) in
+      bare-root layout number m′ (valueAside layout m (pointer layout w)) (root-value layout m (pointer layout w) root)
+      (aside layout m w (s .node) (s .reads) .bare) x b (setChild layout number m (pointer layout (wordAside layout m (pointer layout w) w)) x b) held
+      (bare-placed layout small number m m′ bytes whole w (s .node) (s .reads) (s .agree) x near b (later .0))

@@ -1,0 +1,133 @@
+-- Laws of the room before a chain, and of a cell just allocated.
+use mathlib.Core.Path.{_≡_, refl, sym, subst}
+use mathlib.Core.Logic.{_≢_}
+use mathlib.Core.Bool.{Bool, true, false, _&&_, cond}
+use mathlib.Core.List.{List, [], _∷_}
+use Prim.Native.Nat.{ℕ, zero, suc, _+_, _*_, _%_, _≤_, _<_}
+use native.Mathlib.Omega.{arith}
+use lib.Dec.{ltb}
+use lib.ListN.{length}
+use borrow.Author.Tests.{lt-ltb, le-ltb}
+use Rattle.cells.specs.Memory.{Memory}
+use Rattle.cells.specs.Occurrences.{occurrences}
+use Rattle.cells.proofs.Pointers.{kind-of-made}
+use Rattle.nodes.specs.Layout.{Layout, usable, cellLimit}
+use Rattle.nodes.specs.Pointer.{pointer, byKind, wordTo}
+use Rattle.nodes.proofs.Pointers.{usable-low, usable-inside, made}
+use Rattle.updates.specs.Built.{Built, unowned, allocate, room, roomOf}
+use Rattle.updates.proofs.Claims.{numbers, numbers-more, Stands, Held, holds-from, Run, Fine}
+
+-- a word whose cell this call did not allocate has no room
+pub room-unowned : (word : ℕ) → room false word ≡ 0
+unfolding room
+room-unowned word = refl
+
+-- the room is never more than the kind
+cond-most : (t : Bool) (k : ℕ) → cond t k 0 ≤ k
+cond-most true k = omega arith
+cond-most false k = omega arith
+
+pub room-most : (own : Bool) (word : ℕ) → room own word ≤ word % 32
+unfolding room
+room-most own word = cond-most (own && ltb word 2147483648 && ltb (word % 32) 28) (word % 32)
+
+pub room-below : (own : Bool) (c k : ℕ) → room own (wordTo c k) ≤ k
+room-below own c k = omega (arith, room-most own (c * 32 + k))
+
+-- before a chain it is the kind, before any other node nothing
+pub room-chain : (c k : ℕ) → c < 67108864 → k < 28 → room true (wordTo c k) ≡ k
+unfolding room
+room-chain c k low chain =
+    let kind : (c * 32 + k) % 32 ≡ k = kind-of-made c k (omega arith) in
+    rw (kind, lt-ltb (c * 32 + k) 2147483648 (omega arith), lt-ltb k 28 chain)
+
+pub room-other : (c k : ℕ) → 28 ≤ k → k < 32 → room true (wordTo c k) ≡ 0
+unfolding room
+room-other c k other kind = go (ltb (c * 32 + k) 2147483648)
+  where
+    go : (t : Bool) → cond (true && t && ltb ((c * 32 + k) % 32) 28) ((c * 32 + k) % 32) 0 ≡ 0
+    go true = let here : (c * 32 + k) % 32 ≡ k = kind-of-made c k kind in rw (here, le-ltb k 28 other)
+    go false = refl
+
+-- a word whose cell this call did not allocate is fine where it is a pointer: nothing is written before it
+pub unowned-fine : (layout : Layout) (number : ℕ → ℕ) (word : ℕ) (cells : List (List ℕ)) → word ≢ 0 → word < 4294967296
+    → Fine layout number (unowned word cells)
+unowned-fine layout number word cells nonzero small =
+    record { nonzero = nonzero; small = small; run = subst (λ k. Run layout number k word cells) (sym (room-unowned word)) tt }
+
+-- the room of a node of another kind than a chain in a cell just allocated
+pub allocate-room : (number : ℕ → ℕ) (kind : ℕ) (bytes : List ℕ) (cells : List (List ℕ)) → 28 ≤ kind → kind < 32
+    → roomOf (allocate number kind bytes cells) ≡ 0
+unfolding allocate
+allocate-room number kind bytes cells other is = room-other (number (length cells)) kind other is
+
+-- its number is one more that was allocated
+pub allocate-numbers : (number : ℕ → ℕ) (c kind : ℕ) (bytes : List ℕ) (cells : List (List ℕ))
+    → occurrences c (numbers number (allocate number kind bytes cells .cells))
+    ≡ occurrences c (number (length cells) ∷ []) + occurrences c (numbers number cells)
+unfolding allocate
+allocate-numbers number c kind bytes cells = numbers-more number c bytes cells
+
+module _ (layout : Layout) (small : layout .cells ≤ cellLimit) (number : ℕ → ℕ) (cells : List (List ℕ)) (free : usable layout (number (length cells)) ≡ true) where
+  -- that of a chain
+  pub allocate-room-chain : (kind : ℕ) (bytes : List ℕ) → kind < 28 → roomOf (allocate number kind bytes cells) ≡ kind
+  unfolding allocate
+  allocate-room-chain kind bytes chain = room-chain (number (length cells)) kind (omega (arith, usable-inside layout (number (length cells)) free)) chain
+
+  -- the word names the kind in the cell, and is a pointer
+  pub allocate-names : (kind : ℕ) (bytes : List ℕ) → kind < 32 → pointer layout (allocate number kind bytes cells .word) ≡ byKind (number (length cells)) kind
+  unfolding allocate
+  allocate-names kind bytes is = made layout (number (length cells)) kind small free is
+
+  allocate-nonzero : (kind : ℕ) (bytes : List ℕ) → allocate number kind bytes cells .word ≢ 0
+  unfolding allocate
+  allocate-nonzero kind bytes = omega (arith, usable-low layout (number (length cells)) free)
+
+  allocate-small : (kind : ℕ) (bytes : List ℕ) → kind < 32 → allocate number kind bytes cells .word < 4294967296
+  unfolding allocate
+  allocate-small kind bytes is = omega (arith, usable-inside layout (number (length cells)) free)
+
+  allocate-run : (kind : ℕ) (bytes : List ℕ) → kind < 28 → length bytes ≡ 32
+      → Run layout number kind (allocate number kind bytes cells .word) (allocate number kind bytes cells .cells)
+  unfolding allocate
+  allocate-run zero bytes chain whole = tt
+  allocate-run (suc kind) bytes chain whole = (refl, omega arith, whole)
+
+  fine-as : (kind k : ℕ) (bytes : List ℕ) → kind < 32 → roomOf (allocate number kind bytes cells) ≡ k
+      → Run layout number k (allocate number kind bytes cells .word) (allocate number kind bytes cells .cells)
+      → Fine layout number (allocate number kind bytes cells)
+  fine-as kind k bytes is has run =
+      record {
+        nonzero = allocate-nonzero kind bytes;
+        small = allocate-small kind bytes is;
+        run = subst (λ j. Run layout number j (allocate number kind bytes cells .word) (allocate number kind bytes cells .cells)) (sym has) run;
+      }
+
+  pub allocate-fine : (kind : ℕ) (bytes : List ℕ) → 28 ≤ kind → kind < 32 → Fine layout number (allocate number kind bytes cells)
+  allocate-fine kind bytes other is = fine-as kind 0 bytes is (allocate-room number kind bytes cells other is) tt
+
+  pub allocate-fine-chain : (kind : ℕ) (bytes : List ℕ) → kind < 28 → length bytes ≡ 32 → Fine layout number (allocate number kind bytes cells)
+  allocate-fine-chain kind bytes chain whole =
+      fine-as kind kind bytes (omega arith) (allocate-room-chain kind bytes chain) (allocate-run kind bytes chain whole)
+
+module _ (layout : Layout) (number : ℕ → ℕ) (m′ : Memory) where
+  -- where an allocated cell stands its number is usable, and the cells allocated before stand too
+  pub allocate-free : (kind : ℕ) (bytes : List ℕ) (cells : List (List ℕ)) → Held layout number m′ (allocate number kind bytes cells)
+      → usable layout (number (length cells)) ≡ true
+  unfolding allocate
+  allocate-free kind bytes cells held = held .0 .free
+
+  pub allocate-before : (kind : ℕ) (bytes : List ℕ) (b : Built) → Held layout number m′ (allocate number kind bytes (b .cells)) → Held layout number m′ b
+  unfolding allocate
+  allocate-before kind bytes b held = holds-from layout number m′ (roomOf b) (b .cells) (held .1)
+
+  pub allocate-stands : (kind : ℕ) (bytes : List ℕ) (cells : List (List ℕ)) → Held layout number m′ (allocate number kind bytes cells)
+      → Stands layout m′ (roomOf (allocate number kind bytes cells)) (number (length cells)) bytes
+  unfolding allocate
+  allocate-stands kind bytes cells held = held .0
+
+  -- a cell of another kind than a chain stands as a whole
+  pub allocate-whole : (kind : ℕ) (bytes : List ℕ) (cells : List (List ℕ)) → 28 ≤ kind → kind < 32
+      → Held layout number m′ (allocate number kind bytes cells) → Stands layout m′ 0 (number (length cells)) bytes
+  allocate-whole kind bytes cells other is held =
+      subst (λ k. Stands layout m′ k (number (length cells)) bytes) (allocate-room number kind bytes cells other is) (allocate-stands kind bytes cells held)

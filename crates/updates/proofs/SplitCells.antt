@@ -1,0 +1,89 @@
+-- Cells of kind 1C that stand in a memory, read as ends, mids and heads.
+use mathlib.Core.Path.{_≡_, refl, ap, _∙_, subst}
+use mathlib.Core.Logic.{_≢_}
+use mathlib.Core.Bool.{true}
+use mathlib.Core.List.{List, [], _∷_}
+use mathlib.Core.Option.{some}
+use native.Mathlib.Omega.{arith}
+use Prim.Native.Nat.{ℕ, _+_, _/_, _%_, _≤_, _<_}
+use lib.ListN.{length}
+use Rattle.cells.specs.Memory.{Memory}
+use Rattle.cells.specs.Occurrences.{occurrences}
+use Rattle.cells.proofs.Occurrences.{occurrences-append}
+use Rattle.nodes.specs.Layout.{Layout, usable, cellLimit}
+use Rattle.nodes.specs.Pointer.{pointer, byKind, wordTo}
+use Rattle.nodes.specs.Split.{headWord, tableWord, validHead, validTable, gather, under, endCells, midCells, headCells, wordBelow, splitChild}
+use Rattle.nodes.specs.Node.{Node, plain, splitNode}
+use Rattle.nodes.proofs.Pointers.{usable-low, usable-inside, made-split}
+use Rattle.nodes.proofs.Frame.{below-split, end-join, mid-join, head-is, split-join}
+use Rattle.updates.specs.Built.{Built, allocate}
+use Rattle.updates.specs.SetChild.{withChild}
+use Rattle.updates.proofs.Claims.{Stands, Holds, Held, numbers, Placed}
+use Rattle.updates.proofs.Rooms.{allocate-numbers, allocate-room, allocate-names, allocate-fine, allocate-stands}
+
+-- the word of kind 1C to a usable cell
+module _ (layout : Layout) (c : ℕ) (free : usable layout c ≡ true) where
+  pub made-nonzero : wordTo c 0x1C ≢ 0
+  made-nonzero = omega (arith, usable-low layout c free)
+
+  module _ (small : layout .cells ≤ cellLimit) where
+    pub made-bounded : wordTo c 0x1C < 4294967296
+    made-bounded = omega (arith, usable-inside layout c free)
+
+    -- its words are those of the cell
+    pub made-below : (m : Memory) (i : ℕ) → wordBelow m (wordTo c 0x1C) i ≡ tableWord (m c) i
+    made-below m i = below-split layout m (wordTo c 0x1C) c i (made-split layout c small free)
+
+    -- it leads to an end, or to a mid with its ends, where the cell holds a pointer
+    pub made-end : (m : Memory) → validTable (m c) ≡ true → endCells layout m (wordTo c 0x1C) ≡ some (c ∷ [])
+    made-end m valid = end-join layout m (wordTo c 0x1C) c (made-split layout c small free) valid
+
+    pub made-mid : (m : Memory) (ends : List ℕ) → validTable (m c) ≡ true
+        → gather (λ j. under (endCells layout m) (tableWord (m c) j)) 8 0 ≡ some ends → midCells layout m (wordTo c 0x1C) ≡ some (c ∷ ends)
+    made-mid m ends valid found = mid-join layout m (wordTo c 0x1C) c ends (made-split layout c small free) valid found
+
+-- the cells allocated before the newest
+module _ (layout : Layout) (number : ℕ → ℕ) (m′ : Memory) where
+  pub allocate-older : (kind : ℕ) (bytes : List ℕ) (cells : List (List ℕ)) → Held layout number m′ (allocate number kind bytes cells)
+      → Holds layout number m′ cells
+  unfolding allocate
+  allocate-older kind bytes cells held = held .1
+
+module _ (layout : Layout) (small : layout .cells ≤ cellLimit) (number : ℕ → ℕ) (m′ : Memory) where
+  -- a head just allocated
+  module _ (bytes : List ℕ) (cells : List (List ℕ)) (held : Held layout number m′ (allocate number 0x1C bytes cells)) where
+    head-stands : Stands layout m′ 0 (number (length cells)) bytes
+    head-stands =
+        subst (λ (k : ℕ). Stands layout m′ k (number (length cells)) bytes) (allocate-room number 0x1C bytes cells (omega arith) (omega arith))
+        (allocate-stands layout number m′ 0x1C bytes cells held)
+
+    head-reads : (below : List ℕ) → validHead bytes ≡ true → gather (λ i. under (midCells layout m′) (headWord bytes i)) 4 0 ≡ some below
+        → plain layout m′ (pointer layout (allocate number 0x1C bytes cells .word)) ≡ some (splitNode m′ (number (length cells)) below)
+    unfolding byKind
+    head-reads below valid found =
+        let d : ℕ = number (length cells) in
+        let found-there : headCells layout m′ d ≡ some below = head-is layout m′ d ∙ rw (head-stands .bytes) found in
+        ap (plain layout m′) (allocate-names layout small number cells (head-stands .free) 0x1C bytes (omega arith))
+        ∙ split-join layout m′ d below (ap validHead (head-stands .bytes) ∙ valid) found-there
+
+    head-child : (y : ℕ) → splitChild m′ (number (length cells)) y ≡ wordBelow m′ (wordBelow m′ (headWord bytes (y / 64)) (y / 8 % 8)) (y % 8)
+    unfolding splitChild
+    head-child y = ap (λ (l : List ℕ). wordBelow m′ (wordBelow m′ (headWord l (y / 64)) (y / 8 % 8)) (y % 8)) (head-stands .bytes)
+
+    -- its children are those that its words give, and it visits its own cell and those below
+    pub head-placed : (Y : Node) (x : ℕ) (b : Built) (below : List ℕ) → validHead bytes ≡ true
+        → gather (λ i. under (midCells layout m′) (headWord bytes i)) 4 0 ≡ some below
+        → ((y : ℕ) → y < 256 → wordBelow m′ (wordBelow m′ (headWord bytes (y / 64)) (y / 8 % 8)) (y % 8) ≡ withChild (Y .child) x (b .word) y)
+        → ((c : ℕ) → occurrences c below + occurrences c (numbers number (b .cells)) ≤ occurrences c (Y .cells) + occurrences c (numbers number cells))
+        → ((c : ℕ) → occurrences c (numbers number cells) ≤ occurrences c below + occurrences c (numbers number (b .cells)))
+        → Placed layout number m′ Y x b (allocate number 0x1C bytes cells)
+    head-placed Y x b below valid found children most least =
+        record {
+          node = splitNode m′ (number (length cells)) below;
+          reads = head-reads below valid found;
+          value = refl;
+          child = λ y character. head-child y ∙ children y character;
+          most = λ c. omega (arith, occurrences-append c (number (length cells) ∷ []) below, allocate-numbers number c 0x1C bytes cells, most c);
+          least = λ c. omega (arith, occurrences-append c (number (length cells) ∷ []) below, allocate-numbers number c 0x1C bytes cells, least c);
+          fine = allocate-fine layout small number cells (head-stands .free) 0x1C bytes (omega arith) (omega arith);
+        }

@@ -1,0 +1,144 @@
+-- A split made in the stage, of the children that stand in an array.
+use mathlib.Core.Path.{_≡_, sym, ap, _∙_, subst}
+use mathlib.Core.List.{List}
+use native.Mathlib.Omega.{arith}
+use Prim.Native.Nat.{ℕ, _+_, _-_, _*_, _≤_, _<_}
+use lib.ListN.{length, getD, set}
+use Rattle.staging.specs.NewCells.{blank, withWords}
+use Rattle.updates.specs.Built.{allocate}
+use Rattle.updates.specs.SplitBuild.{Row, tableRow, rows, endRow, midRow, splitOf}
+use Rattle.staging.specs.Stage.{stageCells, staged, Put, allocated}
+use Rattle.updates.specs.Staged.{builtOf, Fitting, Rowed, RowFitting}
+use Rattle.staging.specs.declared.stage.Made.{Made}
+use Rattle.staging.proofs.StageLaws.{staged-length}
+use Rattle.updates.proofs.StagedCell.{put-allocate}
+use Rattle.updates.proofs.StagedRows.{SameRow, words-agree, table-agree, table-grows, rows-grow, rows-first, rows-agree, Making, making-more, making-cells}
+
+-- where an end's word and where a mid's word stand in their arrays
+abbrev pub endSlot : ℕ → ℕ
+endSlot q = q
+
+abbrev pub midSlot : ℕ → ℕ
+midSlot q = 4 + q
+
+module _ (number : ℕ → ℕ) (child : ℕ → ℕ) where
+  end-grows : (i j : ℕ) (cells : List (List ℕ)) → length cells ≤ length (endRow number child i j cells .cells)
+  unfolding endRow
+  end-grows i j cells = table-grows number _ cells
+
+  mid-grows : (i : ℕ) (cells : List (List ℕ)) → length cells ≤ length (midRow number child i cells .cells)
+  unfolding midRow
+  mid-grows i cells =
+      omega (
+        arith,
+        rows-grow (endRow number child i) (end-grows i) 8 0 cells,
+        table-grows number (rows (endRow number child i) 8 0 cells .words) (rows (endRow number child i) 8 0 cells .cells),
+      )
+
+  -- the ends of a mid
+  module _ (i : ℕ) (before : List (List ℕ)) where
+    abbrev pub ends : Row
+    ends = rows (endRow number child i) 8 0 before
+
+    ends-fit : RowFitting (midRow number child i before) → length (ends .cells) ≤ stageCells
+    unfolding midRow
+    ends-fit fits = omega (arith, fits, table-grows number (ends .words) (ends .cells))
+
+    module _ (left j : ℕ) (cells : List (List ℕ)) (array : List ℕ) (so-far : Making endSlot ends (rows (endRow number child i) left j cells) j array) where
+      pub end-fits : (less : ℕ) → RowFitting (midRow number child i before) → left ≡ less + 1 → RowFitting (tableRow number (λ k. child (64 * i + 8 * j + k)) cells)
+      unfolding endRow
+      end-fits less fits e =
+          rows-first (endRow number child i) (end-grows i) left less j cells stageCells e (omega (arith, ends-fit fits, ap (λ (l : List (List ℕ)). length l) (so-far .cells)))
+
+      pub end-more : (less word : ℕ) (cells′ : List (List ℕ)) → Rowed (tableRow number (λ k. child (64 * i + 8 * j + k)) cells) word cells′
+          → j < length array → left ≡ less + 1 → Making endSlot ends (rows (endRow number child i) less (j + 1) cells′) (j + 1) (set array j word)
+      unfolding endRow
+      end-more less word cells′ made inside e =
+          making-more (endRow number child i) endSlot (λ p q other. other) ends left less j cells cells′ array word so-far made inside e
+
+      -- all made: the mid over them
+      all-cells : left ≡ 0 → ends .cells ≡ cells
+      all-cells e = making-cells (endRow number child i) endSlot (λ p q other. other) ends left j cells array so-far e
+
+      mid-same : left ≡ 0 → 8 ≤ j → SameRow (tableRow number (λ k. getD array (0 + k) 0) cells) (midRow number child i before)
+      unfolding midRow
+      mid-same e all =
+          subst (λ (l : List (List ℕ)). SameRow (tableRow number (λ k. getD array (0 + k) 0) l) (tableRow number (ends .words) (ends .cells))) (all-cells e)
+          (table-agree number (λ k. getD array (0 + k) 0) (ends .words) (ends .cells)
+          (λ p near. let plain : 0 + p ≡ p = omega arith in ap (λ (k : ℕ). getD array k 0) plain ∙ so-far .done p (omega arith)))
+
+      pub mid-fits : left ≡ 0 → 8 ≤ j → RowFitting (midRow number child i before) → RowFitting (tableRow number (λ k. getD array (0 + k) 0) cells)
+      mid-fits e all fits = omega (arith, fits, ap (λ (l : List (List ℕ)). length l) (mid-same e all .cells))
+
+      pub mid-is : (word : ℕ) (cells′ : List (List ℕ)) → left ≡ 0 → 8 ≤ j → Rowed (tableRow number (λ k. getD array (0 + k) 0) cells) word cells′
+          → Rowed (midRow number child i before) word cells′
+      mid-is word cells′ e all made =
+          record { first = made .first ∙ mid-same e all .words 0; stands = made .stands ∙ mid-same e all .cells }
+
+  -- the mids of a split
+  module _ (before : List (List ℕ)) where
+    abbrev pub mids : Row
+    mids = rows (midRow number child) 4 0 before
+
+    mids-fit : Fitting (splitOf number child before) → length (mids .cells) < stageCells
+    unfolding splitOf allocate
+    mids-fit fits = omega (arith, fits)
+
+    module _ (left i : ℕ) (cells : List (List ℕ)) (array : List ℕ) (so-far : Making midSlot mids (rows (midRow number child) left i cells) i array) where
+      pub mids-first-fits : (less : ℕ) → Fitting (splitOf number child before) → left ≡ less + 1 → RowFitting (midRow number child i cells)
+      mids-first-fits less fits e =
+          rows-first (midRow number child) mid-grows left less i cells stageCells e (omega (arith, mids-fit fits, ap (λ (l : List (List ℕ)). length l) (so-far .cells)))
+
+      pub mids-more : (less word : ℕ) (cells′ : List (List ℕ)) → Rowed (midRow number child i cells) word cells′ → 4 + i < length array → left ≡ less + 1
+          → Making midSlot mids (rows (midRow number child) less (i + 1) cells′) (i + 1) (set array (4 + i) word)
+      mids-more less word cells′ made inside e =
+          making-more (midRow number child) midSlot (λ p q other. omega arith) mids left less i cells cells′ array word so-far made inside e
+
+      mids-cells : left ≡ 0 → mids .cells ≡ cells
+      mids-cells e = making-cells (midRow number child) midSlot (λ p q other. omega arith) mids left i cells array so-far e
+
+      head-bytes : 4 ≤ i → withWords (λ p. getD array (0 + p) 0) 4 4 blank ≡ withWords (λ p. mids .words (p - 4)) 4 4 blank
+      head-bytes all =
+          words-agree (λ p. getD array (0 + p) 0) (λ p. mids .words (p - 4)) 4 4 blank
+          (λ p low high.
+          let there : 0 + p ≡ 4 + (p - 4) = omega arith in
+          ap (λ (k : ℕ). getD array k 0) there ∙ so-far .done (p - 4) (omega arith))
+
+      split-built : left ≡ 0 → 4 ≤ i → allocate number 28 (withWords (λ p. getD array (0 + p) 0) 4 4 blank) cells ≡ splitOf number child before
+      unfolding splitOf
+      split-built e all = ap (allocate number 28 (withWords (λ p. getD array (0 + p) 0) 4 4 blank)) (sym (mids-cells e))
+          ∙ ap (λ (s : List ℕ). allocate number 28 s (mids .cells)) (head-bytes all)
+
+      pub head-fits : (stage : List ℕ) (count : ℕ) → cells ≡ staged stage count → left ≡ 0 → Fitting (splitOf number child before) → count < stageCells
+      head-fits stage count is e fits =
+          omega (arith, mids-fit fits, ap (λ (l : List (List ℕ)). length l) (mids-cells e ∙ is), staged-length stage count)
+
+      pub split-of-is : (made : Made) (stage after : List ℕ) (count : ℕ) → cells ≡ staged stage count → left ≡ 0 → 4 ≤ i
+          → Put stage after count (withWords (λ p. getD array (0 + p) 0) 4 4 blank) → made ≡ allocated number 28 count
+          → builtOf made after ≡ splitOf number child before
+      split-of-is made stage after count is e all put took =
+          put-allocate put number 28 made took
+          ∙ ap (allocate number 28 (withWords (λ p. getD array (0 + p) 0) 4 4 blank)) (sym is) ∙ split-built e all
+
+-- a split is told by the children of the characters
+module _ (number : ℕ → ℕ) (f g : ℕ → ℕ) (same : (y : ℕ) → y < 256 → f y ≡ g y) where
+  end-agree : (i j : ℕ) (cells : List (List ℕ)) → i < 4 → j < 8 → SameRow (endRow number f i j cells) (endRow number g i j cells)
+  unfolding endRow
+  end-agree i j cells high middle = table-agree number _ _ cells (λ k low. same (64 * i + 8 * j + k) (omega arith))
+
+  mid-agree : (i : ℕ) (cells : List (List ℕ)) → i < 4 → SameRow (midRow number f i cells) (midRow number g i cells)
+  unfolding midRow
+  mid-agree i cells high =
+      let ends-same = rows-agree (endRow number f i) (endRow number g i) 8 0 cells (λ j l low less. end-agree i j l high (omega arith)) in
+      subst (λ (l : List (List ℕ)). SameRow (tableRow number (rows (endRow number f i) 8 0 cells .words) (rows (endRow number f i) 8 0 cells .cells)) (tableRow number (rows (endRow number g i) 8 0 cells .words) l))
+      (ends-same .cells)
+      (table-agree number (rows (endRow number f i) 8 0 cells .words) (rows (endRow number g i) 8 0 cells .words) (rows (endRow number f i) 8 0 cells .cells)
+      (λ p near. ends-same .words p))
+
+  pub split-agree : (cells : List (List ℕ)) → splitOf number f cells ≡ splitOf number g cells
+  unfolding splitOf
+  split-agree cells =
+      let mids-same = rows-agree (midRow number f) (midRow number g) 4 0 cells (λ i l low less. mid-agree i l (omega arith)) in
+      ap (allocate number 28 (withWords (λ p. rows (midRow number f) 4 0 cells .words (p - 4)) 4 4 blank)) (mids-same .cells)
+      ∙ ap (λ (s : List ℕ). allocate number 28 s (rows (midRow number g) 4 0 cells .cells))
+      (words-agree (λ p. rows (midRow number f) 4 0 cells .words (p - 4)) (λ p. rows (midRow number g) 4 0 cells .words (p - 4)) 4 4 blank (λ p low high. mids-same .words (p - 4)))

@@ -1,0 +1,44 @@
+use native.Mathlib.Omega.{arith}
+use Rattle.nodes.proofs.Coded.{prefix-facts}
+use Rattle.nodes.proofs.StepWays.{cell-length}
+use Rattle.updates.proofs.StagedBuild.{aside-leaf, aside-prefix, aside-same}
+use borrow.Author.Needs.{needs}
+use Rattle.updates.proofs.build.word_aside.Statement.{statement}
+use Rattle.updates.proofs.build.word_aside.Tie as tie
+
+pointer-of-requires : tie.Need-pointer-of-requires
+pointer-of-requires c κs = search needs
+
+enum-told : tie.Need-enum-told
+enum-told c = search needs
+
+enum-known-named : tie.Need-enum-known-named
+enum-known-named c = search needs
+
+cell-requires : tie.Need-cell-requires
+cell-requires c κs = omega (arith, prefix-facts _ _ _ (c .before .before .before .pointer-of .ensures) _ (c .before .named .given .1) .2)
+
+word-at-requires : tie.Need-word-at-requires
+word-at-requires c κs = omega (arith, cell-length _ _ _ (c .cell .ensures))
+
+returns : tie.Need-returns
+returns c = aside-leaf _ _ _ _ (c .before .before .pointer-of .ensures) _ (c .enum-told .given .1)
+
+returns-2 : tie.Need-returns-2
+returns-2 c = aside-prefix _ _ _ _ (c .before .before .before .before .before .pointer-of .ensures) _ _ _ (c .before .before .before .named .given .1) (c .before .cell .ensures) (c .word-at .ensures)
+
+returns-3 : tie.Need-returns-3
+returns-3 c = aside-same _ _ _ (c .before .pointer-of .result) (c .before .pointer-of .ensures) (c .match .keys3)
+
+pub word-aside-spec : {M : Type 1} → statement M
+word-aside-spec =
+    tie.close
+    (tie.spec
+    pointer-of-requires
+    enum-told
+    enum-known-named
+    cell-requires
+    word-at-requires
+    returns
+    returns-2
+    returns-3)

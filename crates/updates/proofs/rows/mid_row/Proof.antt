@@ -1,0 +1,81 @@
+-- The ends made so far stand in the array, and those left to make make up the mid's ends.
+use mathlib.Core.Path.{_≡_, refl}
+use native.Mathlib.Omega.{arith}
+use Prim.Native.Nat.{_-_, _≤_}
+use lib.ListN.{length, getD, take}
+use borrow.Author.Needs.{needs}
+use Rattle.updates.specs.SplitBuild.{rows, endRow}
+use Rattle.staging.specs.Numbering.{numberFrom}
+use Rattle.staging.specs.Stage.{staged}
+use Rattle.updates.proofs.StagedRows.{Making, making-start}
+use Rattle.updates.proofs.StagedSplitOf.{endSlot, end-fits, end-more, mid-fits, mid-is}
+use Rattle.updates.proofs.rows.mid_row.Statement.{statement}
+use Rattle.updates.proofs.rows.mid_row.Tie as tie
+
+abbrev Inv-loop : tie.InvT-loop
+Inv-loop layout numbers free stage₀ children i count ends₀ at₀ j₀ stage ends at j =
+    (j ≤ 8) × (length ends ≡ 8)
+    × Making endSlot (rows (endRow (numberFrom layout (take free numbers)) (λ y. getD children y 0) i) 8 0 (staged stage₀ count))
+    (rows (endRow (numberFrom layout (take free numbers)) (λ y. getD children y 0) i) (8 - j) j (staged stage at)) j ends
+
+abbrev μ-loop : tie.MeasureT-loop
+μ-loop layout numbers free stage₀ children i count ends₀ at₀ j₀ stage ends at j = 8 - j
+
+loop-holds : tie.Need-loop-holds Inv-loop μ-loop
+loop-holds c = (omega arith, refl, making-start _ _ _)
+
+mul-table-row : tie.Need-mul-table-row Inv-loop μ-loop
+mul-table-row c = search needs
+
+mul-table-row-2 : tie.Need-mul-table-row-2 Inv-loop μ-loop
+mul-table-row-2 c = search needs
+
+add-table-row : tie.Need-add-table-row Inv-loop μ-loop
+add-table-row c = search needs
+
+table-row-requires : tie.Need-table-row-requires Inv-loop μ-loop
+table-row-requires c κs = (search needs, omega arith, end-fits _ _ _ _ _ _ _ _ (c .before .before .before .loop .inv .2) (7 - c .before .before .before .loop .j) (c .before .before .before .before .pre .2) (omega arith))
+
+mul-ends : tie.Need-mul-ends Inv-loop μ-loop
+mul-ends c = search needs
+
+array-write-ends : tie.Need-array-write-ends Inv-loop μ-loop
+array-write-ends c = search needs
+
+add-j : tie.Need-add-j Inv-loop μ-loop
+add-j c = search needs
+
+loop-less : tie.Need-loop-less Inv-loop μ-loop
+loop-less c = search needs
+
+loop-again : tie.Need-loop-again Inv-loop μ-loop
+loop-again c = (omega arith, search needs, end-more _ _ _ _ _ _ _ _ (c .before .before .before .before .loop .inv .2) _ _ _ (c .table-row .ensures) (omega arith) (omega arith))
+
+slice-aggregate-table-row : tie.Need-slice-aggregate-table-row Inv-loop μ-loop
+slice-aggregate-table-row c = search needs
+
+table-row-requires-2 : tie.Need-table-row-requires-2 Inv-loop μ-loop
+table-row-requires-2 c κs = (search needs, omega arith, mid-fits _ _ _ _ _ _ _ _ (c .before .before .before .loop .inv .2) (omega arith) (omega arith) (c .before .before .before .before .pre .2))
+
+returns : tie.Need-returns Inv-loop μ-loop
+returns c = mid-is _ _ _ _ _ _ _ _ (c .before .before .before .before .loop .inv .2) _ _ (omega arith) (omega arith) (c .table-row2 .ensures)
+
+pub mid-row-spec : {M : Type 1} → statement M
+mid-row-spec =
+    tie.close
+    (tie.spec
+    Inv-loop
+    μ-loop
+    loop-holds
+    mul-table-row
+    mul-table-row-2
+    add-table-row
+    table-row-requires
+    mul-ends
+    array-write-ends
+    add-j
+    loop-less
+    loop-again
+    slice-aggregate-table-row
+    table-row-requires-2
+    returns)

@@ -1,0 +1,71 @@
+-- 01, "How an entry is built": "Descend by the label; build on the way back up."
+use mathlib.Core.List.{List, [], _∷_}
+use mathlib.Core.Option.{Option, none, some}
+use Prim.Native.Nat.{ℕ}
+use lib.ListN.{length}
+use Rattle.cells.specs.Memory.{Memory}
+use Rattle.nodes.specs.Layout.{Layout}
+use Rattle.nodes.specs.Pointer.{Pointer, pointer, leafWord}
+use Rattle.nodes.specs.Pointer.Pointer.{nothing, leaf, chain, split, sparse, prefix, invalid}
+use Rattle.nodes.specs.Prefix.{prefixValue, prefixLink}
+use Rattle.nodes.specs.Node.{Node, read}
+use Rattle.staging.specs.NewCells.{prefixCell}
+use Rattle.updates.specs.Built.{Built, allocate, unowned}
+use Rattle.updates.specs.SetChild.{setChild}
+
+-- a node's word without its value. 01: "set aside the node's value (a leaf counts as a value over NONE)"
+unfoldable pub wordAside : Layout → Memory → Pointer → ℕ → ℕ
+wordAside layout m nothing word = word
+wordAside layout m (leaf v) word = 0
+wordAside layout m (chain c k) word = word
+wordAside layout m (split c) word = word
+wordAside layout m (sparse c) word = word
+wordAside layout m (prefix c) word = prefixLink (m c)
+wordAside layout m invalid word = word
+
+-- the value set aside
+unfoldable pub valueAside : Layout → Memory → Pointer → Option ℕ
+valueAside layout m nothing = none
+valueAside layout m (leaf v) = some v
+valueAside layout m (chain c k) = none
+valueAside layout m (split c) = none
+valueAside layout m (sparse c) = none
+valueAside layout m (prefix c) = some (prefixValue (m c))
+valueAside layout m invalid = none
+
+-- 01: "then put the value back with a new prefix cell"
+unfoldable pub putBack : Layout → (ℕ → ℕ) → Option ℕ → Built → Built
+putBack layout number none b = b
+putBack layout number (some value) b = allocate number 0x1F (prefixCell value (b .word)) (b .cells)
+
+unfoldable pub childOf : Option Node → ℕ → ℕ
+childOf none x = 0
+childOf (some node) x = node .child x
+
+-- the path of a key copied up to its root; what becomes of the node at the key's end is the caller's rule
+unfoldable pub pathCopy : Layout → (ℕ → ℕ) → Memory → (ℕ → Built) → ℕ → List ℕ → Built
+pathCopy layout number m atEnd word [] = atEnd word
+pathCopy layout number m atEnd word (x ∷ key) =
+    let here = pointer layout word in
+    let below = pathCopy layout number m atEnd (childOf (read layout m word) x) key in
+    putBack layout number (valueAside layout m here) (setChild layout number m (pointer layout (wordAside layout m here word)) x below)
+
+-- 01: "At the label's end: NONE or leaf becomes a leaf. A prefix is replaced by a new prefix cell to the same linked node;
+-- any other node gets a new prefix cell."
+unfoldable pub valueAt : Layout → (ℕ → ℕ) → Memory → ℕ → Pointer → ℕ → Built
+valueAt layout number m value nothing word = unowned (leafWord value) []
+valueAt layout number m value (leaf v) word = unowned (leafWord value) []
+valueAt layout number m value (chain c k) word = allocate number 0x1F (prefixCell value word) []
+valueAt layout number m value (split c) word = allocate number 0x1F (prefixCell value word) []
+valueAt layout number m value (sparse c) word = allocate number 0x1F (prefixCell value word) []
+valueAt layout number m value (prefix c) word = allocate number 0x1F (prefixCell value (prefixLink (m c))) []
+valueAt layout number m value invalid word = unowned (leafWord value) []
+
+-- the build of one insertion
+unfoldable pub build : Layout → (ℕ → ℕ) → Memory → ℕ → List ℕ → ℕ → Built
+build layout number m root key value = pathCopy layout number m (λ word. valueAt layout number m value (pointer layout word) word) root key
+
+-- 01: "The cells that an entry takes are counted from the root's tree as the call begins, the edition and the label, as if
+-- one more free cell could always be had."
+unfoldable pub cellsNeeded : Layout → Memory → ℕ → List ℕ → ℕ
+cellsNeeded layout m root key = length (build layout (λ _. 1) m root key 0 .cells)

@@ -1,0 +1,102 @@
+// Prefixes in the stage: what becomes of the node at the key's end, and a value put back over a node.
+ghost use mathlib.Core.Path.{_≡_};
+ghost use Prim.Native.Nat.{_*_, _≤_, _<_};
+ghost use lib.ListN.{length, take};
+ghost use Rattle.cells.specs.Memory.{memoryOf};
+ghost use Rattle.nodes.specs.Pointer.{pointer};
+ghost use Rattle.nodes.specs.Coded.{heldOf};
+ghost use Rattle.staging.specs.NewCells.{prefixCell};
+ghost use Rattle.updates.specs.Built.{allocate};
+ghost use Rattle.updates.specs.Build.{putBack, valueAt};
+ghost use Rattle.staging.specs.Numbering.{numberFrom};
+ghost use Rattle.staging.specs.Stage.{stageCells, staged};
+ghost use Rattle.staging.specs.Numbering.{Numbered};
+ghost use Rattle.updates.specs.Staged.{builtOf, leafMade, Fitting};
+use cells::cell;
+use cells::word_at;
+use nodes::layout::CELL_LIMIT;
+use nodes::layout::Layout;
+use nodes::pointer::Pointer;
+use nodes::pointer::leaf_word;
+use nodes::pointer::pointer_of;
+use nodes::value::Value;
+use staging::new_cells::put_prefix;
+use staging::stage::Made;
+use staging::stage::STAGE_SIZE;
+use staging::stage::allocated_as;
+
+// A value over a node, in a new cell.
+fn new_prefix(
+    layout: Layout,
+    numbers: &[u16; CELL_LIMIT],
+    free: usize,
+    stage: &mut [u8; STAGE_SIZE],
+    value: u32,
+    word: u32,
+    count: usize,
+) -> Made
+    requires { ⌜ Numbered layout free × (count < stageCells) ⌝ }
+    ensures { λ r. ⌜ builtOf r (now (stage .exit)) ≡ allocate (numberFrom layout (take free (now (numbers .entry)))) 31 (prefixCell value word) (staged (now (stage .entry)) count) ⌝ }
+{
+    put_prefix(stage, count, value, word);
+    allocated_as(layout, numbers, free, 31, count)
+}
+
+// A value that was set aside put back.
+pub fn put_back(
+    layout: Layout,
+    numbers: &[u16; CELL_LIMIT],
+    free: usize,
+    stage: &mut [u8; STAGE_SIZE],
+    held: Value,
+    built: Made,
+) -> Made
+    requires { ⌜ Numbered layout free × Fitting (putBack layout (numberFrom layout (take free (now numbers))) (heldOf held) (builtOf built (now stage))) ⌝ }
+    ensures { λ r. ⌜ builtOf r (now (stage .exit)) ≡ putBack layout (numberFrom layout (take free (now (numbers .entry)))) (heldOf held) (builtOf built (now (stage .entry))) ⌝ }
+{
+    let word = built.word;
+    let own = built.own;
+    let count = built.count;
+    match held {
+        Value::Held(value) => new_prefix(layout, numbers, free, stage, value, word, count),
+        Value::Empty => Made { word, own, count },
+    }
+}
+
+// The word of a leaf, with no cell allocated.
+fn leaf_alone(value: u32) -> Made
+    ensures { λ r. ⌜ r ≡ leafMade value ⌝ }
+{
+    let word = leaf_word(value);
+    Made {
+        word,
+        own: false,
+        count: 0,
+    }
+}
+
+// NONE or a leaf becomes a leaf; a prefix is replaced by a new one to the same node; any other node gets a new one.
+pub fn at_end(
+    layout: Layout,
+    block: &[u8],
+    numbers: &[u16; CELL_LIMIT],
+    free: usize,
+    stage: &mut [u8; STAGE_SIZE],
+    word: u32,
+    value: u32,
+) -> Made
+    requires { ⌜ Numbered layout free × (layout .cells * 32 ≤ length (now block)) ⌝ }
+    ensures { λ r. ⌜ builtOf r (now (stage .exit)) ≡ valueAt layout (numberFrom layout (take free (now (numbers .entry)))) (memoryOf (now (block .entry))) value (pointer layout word) word ⌝ }
+{
+    let named = pointer_of(layout, word);
+    match named {
+        Pointer::Nothing => leaf_alone(value),
+        Pointer::Leaf(_) => leaf_alone(value),
+        Pointer::Invalid => leaf_alone(value),
+        Pointer::Prefix(number) => {
+            let link = word_at(cell(block, number), 28);
+            new_prefix(layout, numbers, free, stage, value, link, 0)
+        }
+        _ => new_prefix(layout, numbers, free, stage, value, word, 0),
+    }
+}

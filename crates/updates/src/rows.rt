@@ -1,0 +1,112 @@
+// A split made of any children: each mid's ends in rising order, then that mid, the head last.
+ghost use mathlib.Core.Path.{_≡_};
+ghost use Prim.Native.Nat.{_+_, _*_, _≤_, _<_};
+ghost use lib.ListN.{length, getD, take};
+ghost use Rattle.nodes.specs.Sparse.{someWord};
+ghost use Rattle.updates.specs.SplitBuild.{tableRow, midRow, splitOf};
+ghost use Rattle.staging.specs.Numbering.{numberFrom};
+ghost use Rattle.staging.specs.Stage.{staged};
+ghost use Rattle.staging.specs.Numbering.{Numbered};
+ghost use Rattle.updates.specs.Staged.{builtOf, Fitting, Rowed, RowFitting};
+use nodes::layout::CELL_LIMIT;
+use nodes::layout::Layout;
+use staging::new_cells::put_words;
+use staging::stage::Made;
+use staging::stage::STAGE_SIZE;
+use staging::stage::allocated_as;
+
+// The word of a table that was made, NONE where all of its words are, and how many cells are staged.
+pub struct Placed {
+    pub word: u32,
+    pub count: usize,
+}
+
+// Whether one of eight words is a pointer.
+fn some_of(words: &[u32], base: usize) -> bool
+    requires { ⌜ base + 8 ≤ length (now words) ⌝ }
+    ensures { λ r. ⌜ r ≡ someWord (λ k. getD (now (words .entry)) (base + k) 0) 8 0 ⌝ }
+{
+    let mut k: usize = 0;
+    while k < 8 {
+        let word = words[base + k];
+        if word != 0 {
+            return true;
+        }
+        k += 1;
+    }
+    false
+}
+
+// A cell of eight words if one of them is a pointer.
+fn table_row(
+    layout: Layout,
+    numbers: &[u16; CELL_LIMIT],
+    free: usize,
+    stage: &mut [u8; STAGE_SIZE],
+    words: &[u32],
+    base: usize,
+    count: usize,
+) -> Placed
+    requires { ⌜ Numbered layout free × (base + 8 ≤ length (now words)) × RowFitting (tableRow (numberFrom layout (take free (now numbers))) (λ k. getD (now words) (base + k) 0) (staged (now stage) count)) ⌝ }
+    ensures { λ r. ⌜ Rowed (tableRow (numberFrom layout (take free (now (numbers .entry)))) (λ k. getD (now (words .entry)) (base + k) 0) (staged (now (stage .entry)) count)) (r .word) (staged (now (stage .exit)) (r .count)) ⌝ }
+{
+    if !some_of(words, base) {
+        return Placed { word: 0, count };
+    }
+    put_words(stage, count, words, base, 8, 0);
+    let made = allocated_as(layout, numbers, free, 28, count);
+    Placed {
+        word: made.word,
+        count: made.count,
+    }
+}
+
+// The ends of the characters with these two upper bits, then their mid.
+fn mid_row(
+    layout: Layout,
+    numbers: &[u16; CELL_LIMIT],
+    free: usize,
+    stage: &mut [u8; STAGE_SIZE],
+    children: &[u32; 256],
+    i: usize,
+    count: usize,
+) -> Placed
+    requires { ⌜ Numbered layout free × (i < 4) × RowFitting (midRow (numberFrom layout (take free (now numbers))) (λ y. getD (now children) y 0) i (staged (now stage) count)) ⌝ }
+    ensures { λ r. ⌜ Rowed (midRow (numberFrom layout (take free (now (numbers .entry)))) (λ y. getD (now (children .entry)) y 0) i (staged (now (stage .entry)) count)) (r .word) (staged (now (stage .exit)) (r .count)) ⌝ }
+{
+    let mut ends = [0u32; 8];
+    let mut at = count;
+    let mut j: usize = 0;
+    while j < 8 {
+        let row = table_row(layout, numbers, free, stage, children, 64 * i + 8 * j, at);
+        ends[j] = row.word;
+        at = row.count;
+        j += 1;
+    }
+    table_row(layout, numbers, free, stage, &ends, 0, at)
+}
+
+// The four mids, then the head.
+pub fn split_of(
+    layout: Layout,
+    numbers: &[u16; CELL_LIMIT],
+    free: usize,
+    stage: &mut [u8; STAGE_SIZE],
+    children: &[u32; 256],
+    count: usize,
+) -> Made
+    requires { ⌜ Numbered layout free × Fitting (splitOf (numberFrom layout (take free (now numbers))) (λ y. getD (now children) y 0) (staged (now stage) count)) ⌝ }
+    ensures { λ r. ⌜ builtOf r (now (stage .exit)) ≡ splitOf (numberFrom layout (take free (now (numbers .entry)))) (λ y. getD (now (children .entry)) y 0) (staged (now (stage .entry)) count) ⌝ }
+{
+    let mut mids = [0u32; 8];
+    let mut at = count;
+    let mut i: usize = 0;
+    while i < 4 {
+        let row = mid_row(layout, numbers, free, stage, children, i, at);
+        mids[4 + i] = row.word;
+        at = row.count;
+        i += 1;
+    }
+    put_words(stage, at, &mids, 0, 4, 4);
+    allocated_as(layout, numbers, free, 28, at)
+}

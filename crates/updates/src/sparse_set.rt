@@ -1,0 +1,84 @@
+// A child of a sparse cell: replaced, appended, or as the seventh in a split.
+ghost use mathlib.Core.Path.{_≡_};
+ghost use mathlib.Core.Bool.{true};
+ghost use Prim.Native.Nat.{_+_, _*_, _≤_, _<_};
+ghost use lib.ListN.{length, take};
+ghost use Rattle.cells.specs.Memory.{memoryOf};
+ghost use Rattle.nodes.specs.Sparse.{sparseCount, positionOf, sparseChild, validSparse};
+ghost use Rattle.updates.specs.SetChild.{withChild, sparseSet};
+ghost use Rattle.staging.specs.Numbering.{numberFrom};
+ghost use Rattle.staging.specs.Numbering.{Numbered};
+ghost use Rattle.updates.specs.Staged.{builtOf, Fitting, Children};
+use crate::rows::split_of;
+use cells::cell;
+use nodes::layout::CELL_LIMIT;
+use nodes::layout::Layout;
+use nodes::sparse::sparse_child;
+use nodes::sparse::sparse_count;
+use staging::sparse::put_appended;
+use staging::sparse::put_replaced;
+use staging::stage::Made;
+use staging::stage::STAGE_SIZE;
+use staging::stage::allocated_as;
+
+// The position of a character among the children of a sparse cell; past them where it has none.
+fn position_of(cell: &[u8], x: u8) -> usize
+    requires { ⌜ length (now cell) ≡ 32 ⌝ }
+    ensures { λ r. ⌜ r ≡ positionOf (now (cell .entry)) (sparseCount (now (cell .entry))) 0 x ⌝ }
+{
+    let count = sparse_count(cell);
+    let mut position: usize = 0;
+    while position < count {
+        if x == cell[24 + position] {
+            return position;
+        }
+        position += 1;
+    }
+    position
+}
+
+// The child word of each character, with that of one character replaced.
+fn fill_children(children: &mut [u32], cell: &[u8], x: u8, word: u32)
+    requires { ⌜ (256 ≤ length (now children)) × (length (now cell) ≡ 32) ⌝ }
+    ensures { λ _. ⌜ Children (now (children .exit)) (withChild (sparseChild (now (cell .entry))) x word) ⌝ }
+{
+    let mut y: usize = 0;
+    while y < 256 {
+        let child = sparse_child(cell, y as u8);
+        children[y] = child;
+        y += 1;
+    }
+    children[x as usize] = word;
+}
+
+// A copy with the child in it, or a split where the cell is full.
+pub fn sparse_set(
+    layout: Layout,
+    block: &[u8],
+    numbers: &[u16; CELL_LIMIT],
+    free: usize,
+    stage: &mut [u8; STAGE_SIZE],
+    number: usize,
+    x: u8,
+    below: Made,
+) -> Made
+    requires { ⌜ Numbered layout free × (number * 32 + 32 ≤ length (now block)) × (validSparse (memoryOf (now block) number) ≡ true) × Fitting (sparseSet (numberFrom layout (take free (now numbers))) (memoryOf (now block) number) x (builtOf below (now stage))) ⌝ }
+    ensures { λ r. ⌜ builtOf r (now (stage .exit)) ≡ sparseSet (numberFrom layout (take free (now (numbers .entry)))) (memoryOf (now (block .entry)) number) x (builtOf below (now (stage .entry))) ⌝ }
+{
+    let word = below.word;
+    let count = below.count;
+    let bytes = cell(block, number);
+    let many = sparse_count(bytes);
+    let position = position_of(bytes, x);
+    if position < many {
+        put_replaced(stage, count, block, number, position, word);
+        return allocated_as(layout, numbers, free, 30, count);
+    }
+    if many < 6 {
+        put_appended(stage, count, block, number, x, word);
+        return allocated_as(layout, numbers, free, 30, count);
+    }
+    let mut children = [0u32; 256];
+    fill_children(&mut children, bytes, x, word);
+    split_of(layout, numbers, free, stage, &children, count)
+}
