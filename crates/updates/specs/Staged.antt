@@ -1,20 +1,20 @@
 -- What the code of a build has in hand: the stage, a small struct, and the words of the path.
 use mathlib.Core.Path.{_≡_}
-use mathlib.Core.Logic.{_≢_}
-use mathlib.Core.Bool.{true, false}
-use mathlib.Core.List.{List, [], _∷_}
+use mathlib.Core.Bool.{false}
+use mathlib.Core.List.{List}
 use mathlib.Core.Option.{some}
-use Prim.Native.Nat.{ℕ, zero, suc, _+_, _-_, _*_, _≤_, _<_}
+use Prim.Native.Nat.{ℕ, zero, suc, _-_, _≤_, _<_}
 use lib.ListN.{length, getD}
-use Rattle.cells.specs.Memory.{Memory, memoryOf}
-use Rattle.nodes.specs.Layout.{Layout, keyLimit, cellLimit}
-use Rattle.nodes.specs.Pointer.{pointer, wordTo, leafWord}
+use Rattle.cells.specs.Memory.{Memory}
+use Rattle.nodes.specs.Layout.{Layout}
+use Rattle.nodes.specs.Pointer.{pointer, leafWord}
 use Rattle.nodes.specs.Node.{read}
 use Rattle.trees.specs.Tree.{tree}
 use Rattle.updates.specs.Built.{Built}
 use Rattle.updates.specs.SplitBuild.{Row}
 use Rattle.updates.specs.SetChild.{setChild}
 use Rattle.updates.specs.Build.{wordAside, valueAside, putBack, childOf}
+use Rattle.staging.specs.Stage.{stageCells, staged}
 use Rattle.staging.specs.declared.stage.Made.{Made}
 
 -- the build that a small struct and a stage stand for
