@@ -9,3 +9,4 @@ pub mod ReadSteps
 pub mod GetSteps
 pub mod NextSteps
 pub mod RefusalSteps
+pub mod Proved

@@ -1,7 +1,7 @@
 -- The laws of the calls that only read: of validation, of a look-up and of the next key each answer is given exactly under
 -- its condition.
 use mathlib.Core.Path.{_≡_, refl, sym, ap, _∙_, subst}
-use mathlib.Core.Logic.{_≢_, _⊎_, ⊎-elim, _↔_}
+use mathlib.Core.Logic.{_≢_, _⊎_, ⊎-elim}
 use mathlib.Core.Bool.{Bool, true, false, not, cond}
 use mathlib.Core.List.{List, [], _++_}
 use mathlib.Core.Option.{Option, none, some}
@@ -22,14 +22,9 @@ use Rattle.blocks.specs.Trailer.{badSize, layoutOf, rootWord}
 use Rattle.blocks.specs.Sound.{sound}
 use Rattle.blocks.specs.Refusal.{firstRefusal, badKey, overLong}
 use Rattle.blocks.specs.Read.{missing, validate, shown, Found, valueOr, getRefusals, get, shownEntries, Next, padded, keyOr, nextRefusals, nextKey}
-use Rattle.blocks.proofs.Refusals.{Exactly, block-answers, get-answers, next-answers}
+use Rattle.blocks.specs.Tables.{Exactly, Asked, ValidateTable, GetTable, LeastAbove, NextTable}
+use Rattle.blocks.proofs.Refusals.{block-answers, get-answers, next-answers}
 use Rattle.blocks.proofs.Roots.{RootParts, root-parts, sound-parts}
-
--- none of the answers 1, 2 and 3 applies, where 3 is for a key that is bad
-pub record Asked (b : List ℕ) (bad : Bool) : Type 0 where
-  pub size : badSize b ≡ false
-  pub valid : sound b ≡ true
-  pub key : bad ≡ false
 
 -- it is what the first three refusals of a call say
 module _ {b : List ℕ} {bad : Bool} {Rest : Type 0} where
@@ -79,16 +74,6 @@ pub value-is : (o : Option ℕ) (value : ℕ) → o ≡ some value → valueOr o
 unfolding valueOr
 value-is o value e = ap valueOr e
 
--- a block that passes validation: neither 1 nor 2 applies
-abbrev pub Passes : List ℕ → Type 0
-Passes b = (badSize b ≡ false) × (sound b ≡ true)
-
--- 01's table for validation
-pub record ValidateTable (b : List ℕ) (answer : ℕ) : Type 0 where
-  pub bad-size : Exactly answer 1 (badSize b ≡ true)
-  pub unsound : Exactly answer 2 ((badSize b ≡ false) × (sound b ≡ false))
-  pub done : Exactly answer 0 (Passes b)
-
 pub validate-table : (b : List ℕ) → ValidateTable b (validate b)
 unfolding validate
 validate-table b =
@@ -98,15 +83,6 @@ validate-table b =
       unsound = exactly refl (x .1 .0) (λ c. (c .0 .0, not-true _ (c .1))) (λ d. ((d .0, tt), ap not (d .1)));
       done = exactly refl (x .1 .1) (λ c. (c .0, not-false _ (c .1 .0))) (λ d. (d .0, (ap not (d .1), tt)));
     }
-
--- 01's table for a look-up
-pub record GetTable (b key : List ℕ) (r : Found) : Type 0 where
-  pub bad-size : Exactly (r .answer) 1 (badSize b ≡ true)
-  pub unsound : Exactly (r .answer) 2 ((badSize b ≡ false) × (sound b ≡ false))
-  pub bad-key : Exactly (r .answer) 3 ((badSize b ≡ false) × ((sound b ≡ true) × (badKey key ≡ true)))
-  pub absent : Exactly (r .answer) 11 (Asked b (badKey key) × (shown b key ≡ none))
-  pub found : (value : ℕ) → r ≡ record { answer = 0; value = value } ↔ Asked b (badKey key) × (shown b key ≡ some value)
-  pub zero : r .answer ≢ 0 → r .value ≡ 0
 
 module _ (b key : List ℕ) where
   pub get-number : get b key .answer ≡ firstRefusal (getRefusals b key)
@@ -148,26 +124,11 @@ module _ (b key : List ℕ) where
         zero = λ n. get-value ∙ chosen-no (firstRefusal (getRefusals b key)) (valueOr (shown b key)) 0 (λ e. n (get-number ∙ e));
       }
 
--- 01: "The next label is the least label shown that is greater than a given one"
-pub record LeastAbove (b key k : List ℕ) : Type 0 where
-  pub above : keyBefore key k ≡ true
-  pub there : shown b k ≢ none
-  pub least : (j : List ℕ) → keyBefore key j ≡ true → shown b j ≢ none → (j ≡ k) ⊎ (keyBefore k j ≡ true)
-
 -- there is one such key
 pub least-one : (b key j k : List ℕ) → LeastAbove b key j → LeastAbove b key k → j ≡ k
 least-one b key j k p q = ⊎-elim (λ same. sym same)
     (λ before. ⊎-elim (λ same. same) (λ back. absurd-bool (sym back ∙ before-asymmetric j k before)) (q .least j (p .above) (p .there)))
     (p .least k (q .above) (q .there))
-
--- 01's table for the next key
-pub record NextTable (b key : List ℕ) (r : Next) : Type 0 where
-  pub bad-size : Exactly (r .answer) 1 (badSize b ≡ true)
-  pub unsound : Exactly (r .answer) 2 ((badSize b ≡ false) × (sound b ≡ false))
-  pub bad-key : Exactly (r .answer) 3 ((badSize b ≡ false) × ((sound b ≡ true) × (overLong key ≡ true)))
-  pub absent : Exactly (r .answer) 11 (Asked b (overLong key) × ((k : List ℕ) → keyBefore key k ≡ true → shown b k ≡ none))
-  pub found : (k : List ℕ) → r ≡ record { answer = 0; size = length k; key = padded k } ↔ Asked b (overLong key) × LeastAbove b key k
-  pub zero : r .answer ≢ 0 → (r .size ≡ 0) × (r .key ≡ zeros keyLimit)
 
 -- a key no longer than the limit is read back from its 48 bytes
 padded-back : (k : List ℕ) → length k ≤ keyLimit → take (length k) (padded k) ≡ k

@@ -9,6 +9,7 @@ use borrow.Author.Tests.{eq-eqb, ne-eqb}
 use Rattle.cells.specs.Occurrences.{occurrences, all, distinct}
 use Rattle.cells.proofs.Occurrences.{occurrences-append, occurrences-same, occurrences-later, distinct-most}
 use Rattle.blocks.specs.Refusal.{Refusal, refusal, firstRefusal, changedBy}
+use Rattle.blocks.specs.Tables.{Exactly}
 use Rattle.blocks.specs.Read.{blockRefusals, getRefusals, nextRefusals}
 
 -- no condition of a list holds
@@ -20,11 +21,6 @@ NoneApplies (r ∷ rs) = (r .applies ≡ false) × NoneApplies rs
 abbrev pub numbersOf : List Refusal → List ℕ
 numbersOf [] = []
 numbersOf (r ∷ rs) = r .number ∷ numbersOf rs
-
--- an answer is k exactly under a condition
-pub record Exactly (answer k : ℕ) (Condition : Type 0) : Type 0 where
-  pub only : answer ≡ k → Condition
-  pub given : Condition → answer ≡ k
 
 -- the first condition decides where it holds, else the others
 module _ (r : Refusal) (rs : List Refusal) where

@@ -5,3 +5,4 @@ pub mod Laws
 pub mod WholeReadings
 pub mod VerdictLaws
 mod VerdictSteps
+pub mod Proved

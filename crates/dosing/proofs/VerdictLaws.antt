@@ -1,73 +1,33 @@
 -- The law of the verdict: each answer of 01's table is given exactly under its condition.
 use mathlib.Core.Path.{_≡_, refl, sym, ap, _∙_, subst}
-use mathlib.Core.Logic.{_≢_}
-use mathlib.Core.Bool.{Bool, true, false, not, cond}
+use mathlib.Core.Bool.{Bool, false, not, cond}
 use mathlib.Core.List.{List}
-use mathlib.Core.Option.{Option, none, some}
+use mathlib.Core.Option.{Option, some}
 use Prim.Native.Nat.{ℕ}
 use lib.Dec.{eqb}
 use lib.IntN.{pos}
 use borrow.Author.Tests.{not-true, not-false}
 use Rattle.cells.specs.Occurrences.{occurrences, all, distinct}
 use Rattle.calendar.specs.declared.Date.{Date}
-use Rattle.calendar.specs.Date.{isDate, unpackedDate, isAfter}
+use Rattle.calendar.specs.Date.{isDate}
 use Rattle.blocks.specs.Trailer.{badSize}
 use Rattle.blocks.specs.Sound.{sound}
 use Rattle.blocks.specs.Refusal.{firstRefusal, badKey}
 use Rattle.blocks.specs.Read.{missing, shown, valueOr}
-use Rattle.blocks.proofs.Refusals.{Exactly, Answers, answers}
-use Rattle.blocks.proofs.ReadCalls.{Asked, asked, refusals-none, exactly, chosen-done, chosen-no, missing-none, none-missing, some-there, value-there, value-is}
+use Rattle.blocks.proofs.Refusals.{Answers, answers}
+use Rattle.blocks.proofs.ReadCalls.{asked, refusals-none, exactly, chosen-done, chosen-no, missing-none, none-missing, some-there, value-there, value-is}
 use Rattle.dosing.specs.declared.temperature.Reading.{Reading}
 use Rattle.dosing.specs.declared.sheet.ProductSheet.{ProductSheet}
 use Rattle.dosing.specs.Temperature.{whole, celsius, validReading, inGate}
 use Rattle.dosing.specs.Sheet.{validSheet, doseOf}
-use Rattle.dosing.specs.Verdict.{Verdict, verdictRefusals, verdictOf, verdict}
+use Rattle.dosing.specs.Verdict.{verdictRefusals, verdictOf, verdict}
+use Rattle.dosing.specs.Tables.{PassesInputs, NoDate, ExpiredOn, GoodOn, VerdictTable}
 
 -- every number of the verdict's refusals, whatever is said of the sheet, the reading and the gate
 pub verdict-answers : (block label : List ℕ) (today : Date) (badSheet badReading outside : Bool)
     → Answers (verdictRefusals block label today badSheet badReading outside)
 unfolding distinct all occurrences
 verdict-answers block label today badSheet badReading outside = answers (verdictRefusals block label today badSheet badReading outside) refl
-
--- none of the answers up to 10 applies
-pub record Judged (block label : List ℕ) (today : Date) (reading : Reading) (sheet : ProductSheet) : Type 0 where
-  pub label-asked : Asked block (badKey label)
-  pub good-sheet : validSheet sheet ≡ true
-  pub good-reading : validReading reading ≡ true
-  pub good-today : isDate today ≡ true
-
--- the block shows the label with a value of which something holds
-abbrev pub Holds : List ℕ → List ℕ → (ℕ → Type 0) → Type 0
-Holds block label Of = (value : ℕ) × ((shown block label ≡ some value) × Of value)
-
--- a value is no date, is one that is past today, or one that is not
-abbrev pub NoDate : ℕ → Type 0
-NoDate value = isDate (unpackedDate value) ≡ false
-
-abbrev pub ExpiredOn : Date → ℕ → Type 0
-ExpiredOn today value = (isDate (unpackedDate value) ≡ true) × (isAfter today (unpackedDate value) ≡ true)
-
-abbrev pub GoodOn : Date → ℕ → Type 0
-GoodOn today value = (isDate (unpackedDate value) ≡ true) × (isAfter today (unpackedDate value) ≡ false)
-
--- 01's table for the verdict: each answer exactly under its condition where none before it applies, the dose with 0 alone
-pub record VerdictTable (block label : List ℕ) (today : Date) (reading : Reading) (sheet : ProductSheet) (v : Verdict) : Type 0 where
-  pub bad-size : Exactly (v .answer) 1 (badSize block ≡ true)
-  pub unsound : Exactly (v .answer) 2 ((badSize block ≡ false) × (sound block ≡ false))
-  pub bad-label : Exactly (v .answer) 3 ((badSize block ≡ false) × ((sound block ≡ true) × (badKey label ≡ true)))
-  pub bad-sheet : Exactly (v .answer) 8 (Asked block (badKey label) × (validSheet sheet ≡ false))
-  pub bad-reading : Exactly (v .answer) 9 (Asked block (badKey label) × ((validSheet sheet ≡ true) × (validReading reading ≡ false)))
-  pub bad-today : Exactly (v .answer) 10
-      (Asked block (badKey label) × ((validSheet sheet ≡ true) × ((validReading reading ≡ true) × (isDate today ≡ false))))
-  pub absent : Exactly (v .answer) 11 (Judged block label today reading sheet × (shown block label ≡ none))
-  pub no-date : Exactly (v .answer) 12 (Judged block label today reading sheet × Holds block label NoDate)
-  pub expired : Exactly (v .answer) 13 (Judged block label today reading sheet × Holds block label (ExpiredOn today))
-  pub outside : Exactly (v .answer) 14
-      (Judged block label today reading sheet × (Holds block label (GoodOn today) × (inGate (sheet .gate) (celsius reading) ≡ false)))
-  pub done : Exactly (v .answer) 0
-      (Judged block label today reading sheet × (Holds block label (GoodOn today) × (inGate (sheet .gate) (celsius reading) ≡ true)))
-  pub dosed : v .answer ≡ 0 → v .dose ≡ doseOf sheet
-  pub undosed : v .answer ≢ 0 → v .dose ≡ whole (pos 0)
 
 -- a value that is there, and what holds of it
 holds : (o : Option ℕ) (Of : ℕ → Type 0) → missing o ≡ false → Of (valueOr o) → (value : ℕ) × ((o ≡ some value) × Of value)
@@ -83,7 +43,7 @@ module _ (block label : List ℕ) (today : Date) (reading : Reading) (sheet : Pr
       (badSize block ≡ false) × ((not (sound block) ≡ false) × ((badKey label ≡ false)
       × ((not (validSheet sheet) ≡ false) × ((not (validReading reading) ≡ false) × ((not (isDate today) ≡ false) × Rest)))))
 
-  judged : {Rest : Type 0} → NoneTo10 Rest → Judged block label today reading sheet
+  judged : {Rest : Type 0} → NoneTo10 Rest → PassesInputs block label today reading sheet
   judged c =
       record {
         label-asked = asked c;
@@ -92,7 +52,7 @@ module _ (block label : List ℕ) (today : Date) (reading : Reading) (sheet : Pr
         good-today = not-false _ (c .1 .1 .1 .1 .1 .0);
       }
 
-  none-to-10 : {Rest : Type 0} → Judged block label today reading sheet → Rest → NoneTo10 Rest
+  none-to-10 : {Rest : Type 0} → PassesInputs block label today reading sheet → Rest → NoneTo10 Rest
   none-to-10 j rest = refusals-none (j .label-asked) (ap not (j .good-sheet), (ap not (j .good-reading), (ap not (j .good-today), rest)))
 
   number : ℕ

@@ -18,14 +18,15 @@ use Rattle.blocks.specs.Refusal.{Refusal, refusal, firstRefusal, badKey}
 use Rattle.blocks.specs.Read.{Found, missing, shown, valueOr, blockRefusals, getRefusals, get}
 use Rattle.blocks.proofs.Refusals.{numbersOf, first-holds, first-fails, passed, zero-exactly}
 use Rattle.blocks.proofs.RefusalSteps.{refused-earlier}
-use Rattle.blocks.proofs.ReadCalls.{Asked, refusals-none, chosen-done, chosen-no, none-missing, some-there, value-is, get-number, get-table}
+use Rattle.blocks.specs.Tables.{Asked}
+use Rattle.blocks.proofs.ReadCalls.{refusals-none, chosen-done, chosen-no, none-missing, some-there, value-is, get-number, get-table}
 use Rattle.dosing.specs.declared.temperature.Reading.{Reading}
 use Rattle.dosing.specs.declared.temperature.TemperatureGate.{TemperatureGate}
 use Rattle.dosing.specs.declared.sheet.ProductSheet.{ProductSheet}
 use Rattle.dosing.specs.Temperature.{whole, celsius, validReading, inGate}
 use Rattle.dosing.specs.Sheet.{validSheet, doseOf}
 use Rattle.dosing.specs.Verdict.{verdictOf, verdict}
-use Rattle.dosing.specs.VerdictAnswers.{inputRefusals, heldRefusals, refusedVerdict}
+use Rattle.dosing.specs.Code.VerdictParts.{inputRefusals, heldRefusals, refusedVerdict}
 
 -- the inputs, in the order of their tests
 module _ (today : Date) (reading : Reading) (sheet : ProductSheet) where

@@ -2,4 +2,6 @@
 pub mod Temperature
 pub mod Sheet
 pub mod Verdict
-pub mod VerdictAnswers
+pub mod Answers
+pub mod Tables
+pub mod Code

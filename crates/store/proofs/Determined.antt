@@ -16,8 +16,8 @@ use Rattle.blocks.specs.Trailer.{badSize, layoutOf, validSlot}
 use Rattle.blocks.specs.Sound.{sound}
 use Rattle.blocks.specs.Refusal.{Changed, badNewKey, badValue, Inserted}
 use Rattle.blocks.specs.Read.{validate}
-use Rattle.blocks.proofs.Refusals.{Exactly}
-use Rattle.blocks.proofs.ReadCalls.{Asked, Passes, ValidateTable, validate-table}
+use Rattle.blocks.specs.Tables.{Exactly, Asked, Passes, ValidateTable}
+use Rattle.blocks.proofs.ReadCalls.{validate-table}
 use Rattle.store.specs.Format.{format}
 use Rattle.store.specs.Insert.{insert}
 use Rattle.store.specs.Snapshots.{snapshot, restore, release}

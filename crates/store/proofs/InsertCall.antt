@@ -29,7 +29,7 @@ use Rattle.blocks.specs.Trailer.{badSize, layoutOf, rootWord, slotWord, inUse}
 use Rattle.blocks.specs.Sound.{sound}
 use Rattle.blocks.specs.Refusal.{firstRefusal, overLong, badKey, badNewKey, badValue, Inserted}
 use Rattle.blocks.specs.Read.{shown}
-use Rattle.blocks.proofs.Refusals.{Exactly}
+use Rattle.blocks.specs.Tables.{Exactly}
 use Rattle.blocks.proofs.Trailer.{sized, either-left, either-right, layout-cells, TrailerSays}
 use Rattle.blocks.proofs.Roots.{RootParts, root-parts, root-valid, root-cells, root-bound, sound-parts, root-reachable}
 use Rattle.store.specs.Free.{free}

@@ -16,8 +16,9 @@ use Rattle.blocks.specs.Trailer.{badSize, layoutOf, rootWord, validSlot, inUse}
 use Rattle.blocks.specs.Sound.{sound}
 use Rattle.blocks.specs.Refusal.{Refusal, refusal, firstRefusal, Changed, changedBy, badNewKey, badValue, Inserted}
 use Rattle.blocks.specs.Read.{shown}
-use Rattle.blocks.proofs.Refusals.{Exactly, Answers, answers, done-block, refused-block}
-use Rattle.blocks.proofs.ReadCalls.{Asked, asked, refusals-none, exactly, Passes}
+use Rattle.blocks.specs.Tables.{Exactly, Asked, Passes}
+use Rattle.blocks.proofs.Refusals.{Answers, answers, done-block, refused-block}
+use Rattle.blocks.proofs.ReadCalls.{asked, refusals-none, exactly}
 use Rattle.store.specs.Free.{free}
 use Rattle.store.specs.Format.{formatRefusals, format}
 use Rattle.store.specs.Insert.{insert}

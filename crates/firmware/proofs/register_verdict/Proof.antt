@@ -1,7 +1,7 @@
 -- `register_verdict` meets its contract: what the verdict answers, told in numbers.
 use mathlib.Core.Path.{ap, _∙_}
 use lib.Ieee as Ieee
-use Rattle.dosing.specs.VerdictAnswers.{verdictOutcome}
+use Rattle.dosing.specs.Answers.{verdictOutcome}
 use Rattle.firmware.proofs.NumberSteps.{verdict-refused, verdict-told}
 use borrow.Author.Needs.{needs}
 use Rattle.firmware.proofs.register_verdict.Statement.{statement}

@@ -1,5 +1,4 @@
 use mathlib.Core.Path.{refl}
-use Rattle.nodes.specs.Layout.{keyLimit}
 use Rattle.blocks.specs.Refusal.{overLong}
 use Rattle.blocks.proofs.key.is_over_long.Statement.{statement}
 use Rattle.blocks.proofs.key.is_over_long.Tie as tie

@@ -1,6 +1,5 @@
 use mathlib.Core.Path.{refl}
 use Rattle.cells.specs.Bytes.{zeros}
-use Rattle.nodes.specs.Layout.{keyLimit}
 use Rattle.blocks.specs.Read.{padded}
 use Rattle.blocks.proofs.next.refused_next.Statement.{statement}
 use Rattle.blocks.proofs.next.refused_next.Tie as tie

@@ -1,4 +1,4 @@
--- What the code's verdict means, and the parts of it that the code judges one after the other.
+-- The parts of the verdict that the code judges one after the other.
 use mathlib.Core.Bool.{not, cond}
 use mathlib.Core.List.{List, [], _∷_}
 use Prim.Native.Nat.{ℕ}
@@ -7,19 +7,12 @@ use lib.IntN.{pos}
 use Rattle.calendar.specs.declared.Date.{Date}
 use Rattle.calendar.specs.Date.{isDate, unpackedDate, isAfter}
 use Rattle.blocks.specs.Refusal.{Refusal, refusal}
-use Rattle.blocks.specs.Answers.{refusalNumber}
 use Rattle.dosing.specs.declared.temperature.Reading.{Reading}
 use Rattle.dosing.specs.declared.temperature.TemperatureGate.{TemperatureGate}
 use Rattle.dosing.specs.declared.sheet.ProductSheet.{ProductSheet}
-use Rattle.dosing.specs.declared.verdict.VerdictAnswer.{VerdictAnswer}
 use Rattle.dosing.specs.Temperature.{whole, celsius, validReading, inGate}
 use Rattle.dosing.specs.Sheet.{validSheet}
 use Rattle.dosing.specs.Verdict.{Verdict}
-
--- 01: "The dose in ml .. goes with answer 0" and "A no returns zeros beside its number"
-abbrev pub verdictOutcome : VerdictAnswer → Verdict
-verdictOutcome (VerdictAnswer.Dose dose) = record { answer = 0; dose = dose }
-verdictOutcome (VerdictAnswer.Refused refusal) = record { answer = refusalNumber refusal; dose = whole (pos 0) }
 
 -- 01, answers 8, 9 and 10, which ask nothing of the block
 unfoldable pub inputRefusals : Date → Reading → ProductSheet → List Refusal
