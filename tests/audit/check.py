@@ -1,0 +1,58 @@
+"""Checks that definitions and the contracts of the calls rest on no definition that is there for the code alone."""
+
+import re
+import sys
+from pathlib import Path
+
+CALLS = {
+    "crates/blocks/src/validate.rt": ["validate"],
+    "crates/blocks/src/get.rt": ["get"],
+    "crates/blocks/src/next.rt": ["next_key"],
+    "crates/store/src/formatting.rt": ["format"],
+    "crates/store/src/inserting.rt": ["insert"],
+    "crates/store/src/snapshots.rt": ["snapshot", "restore", "release"],
+    "crates/dosing/src/verdict.rt": ["verdict"],
+    "crates/firmware/src/lib.rt": ["register_insert", "register_get", "register_verdict"],
+}
+IMPORT = re.compile(r"^(?:ghost )?use Rattle·\w+(?:·specs)?\.specs\.(?P<module>[\w.]+)\.\{(?P<names>[^}]*)\}", re.M)
+
+
+def for_code(text):
+    """The names that a file takes from the definitions that are there for the code alone."""
+    found = set()
+    for line in IMPORT.finditer(text):
+        if line["module"].split(".")[0] == "Code":
+            found |= {name.strip() for name in line["names"].split(",")}
+    return found
+
+
+def definitions():
+    """Definitions outside specs/Code that use one inside."""
+    for path in sorted(Path("crates").glob("*/specs/**/*.antt")):
+        if "Code" not in path.parts and path.name not in ("Lib.antt", "Code.antt"):
+            for name in sorted(for_code(path.read_text())):
+                yield f"{path} uses {name}, which is there for the code alone"
+
+
+def contracts():
+    """Calls with a precondition, with no contract, or whose contract cites a definition that is there for the code alone."""
+    for file, functions in CALLS.items():
+        text = Path(file).read_text()
+        for function in functions:
+            head = re.search(rf"^pub (?:extern \"C\" )?fn {function}\(.*?^{{", text, re.M | re.S)
+            if not head or "ensures" not in head[0]:
+                yield f"{file}: {function} has no contract"
+            elif "requires" in head[0]:
+                yield f"{file}: {function} has a precondition"
+            else:
+                words = set(re.findall(r"[\w-]+", head[0]))
+                for name in sorted(words & for_code(text)):
+                    yield f"{file}: the contract of {function} cites {name}, which is there for the code alone"
+
+
+found = [*definitions(), *contracts()]
+for line in found:
+    print(f"audit: {line}")
+if found:
+    sys.exit(1)
+print(f"audit: ok, {sum(map(len, CALLS.values()))} calls")
