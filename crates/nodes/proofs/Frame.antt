@@ -158,16 +158,16 @@ module _ (layout : Layout) where
 
   -- a prefix: its cell, and the node linked
   pub prefix-cut : (m : Memory) (c : ℕ) (X : Node) → readAt layout m (prefix c) ≡ some X
-      → (Z : Node) × (validPrefix (m c) ≡ true) × (plain layout m (pointer layout (prefixLink (m c))) ≡ some Z)
-      × (prefixed (prefixValue (m c)) c Z ≡ X)
+      → (Z : Node) × (validPrefix layout (m c) ≡ true) × (plain layout m (pointer layout (prefixLink c (m c))) ≡ some Z)
+      × (prefixed c (m c) Z ≡ X)
   unfolding readAt
   prefix-cut m c X e =
-      let p = kept (validPrefix (m c)) e in
+      let p = kept (validPrefix layout (m c)) e in
       let q = bound _ _ (p .1) in
       (q .0, p .0, q .1, cc)
 
-  pub prefix-join : (m : Memory) (c : ℕ) (Z : Node) → validPrefix (m c) ≡ true → plain layout m (pointer layout (prefixLink (m c))) ≡ some Z
-      → readAt layout m (prefix c) ≡ some (prefixed (prefixValue (m c)) c Z)
+  pub prefix-join : (m : Memory) (c : ℕ) (Z : Node) → validPrefix layout (m c) ≡ true → plain layout m (pointer layout (prefixLink c (m c))) ≡ some Z
+      → readAt layout m (prefix c) ≡ some (prefixed c (m c) Z)
   unfolding readAt
   prefix-join m c Z valid linked = rw valid (keep _ linked refl)
 
@@ -204,7 +204,7 @@ module _ (layout : Layout) where
   prefix-cells : (m : Memory) (c : ℕ) (X : Node) → readAt layout m (prefix c) ≡ some X → (x : ℕ) → Within x X
   prefix-cells m c X e x =
       let p = prefix-cut m c X e in
-      let linked : Within x (p .0) = plain-cells m (pointer layout (prefixLink (m c))) (p .0) (p .2) x in
+      let linked : Within x (p .0) = plain-cells m (pointer layout (prefixLink c (m c))) (p .0) (p .2) x in
       subst (Within x) (p .3) (cons-most x c (p .0 .cells) (p .0 .footprint) linked)
 
   readAt-cells : (m : Memory) (p : Pointer) (X : Node) → readAt layout m p ≡ some X → (x : ℕ) → Within x X
@@ -353,19 +353,19 @@ module _ (layout : Layout) where
         let Z : Node = p .0 in
         let agree′ : Agree m m′ (c ∷ Z .footprint) = subst (λ (N : Node). Agree m m′ (N .footprint)) (sym (p .3)) agree in
         let cell : m c ≡ m′ c = agree-head m m′ c (Z .footprint) agree′ in
-        let f = plain-frame (pointer layout (prefixLink (m c))) Z (p .2) (agree-tail m m′ c (Z .footprint) agree′) in
-        let linked : plain layout m′ (pointer layout (prefixLink (m′ c))) ≡ some (f .0) =
-        subst (λ s. plain layout m′ (pointer layout (prefixLink s)) ≡ some (f .0)) cell (f .1) in
-        let like : Like (prefixed (prefixValue (m c)) c Z) (prefixed (prefixValue (m′ c)) c (f .0)) =
+        let f = plain-frame (pointer layout (prefixLink c (m c))) Z (p .2) (agree-tail m m′ c (Z .footprint) agree′) in
+        let linked : plain layout m′ (pointer layout (prefixLink c (m′ c))) ≡ some (f .0) =
+        subst (λ s. plain layout m′ (pointer layout (prefixLink c s)) ≡ some (f .0)) cell (f .1) in
+        let like : Like (prefixed c (m c) Z) (prefixed c (m′ c) (f .0)) =
         record {
           value = ap (λ s. some (prefixValue s)) cell;
           cells = ap (λ l. c ∷ l) (f .2 .cells);
           footprint = ap (λ l. c ∷ l) (f .2 .footprint);
           child = f .2 .child;
         } in (
-          prefixed (prefixValue (m′ c)) c (f .0),
-          prefix-join m′ c (f .0) (subst (λ s. validPrefix s ≡ true) cell (p .1)) linked,
-          subst (λ (N : Node). Like N (prefixed (prefixValue (m′ c)) c (f .0))) (p .3) like,
+          prefixed c (m′ c) (f .0),
+          prefix-join m′ c (f .0) (subst (λ s. validPrefix layout s ≡ true) cell (p .1)) linked,
+          subst (λ (N : Node). Like N (prefixed c (m′ c) (f .0))) (p .3) like,
         )
 
     readAt-frame : (p : Pointer) (X : Node) → readAt layout m p ≡ some X → Agree m m′ (X .footprint)

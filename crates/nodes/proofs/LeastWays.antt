@@ -141,12 +141,12 @@ plain-least-other layout m p from near rest =
     sym (first-broken (plainStep layout m (pointerOf p)) (256 - from) from (omega arith) (sym (rest-of-plain layout m p from rest)))
 
 -- a prefix
-module _ (layout : Layout) (m : Memory) (c from : ℕ) (bytes : List ℕ) (cell : bytes ≡ m c) (valid : Bool) (read : valid ≡ validPrefix bytes) where
+module _ (layout : Layout) (m : Memory) (c from : ℕ) (bytes : List ℕ) (cell : bytes ≡ m c) (valid : Bool) (read : valid ≡ validPrefix layout bytes) where
   pub prefix-least-broken : from < 256 → valid ≡ false → unreadable ≡ firstStep (prefixStep layout m c) (256 - from) from
   prefix-least-broken near e =
       sym (first-broken (prefixStep layout m c) (256 - from) from (omega arith) (sym (prefix-broken layout m c from bytes cell valid read e)))
 
-  pub prefix-least-taken : valid ≡ true → (word : ℕ) → word ≡ prefixLink bytes → (p : CodedPointer) → pointerOf p ≡ pointer layout word
+  pub prefix-least-taken : valid ≡ true → (word : ℕ) → word ≡ prefixLink c bytes → (p : CodedPointer) → pointerOf p ≡ pointer layout word
       → (l : LeastChild) → l ≡ firstStep (plainStep layout m (pointerOf p)) (256 - from) from
       → l ≡ firstStep (prefixStep layout m c) (256 - from) from
   prefix-least-taken holds word link p coded l e =

@@ -18,6 +18,7 @@ use Rattle.order_words.proofs.Valid.{at-most-six, digit-below}
 use Rattle.nodes.specs.Chain.{chainCharacter, chainChild}
 use Rattle.nodes.specs.Sparse.{someWord, everyWord, sparseWord, sparseCharacter, sparseDigits, sparseCount, validSparse, childFrom, sparseChild}
 use Rattle.nodes.specs.Split.{headWord, tableWord, validHead, validTable}
+use Rattle.nodes.specs.Layout.{Layout}
 use Rattle.nodes.specs.Prefix.{prefixValue, prefixLink, validPrefix}
 use Rattle.nodes.proofs.Chain.{chain-child-inside}
 use Rattle.nodes.proofs.SparseSteps.{count-small}
@@ -140,14 +141,14 @@ module _ (s t : List ℕ) (alike : Alike InTable s t) where
   valid-table-alike = some-alike (tableWord s) (tableWord t) 8 0 (λ p low high. table-word-alike p (omega arith))
 
 -- a prefix
-module _ (s t : List ℕ) (alike : Alike InPrefix s t) where
+module _ (layout : Layout) (c : ℕ) (s t : List ℕ) (alike : Alike InPrefix s t) where
   pub prefix-value-alike : prefixValue s ≡ prefixValue t
   prefix-value-alike = word-agree s t 0 0 (λ r less. alike (0 + r) (inl (omega arith)))
 
-  pub prefix-link-alike : prefixLink s ≡ prefixLink t
+  pub prefix-link-alike : prefixLink c s ≡ prefixLink c t
   prefix-link-alike = word-agree s t 28 28 (λ r less. alike (28 + r) (inr (omega arith, omega arith)))
 
-  pub valid-prefix-alike : validPrefix s ≡ validPrefix t
+  pub valid-prefix-alike : validPrefix layout s ≡ validPrefix layout t
   unfolding validPrefix
   valid-prefix-alike =
       let value = prefix-value-alike in

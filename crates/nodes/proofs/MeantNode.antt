@@ -16,7 +16,7 @@ use Rattle.nodes.specs.Pointer.{Pointer, pointer}
 use Rattle.nodes.specs.Pointer.Pointer.{nothing, leaf, chain, split, sparse, prefix, invalid}
 use Rattle.nodes.specs.Sparse.{sparseCount}
 use Rattle.nodes.specs.Split.{headWord, tableWord, validHead, gather, under, splitCell, endCells, midCells, headCells, wordBelow, splitChild}
-use Rattle.nodes.specs.Prefix.{prefixValue, prefixLink, validPrefix}
+use Rattle.nodes.specs.Prefix.{prefixValue, prefixLink, prefixCells, validPrefix}
 use Rattle.nodes.specs.Node.{Node, oneChild, chainNode, splitNode, prefixed, plain, readAt, read}
 use Rattle.nodes.proofs.Pointers.{names}
 use Rattle.nodes.proofs.Gather.{gather-at, under-word}
@@ -53,7 +53,7 @@ module _ (layout : Layout) (m : Memory) where
   NodeMeans (chain d k) c i = PlainMeans (chain d k) c i
   NodeMeans (split d) c i = PlainMeans (split d) c i
   NodeMeans (sparse d) c i = PlainMeans (sparse d) c i
-  NodeMeans (prefix d) c i = ((c ≡ d) × InPrefix i) ⊎ PlainMeans (pointer layout (prefixLink (m d))) c i
+  NodeMeans (prefix d) c i = ((c ≡ d) × InPrefix i) ⊎ PlainMeans (pointer layout (prefixLink d (m d))) c i
   NodeMeans invalid c i = ⊥
 
 -- two memories are alike at the bytes that have a meaning
@@ -237,17 +237,17 @@ module _ (layout : Layout) (m m′ : Memory) where
   plain-alike w invalid named alike = tt
 
   -- a prefix before nodes that are the same
-  prefixed-alike : (v : Bool) (value c : ℕ) (o p : Option Node) → SameNode o p
-      → SameNode (cond v (bind o (λ linked. some (prefixed value c linked))) none) (cond v (bind p (λ linked. some (prefixed value c linked))) none)
+  prefixed-alike : (v : Bool) (c : ℕ) (s t : List ℕ) → prefixValue s ≡ prefixValue t → (o p : Option Node) → SameNode o p
+      → SameNode (cond v (bind o (λ linked. some (prefixed c s linked))) none) (cond v (bind p (λ linked. some (prefixed c t linked))) none)
   unfolding bind
-  prefixed-alike false value c o p same = tt
-  prefixed-alike true value c none none same = tt
-  prefixed-alike true value c none (some Y) same = absurd same
-  prefixed-alike true value c (some X) none same = absurd same
-  prefixed-alike true value c (some X) (some Y) same =
+  prefixed-alike false c s t value o p same = tt
+  prefixed-alike true c s t value none none same = tt
+  prefixed-alike true c s t value none (some Y) same = absurd same
+  prefixed-alike true c s t value (some X) none same = absurd same
+  prefixed-alike true c s t value (some X) (some Y) same =
       record {
-        value = refl;
-        cells = ap (λ l. c ∷ l) (same .cells);
+        value = ap some value;
+        cells = ap (λ l. prefixCells c s ++ l) (same .cells);
         footprint = ap (λ l. c ∷ l) (same .footprint);
         child = same .child;
       }
@@ -256,14 +256,14 @@ module _ (layout : Layout) (m m′ : Memory) where
   unfolding readAt
   prefix-alike c alike =
       let bytes : Alike InPrefix (m c) (m′ c) = λ i near. alike c i (inl (refl, near)) in
-      let valid = valid-prefix-alike (m c) (m′ c) bytes in
-      let value = prefix-value-alike (m c) (m′ c) bytes in
-      let link = prefix-link-alike (m c) (m′ c) bytes in
-      let linked = plain-alike (prefixLink (m c)) (pointer layout (prefixLink (m c))) refl (λ d i means. alike d i (inr means)) in
-      let both = prefixed-alike (validPrefix (m c)) (prefixValue (m c)) c _ _ linked in
-      let right : cond (validPrefix (m c)) (bind (plain layout m′ (pointer layout (prefixLink (m c)))) (λ l. some (prefixed (prefixValue (m c)) c l))) none
+      let valid = valid-prefix-alike layout c (m c) (m′ c) bytes in
+      let value = prefix-value-alike layout c (m c) (m′ c) bytes in
+      let link = prefix-link-alike layout c (m c) (m′ c) bytes in
+      let linked = plain-alike (prefixLink c (m c)) (pointer layout (prefixLink c (m c))) refl (λ d i means. alike d i (inr means)) in
+      let both = prefixed-alike (validPrefix layout (m c)) c (m c) (m′ c) value _ _ linked in
+      let right : cond (validPrefix layout (m c)) (bind (plain layout m′ (pointer layout (prefixLink c (m c)))) (λ l. some (prefixed c (m′ c) l))) none
       ≡ readAt layout m′ (prefix c) =
-      λ i. cond (valid i) (bind (plain layout m′ (pointer layout (link i))) (λ l. some (prefixed (value i) c l))) none in
+      λ i. cond (valid i) (bind (plain layout m′ (pointer layout (link i))) (λ l. some (prefixed c (m′ c) l))) none in
       subst (SameNode (readAt layout m (prefix c))) right both
 
   -- the node that a word names

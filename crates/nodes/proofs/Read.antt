@@ -54,6 +54,6 @@ module _ (layout : Layout) (m : Memory) (w : ℕ) where
     read-sparse c named = sparse-cut layout m c X (sym (read-is layout m w (sparse c) named) ∙ node)
 
     pub read-prefix : (c : ℕ) → pointer layout w ≡ prefix c
-        → (Z : Node) × (validPrefix (m c) ≡ true) × (plain layout m (pointer layout (prefixLink (m c))) ≡ some Z)
-        × (prefixed (prefixValue (m c)) c Z ≡ X)
+        → (Z : Node) × (validPrefix layout (m c) ≡ true) × (plain layout m (pointer layout (prefixLink c (m c))) ≡ some Z)
+        × (prefixed c (m c) Z ≡ X)
     read-prefix c named = prefix-cut layout m c X (sym (read-is layout m w (prefix c) named) ∙ node)

@@ -118,7 +118,7 @@ module _ (layout : Layout) (m : Memory) where
   prefix-step-is c x X near e =
       let p = prefix-cut layout m c X e in
       rw (p .1)
-      (plain-step-is (pointer layout (prefixLink (m c))) x (p .0) near (p .2) ∙ ap (λ (N : Node). wordStep (N .child x)) (p .3))
+      (plain-step-is (pointer layout (prefixLink c (m c))) x (p .0) near (p .2) ∙ ap (λ (N : Node). wordStep (N .child x)) (p .3))
 
   step-at : (p : Pointer) (x : ℕ) (X : Node) → x < 256 → readAt layout m p ≡ some X → stepAt layout m p x ≡ wordStep (X .child x)
   unfolding readAt stepAt wordStep

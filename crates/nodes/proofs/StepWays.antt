@@ -123,12 +123,12 @@ module _ (layout : Layout) (m : Memory) (p : CodedPointer) (x c : ℕ) (s : Step
   plain-split case step = step ∙ ap (λ q. plainStep layout m (pointerOf q) x) (sym case)
 
 -- a prefix
-module _ (layout : Layout) (m : Memory) (c x : ℕ) (bytes : List ℕ) (cell : bytes ≡ m c) (valid : Bool) (read : valid ≡ validPrefix bytes) where
+module _ (layout : Layout) (m : Memory) (c x : ℕ) (bytes : List ℕ) (cell : bytes ≡ m c) (valid : Bool) (read : valid ≡ validPrefix layout bytes) where
   pub prefix-broken : valid ≡ false → broken ≡ prefixStep layout m c x
   unfolding prefixStep
   prefix-broken e = rw (← cell, ← read, e)
 
-  pub prefix-taken : valid ≡ true → (word : ℕ) → word ≡ prefixLink bytes → (p : CodedPointer) → pointerOf p ≡ pointer layout word
+  pub prefix-taken : valid ≡ true → (word : ℕ) → word ≡ prefixLink c bytes → (p : CodedPointer) → pointerOf p ≡ pointer layout word
       → (s : Step) → s ≡ plainStep layout m (pointerOf p) x → s ≡ prefixStep layout m c x
   unfolding prefixStep
   prefix-taken e word link p coded s step =

@@ -1,5 +1,5 @@
 -- One node, read from its cells: every kind becomes one shape.
-use mathlib.Core.List.{List, [], _∷_}
+use mathlib.Core.List.{List, [], _∷_, _++_}
 use mathlib.Core.Option.{Option, none, some, bind}
 use Prim.Native.Nat.{ℕ}
 use lib.Dec.{eqb}
@@ -10,7 +10,7 @@ use Rattle.nodes.specs.Pointer.Pointer.{nothing, leaf, chain, split, spa
 use Rattle.nodes.specs.Chain.{chainCharacter, chainChild}
 use Rattle.nodes.specs.Sparse.{validSparse, sparseChild}
 use Rattle.nodes.specs.Split.{validHead, headCells, splitChild}
-use Rattle.nodes.specs.Prefix.{prefixValue, prefixLink, validPrefix}
+use Rattle.nodes.specs.Prefix.{prefixValue, prefixLink, prefixCells, validPrefix}
 use mathlib.Core.Bool.{cond}
 
 pub record Node : Type 0 where
@@ -42,10 +42,15 @@ sparseNode bytes cell = record { value = none; cells = cell ∷ []; footprint = 
 abbrev pub splitNode : Memory → ℕ → List ℕ → Node
 splitNode m cell below = record { value = none; cells = cell ∷ below; footprint = cell ∷ below; child = splitChild m cell }
 
--- a node with the value and the cell of a prefix before it
-abbrev pub prefixed : ℕ → ℕ → Node → Node
-prefixed value cell linked =
-    record { value = some value; cells = cell ∷ linked .cells; footprint = cell ∷ linked .footprint; child = linked .child }
+-- a node with the value and the cells of a prefix before it
+abbrev pub prefixed : ℕ → List ℕ → Node → Node
+prefixed cell bytes linked =
+    record {
+      value = some (prefixValue bytes);
+      cells = prefixCells cell bytes ++ linked .cells;
+      footprint = cell ∷ linked .footprint;
+      child = linked .child;
+    }
 
 -- a chain, sparse or split; nothing where a rule is broken. 01: "A chain's child is never NONE."
 unfoldable pub plain : Layout → Memory → Pointer → Option Node
@@ -65,7 +70,7 @@ readAt layout m (chain c k) = plain layout m (chain c k)
 readAt layout m (split c) = plain layout m (split c)
 readAt layout m (sparse c) = plain layout m (sparse c)
 readAt layout m (prefix c) =
-    cond (validPrefix (m c)) (bind (plain layout m (pointer layout (prefixLink (m c)))) (λ linked. some (prefixed (prefixValue (m c)) c linked))) none
+    cond (validPrefix layout (m c)) (bind (plain layout m (pointer layout (prefixLink c (m c)))) (λ linked. some (prefixed c (m c) linked))) none
 readAt layout m invalid = none
 
 -- the node that a word names

@@ -66,7 +66,7 @@ plainStep layout m invalid x = broken
 
 -- at a prefix
 unfoldable pub prefixStep : Layout → Memory → ℕ → ℕ → Step
-prefixStep layout m c x = cond (validPrefix (m c)) (plainStep layout m (pointer layout (prefixLink (m c))) x) broken
+prefixStep layout m c x = cond (validPrefix layout (m c)) (plainStep layout m (pointer layout (prefixLink c (m c))) x) broken
 
 -- at any pointer
 unfoldable pub stepAt : Layout → Memory → Pointer → ℕ → Step

@@ -12,6 +12,7 @@ use crate::layout::Layout;
 use crate::pointer::Pointer;
 use crate::pointer::pointer_of;
 use crate::prefix::is_valid_prefix;
+use crate::prefix::linked_word;
 use crate::sparse::is_valid_sparse;
 use crate::sparse::sparse_count;
 use crate::sparse::sparse_position;
@@ -117,10 +118,10 @@ fn prefix_least(layout: Layout, block: &[u8], number: usize, from: usize) -> Lea
     ensures { λ r. ⌜ leastOf r ≡ firstStep (prefixStep layout (memoryOf (now (block .entry))) number) (256 - from) from ⌝ }
 {
     let bytes = cell(block, number);
-    if !is_valid_prefix(bytes) {
+    if !is_valid_prefix(layout, bytes) {
         return Least::Broken;
     }
-    let linked = pointer_of(layout, word_at(bytes, 28));
+    let linked = pointer_of(layout, linked_word(number, bytes));
     plain_least(layout, block, linked, from)
 }
 

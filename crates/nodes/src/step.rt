@@ -11,6 +11,7 @@ use crate::layout::Layout;
 use crate::pointer::Pointer;
 use crate::pointer::pointer_of;
 use crate::prefix::is_valid_prefix;
+use crate::prefix::linked_word;
 use crate::sparse::is_valid_sparse;
 use crate::sparse::sparse_child;
 use crate::split::is_valid_head;
@@ -116,10 +117,10 @@ fn prefix_step(layout: Layout, block: &[u8], number: usize, character: u8) -> Ch
     ensures { λ r. ⌜ stepOf r ≡ prefixStep layout (memoryOf (now (block .entry))) number character ⌝ }
 {
     let bytes = cell(block, number);
-    if !is_valid_prefix(bytes) {
+    if !is_valid_prefix(layout, bytes) {
         return ChildStep::Broken;
     }
-    let linked = pointer_of(layout, word_at(bytes, 28));
+    let linked = pointer_of(layout, linked_word(number, bytes));
     plain_step(layout, block, linked, character)
 }
 

@@ -135,33 +135,33 @@ module _ (layout : Layout) (m : Memory) where
 
   -- a prefix: its cell, then the plain node that it links to
   module _ (d w c : ℕ) (named : pointer layout w ≡ prefix c) where
-    pub prefix-broken : validPrefix (m c) ≡ false → tree layout m d w ≡ none
+    pub prefix-broken : validPrefix layout (m c) ≡ false → tree layout m d w ≡ none
     unfolding readAt
     prefix-broken broken =
         tree-unread d w
         (read-is layout m w (prefix c) named
-        ∙ ap (λ b. cond b (bind (plain layout m (pointer layout (prefixLink (m c)))) (λ linked. some (prefixed (prefixValue (m c)) c linked))) none) broken)
+        ∙ ap (λ b. cond b (bind (plain layout m (pointer layout (prefixLink c (m c)))) (λ linked. some (prefixed c (m c) linked))) none) broken)
 
-    pub prefix-tree : validPrefix (m c) ≡ true → tree layout m d w ≡ joined (some (c ∷ [])) (plainTree layout m d (prefixLink (m c)))
+    pub prefix-tree : validPrefix layout (m c) ≡ true → tree layout m d w ≡ joined (some (c ∷ [])) (plainTree layout m d (prefixLink c (m c)))
     prefix-tree valid =
         tree-step layout m d w ∙ stepped
-        ∙ bind-assoc linked (λ X. some (prefixed (prefixValue (m c)) c X)) (spread (kids layout m d))
+        ∙ bind-assoc linked (λ X. some (prefixed c (m c) X)) (spread (kids layout m d))
         ∙ bind-same linked _ _ (λ X.
-        bind-of (prefixed (prefixValue (m c)) c X) (spread (kids layout m d)) ∙ spread-joined d (prefixed (prefixValue (m c)) c X) ∙ apart X)
-        ∙ moved ∙ ap (joined (some (c ∷ []))) (sym (plain-tree-read d (prefixLink (m c)) (pointer layout (prefixLink (m c))) refl))
+        bind-of (prefixed c (m c) X) (spread (kids layout m d)) ∙ spread-joined d (prefixed c (m c) X) ∙ apart X)
+        ∙ moved ∙ ap (joined (some (c ∷ []))) (sym (plain-tree-read d (prefixLink c (m c)) (pointer layout (prefixLink c (m c))) refl))
       where
         linked : Option Node
-        linked = plain layout m (pointer layout (prefixLink (m c)))
+        linked = plain layout m (pointer layout (prefixLink c (m c)))
 
         below : Node → Option (List ℕ)
         below X = gather (λ x. childTree layout m d (X .child x)) 256 0
 
         stepped : step layout m (kids layout m d) w
-            ≡ bind (bind linked (λ X. some (prefixed (prefixValue (m c)) c X))) (spread (kids layout m d))
+            ≡ bind (bind linked (λ X. some (prefixed c (m c) X))) (spread (kids layout m d))
         stepped =
             unfold step readAt in
             ap (λ o. bind o (spread (kids layout m d)))
-            (read-is layout m w (prefix c) named ∙ ap (λ b. cond b (bind linked (λ X. some (prefixed (prefixValue (m c)) c X))) none) valid)
+            (read-is layout m w (prefix c) named ∙ ap (λ b. cond b (bind linked (λ X. some (prefixed c (m c) X))) none) valid)
 
         apart : (X : Node) → joined (some (c ∷ X .cells)) (below X) ≡ joined (some (c ∷ [])) (joined (some (X .cells)) (below X))
         apart X =

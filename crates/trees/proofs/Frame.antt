@@ -36,16 +36,16 @@ Inside cs X = (c : ℕ) → 1 ≤ occurrences c (X .footprint) → 1 ≤ occurre
 module _ (layout : Layout) (m : Memory) where
   -- the tree of a prefix is that of the node linked and one cell more
   pub link-tree : (d w c : ℕ) (cs : List ℕ) → pointer layout w ≡ prefix c → tree layout m d w ≡ some cs
-      → (es : List ℕ) × (tree layout m d (prefixLink (m c)) ≡ some es) × (c ∷ es ≡ cs)
+      → (es : List ℕ) × (tree layout m d (prefixLink c (m c)) ≡ some es) × (c ∷ es ≡ cs)
   link-tree d w c cs named found =
       let q = tree-cut layout m d w cs found in
       let r = read-prefix layout m w (q .0) (q .2) c named in
-      let linked : read layout m (prefixLink (m c)) ≡ some (r .0) =
-      read-plain layout m (prefixLink (m c)) (r .0) (r .2) in
+      let linked : read layout m (prefixLink c (m c)) ≡ some (r .0) =
+      read-plain layout m (prefixLink c (m c)) (r .0) (r .2) in
       let below : gather (λ y. under (kids layout m d) (r .0 .child y)) 256 0 ≡ some (q .1) =
       subst (λ (Z : Node). gather (λ y. under (kids layout m d) (Z .child y)) 256 0 ≡ some (q .1)) (sym (r .3)) (q .3) in (
         r .0 .cells ++ q .1,
-        tree-join layout m d (prefixLink (m c)) (r .0) (q .1) linked below,
+        tree-join layout m d (prefixLink c (m c)) (r .0) (q .1) linked below,
         ap (λ (Z : Node). Z .cells ++ q .1) (r .3) ∙ q .4,
       )
 
@@ -111,7 +111,7 @@ module _ (layout : Layout) (small : layout .cells ≤ cellLimit) (m : Memory) (b
   prefix-in d w c cs X named found node x h =
       let r = prefix-cut layout m c X node in
       let l = link-tree layout m d w c cs named found in
-      let linked : Inside (l .0) (r .0) = plain-in d (prefixLink (m c)) (l .0) (pointer layout (prefixLink (m c))) (r .0) refl (l .1) (r .2) in
+      let linked : Inside (l .0) (r .0) = plain-in d (prefixLink c (m c)) (l .0) (pointer layout (prefixLink c (m c))) (r .0) refl (l .1) (r .2) in
       let here : 1 ≤ occurrences x (c ∷ r .0 .footprint) = subst (λ (Z : Node). 1 ≤ occurrences x (Z .footprint)) (sym (r .3)) h in
       subst (λ a. 1 ≤ occurrences x a) (l .2) (elim (ℕ-discrete x c) [
         | yes same ↦ omega (arith, occurrences-same x c (l .0) same)

@@ -108,7 +108,7 @@ module _ (layout : Layout) where
     readAt-usable w (prefix c) X named e =
         let p = prefix-cut layout m c X e in
         subst (λ (Z : Node). Usable layout (Z .cells)) (p .3)
-        (usable-cons c (p .0 .cells) (names layout w (prefix c) named .0) (plain-usable (prefixLink (m c)) (pointer layout (prefixLink (m c))) (p .0) refl (p .2)))
+        (usable-cons c (p .0 .cells) (names layout w (prefix c) named .0) (plain-usable (prefixLink c (m c)) (pointer layout (prefixLink c (m c))) (p .0) refl (p .2)))
     readAt-usable w invalid X named e = never e
 
     -- of a node, and of a tree

@@ -29,7 +29,7 @@ use Rattle.updates.proofs.Prefixes.{putBack-changed, putBack-held}
 use Rattle.updates.proofs.SetChild.{set-placed, set-held}
 
 -- a valid prefix has a value with its top bit clear
-prefix-clear : (s : List ℕ) → validPrefix s ≡ true → prefixValue s < 2147483648
+prefix-clear : (s : List ℕ) → validPrefix layout s ≡ true → prefixValue s < 2147483648
 unfolding validPrefix
 prefix-clear s valid = ltb-true (prefixValue s) 2147483648 (both-left (ltb (prefixValue s) 2147483648) (eqb (getD s 4 0) 255) valid)
 
@@ -85,8 +85,8 @@ module _ (layout : Layout) (m : Memory) where
       let q = prefix-cut layout m c X at in
       record {
         bare = q .0;
-        reads = read-plain layout m (prefixLink (m c)) (q .0) (q .2);
-        empty = plain-value layout m (pointer layout (prefixLink (m c))) (q .0) (q .2);
+        reads = read-plain layout m (prefixLink c (m c)) (q .0) (q .2);
+        empty = plain-value layout m (pointer layout (prefixLink c (m c))) (q .0) (q .2);
         value = ap (λ (Z : Node). Z .value) (sym (q .3));
         clear = λ u e. let same : prefixValue (m c) ≡ u = cc in subst (λ z. z < 2147483648) same (prefix-clear (m c) (q .1));
         child = λ y. ap (λ (Z : Node). Z .child y) (sym (q .3));

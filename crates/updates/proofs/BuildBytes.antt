@@ -114,7 +114,7 @@ module _ (number : ℕ → ℕ) where
     valueAt-whole value (chain c k) word = allocate-whole 31 _ [] (prefix-cell value word) tt
     valueAt-whole value (split c) word = allocate-whole 31 _ [] (prefix-cell value word) tt
     valueAt-whole value (sparse c) word = allocate-whole 31 _ [] (prefix-cell value word) tt
-    valueAt-whole value (prefix c) word = allocate-whole 31 _ [] (prefix-cell value (prefixLink (m c))) tt
+    valueAt-whole value (prefix c) word = allocate-whole 31 _ [] (prefix-cell value (prefixLink c (m c))) tt
     valueAt-whole value invalid word = tt
 
     -- the build of one insertion

@@ -146,18 +146,18 @@ module _ (layout : Layout) (small : layout .cells ≤ cellLimit) (number : ℕ �
       prefix-grown w cs (q .0) found (λ c. omega arith) node (λ y k near. refl) held
 
   -- a prefix is replaced by a new one to the same linked node
-  linked-grown : (c : ℕ) → pointer layout w ≡ prefix c → Held layout number m′ (allocate number 31 (prefixCell value (prefixLink (m c))) [])
-      → Fine layout number (allocate number 31 (prefixCell value (prefixLink (m c))) [])
-      × Grown layout number m m′ d w cs [] value (allocate number 31 (prefixCell value (prefixLink (m c))) [])
+  linked-grown : (c : ℕ) → pointer layout w ≡ prefix c → Held layout number m′ (allocate number 31 (prefixCell value (prefixLink c (m c))) [])
+      → Fine layout number (allocate number 31 (prefixCell value (prefixLink c (m c))) [])
+      × Grown layout number m m′ d w cs [] value (allocate number 31 (prefixCell value (prefixLink c (m c))) [])
   linked-grown c named held =
       let q = tree-cut layout m d w cs found in
       let r = read-prefix layout m w (q .0) (q .2) c named in
       let l = link-tree layout m d w c cs named found in
-      let linked : read layout m (prefixLink (m c)) ≡ some (r .0) = read-plain layout m (prefixLink (m c)) (r .0) (r .2) in
-      prefix-grown (prefixLink (m c)) (l .0) (r .0) (l .1)
+      let linked : read layout m (prefixLink c (m c)) ≡ some (r .0) = read-plain layout m (prefixLink c (m c)) (r .0) (r .2) in
+      prefix-grown (prefixLink c (m c)) (l .0) (r .0) (l .1)
       (λ z. omega (arith, occurrences-later z c (l .0), ap (occurrences z) (l .2))) (r .2)
       (λ y k near.
-      lookup-cons layout m (prefixLink (m c)) y k (r .0) near linked ∙ ap (λ (N : Node). lookup layout m (N .child y) k) (r .3)
+      lookup-cons layout m (prefixLink c (m c)) y k (r .0) near linked ∙ ap (λ (N : Node). lookup layout m (N .child y) k) (r .3)
       ∙ sym (lookup-cons layout m w y k (q .0) near (q .2))) held
 
   value-grown : (p : Pointer) → pointer layout w ≡ p → Held layout number m′ (valueAt layout number m value p w)

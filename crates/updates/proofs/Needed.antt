@@ -97,16 +97,16 @@ module _ (layout : Layout) (m m′ : Memory) where
 
     -- the same with the node's value set aside and put back
     prefix-same : (c : ℕ) (X : Node) → readAt layout m (prefix c) ≡ some X → Agree m m′ (X .footprint)
-        → putBack layout number (some (prefixValue (m′ c))) (setChild layout number m′ (pointer layout (prefixLink (m′ c))) x b)
-        ≡ putBack layout number (some (prefixValue (m c))) (setChild layout number m (pointer layout (prefixLink (m c))) x b)
+        → putBack layout number (some (prefixValue (m′ c))) (setChild layout number m′ (pointer layout (prefixLink c (m′ c))) x b)
+        ≡ putBack layout number (some (prefixValue (m c))) (setChild layout number m (pointer layout (prefixLink c (m c))) x b)
     prefix-same c X e agree =
         let q = prefix-cut layout m c X e in
         let agree′ : Agree m m′ (c ∷ q .0 .footprint) = subst (λ (Z : Node). Agree m m′ (Z .footprint)) (sym (q .3)) agree in
-        let linked = plain-read layout m (pointer layout (prefixLink (m c))) (q .0) (q .2) in
-        ap (λ s. putBack layout number (some (prefixValue s)) (setChild layout number m′ (pointer layout (prefixLink s)) x b))
+        let linked = plain-read layout m (pointer layout (prefixLink c (m c))) (q .0) (q .2) in
+        ap (λ s. putBack layout number (some (prefixValue s)) (setChild layout number m′ (pointer layout (prefixLink c s)) x b))
         (sym (agree-head m m′ c (q .0 .footprint) agree′))
         ∙ ap (putBack layout number (some (prefixValue (m c))))
-        (setChild-frame (pointer layout (prefixLink (m c))) (q .0) linked (agree-tail m m′ c (q .0 .footprint) agree′))
+        (setChild-frame (pointer layout (prefixLink c (m c))) (q .0) linked (agree-tail m m′ c (q .0 .footprint) agree′))
 
     node-same : (w : ℕ) (p : Pointer) (X : Node) → pointer layout w ≡ p → readAt layout m p ≡ some X → Agree m m′ (X .footprint)
         → putBack layout number (valueAside layout m′ p) (setChild layout number m′ (pointer layout (wordAside layout m′ p w)) x b)
@@ -139,7 +139,7 @@ module _ (layout : Layout) (m m′ : Memory) where
   valueAt-frame number value w (prefix c) X e agree =
       let q = prefix-cut layout m c X e in
       let agree′ : Agree m m′ (c ∷ q .0 .footprint) = subst (λ (Z : Node). Agree m m′ (Z .footprint)) (sym (q .3)) agree in
-      ap (λ s. allocate number 31 (prefixCell value (prefixLink s)) []) (sym (agree-head m m′ c (q .0 .footprint) agree′))
+      ap (λ s. allocate number 31 (prefixCell value (prefixLink c s)) []) (sym (agree-head m m′ c (q .0 .footprint) agree′))
   valueAt-frame number value w invalid X e agree = refl
 
 module _ (layout : Layout) (small : layout .cells ≤ cellLimit) (m : Memory) (bytes : (c : ℕ) → IsBytes (m c)) (m′ : Memory) where

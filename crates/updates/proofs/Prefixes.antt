@@ -31,7 +31,7 @@ pub prefix-cell-value : (v w : ℕ) → v < 4294967296 → prefixValue (prefixCe
 unfolding wordAt prefixCell withWord blank zeros
 prefix-cell-value v w small = recombine v small
 
-pub prefix-cell-link : (v w : ℕ) → w < 4294967296 → prefixLink (prefixCell v w) ≡ w
+pub prefix-cell-link : (v w : ℕ) → w < 4294967296 → prefixLink c (prefixCell v w) ≡ w
 unfolding wordAt prefixCell withWord blank zeros
 prefix-cell-link v w small = recombine w small
 
@@ -39,7 +39,7 @@ prefix-cell-mark : (v w : ℕ) → getD (prefixCell v w) 4 0 ≡ 255
 unfolding prefixCell withWord blank zeros
 prefix-cell-mark v w = refl
 
-pub prefix-cell-valid : (v w : ℕ) → v < 2147483648 → validPrefix (prefixCell v w) ≡ true
+pub prefix-cell-valid : (v w : ℕ) → v < 2147483648 → validPrefix layout (prefixCell v w) ≡ true
 unfolding validPrefix
 prefix-cell-valid v w clear = rw (prefix-cell-value v w (omega arith), prefix-cell-mark v w, lt-ltb v 2147483648 clear)
 
@@ -47,9 +47,9 @@ prefix-cell-valid v w clear = rw (prefix-cell-value v w (omega arith), prefix-ce
 pub prefix-reads : (layout : Layout) (m′ : Memory) (c v w : ℕ) (linked : Node) → v < 2147483648 → w < 4294967296 → m′ c ≡ prefixCell v w
     → plain layout m′ (pointer layout w) ≡ some linked → readAt layout m′ (prefix c) ≡ some (prefixed v c linked)
 prefix-reads layout m′ c v w linked clear small here reads =
-    let link : prefixLink (m′ c) ≡ w = ap prefixLink here ∙ prefix-cell-link v w small in
+    let link : prefixLink c (m′ c) ≡ w = ap (prefixLink c) here ∙ prefix-cell-link v w small in
     let value : prefixValue (m′ c) ≡ v = ap prefixValue here ∙ prefix-cell-value v w (omega arith) in
-    prefix-join layout m′ c linked (ap validPrefix here ∙ prefix-cell-valid v w clear) (ap (λ u. plain layout m′ (pointer layout u)) link ∙ reads)
+    prefix-join layout m′ c linked (ap (validPrefix layout) here ∙ prefix-cell-valid v w clear) (ap (λ u. plain layout m′ (pointer layout u)) link ∙ reads)
     ∙ ap (λ u. some (prefixed u c linked)) value
 
 module _ (layout : Layout) (small : layout .cells ≤ cellLimit) (number : ℕ → ℕ) (m′ : Memory) where

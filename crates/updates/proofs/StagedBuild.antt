@@ -60,7 +60,7 @@ module _ (layout : Layout) (m : Memory) (word : ℕ) (p : CodedPointer) (coded :
       → link ≡ wordAside layout m (pointer layout word) word
   unfolding wordAside
   aside-prefix c bytes link case read-as is =
-      is ∙ ap prefixLink read-as ∙ ap (λ (q : CodedPointer). wordAside layout m (pointerOf q) word) (sym case) ∙ aside-at
+      is ∙ ap (prefixLink c) read-as ∙ ap (λ (q : CodedPointer). wordAside layout m (pointerOf q) word) (sym case) ∙ aside-at
 
   aside-rest : (q : CodedPointer) → Among (0 ∷ 2 ∷ 3 ∷ 4 ∷ 6 ∷ []) q → word ≡ wordAside layout m (pointerOf q) word
   unfolding wordAside

@@ -56,8 +56,8 @@ module _ (layout : Layout) (number : ℕ → ℕ) (m : Memory) (value word : ℕ
       → all ≡ allocate number 31 (prefixCell value link) (staged stage 0) → all ≡ valueAt layout number m value (pointer layout word) word
   unfolding valueAt
   end-prefix c link bytes all stage case read is made =
-      made ∙ ap (λ (w : ℕ). allocate number 31 (prefixCell value w) (staged stage 0)) (is ∙ ap prefixLink read)
-      ∙ ap (allocate number 31 (prefixCell value (prefixLink (m c)))) (staged-none stage)
+      made ∙ ap (λ (w : ℕ). allocate number 31 (prefixCell value w) (staged stage 0)) (is ∙ ap (prefixLink c) read)
+      ∙ ap (allocate number 31 (prefixCell value (prefixLink c (m c)))) (staged-none stage)
       ∙ ap (λ (q : CodedPointer). valueAt layout number m value (pointerOf q) word) (sym case) ∙ at-pointer
 
   end-rest : (q : CodedPointer) → Among (2 ∷ 3 ∷ 4 ∷ []) q → allocate number 31 (prefixCell value word) [] ≡ valueAt layout number m value (pointerOf q) word

@@ -20,7 +20,7 @@ wordAside layout m (leaf v) word = 0
 wordAside layout m (chain c k) word = word
 wordAside layout m (split c) word = word
 wordAside layout m (sparse c) word = word
-wordAside layout m (prefix c) word = prefixLink (m c)
+wordAside layout m (prefix c) word = prefixLink c (m c)
 wordAside layout m invalid word = word
 
 -- the value set aside
@@ -58,7 +58,7 @@ valueAt layout number m value (leaf v) word = unowned (leafWord value) []
 valueAt layout number m value (chain c k) word = allocate number 0x1F (prefixCell value word) []
 valueAt layout number m value (split c) word = allocate number 0x1F (prefixCell value word) []
 valueAt layout number m value (sparse c) word = allocate number 0x1F (prefixCell value word) []
-valueAt layout number m value (prefix c) word = allocate number 0x1F (prefixCell value (prefixLink (m c))) []
+valueAt layout number m value (prefix c) word = allocate number 0x1F (prefixCell value (prefixLink c (m c))) []
 valueAt layout number m value invalid word = unowned (leafWord value) []
 
 -- the build of one insertion

@@ -15,8 +15,8 @@ is-valid-prefix-requires c κs = cell-length _ _ _ (c .cell .ensures)
 returns : tie.Need-returns
 returns c = prefix-least-broken _ _ _ _ _ (c .before .before .cell .ensures) _ (c .before .is-valid-prefix .ensures) (c .before .before .before .before .pre .3) (not-true _ (c .if1 .taken))
 
-word-at-requires : tie.Need-word-at-requires
-word-at-requires c κs = omega (arith, cell-length _ _ _ (c .before .before .cell .ensures))
+linked-word-requires : tie.Need-linked-word-requires
+linked-word-requires c κs = omega (arith, cell-length _ _ _ (c .before .before .cell .ensures))
 
 pointer-of-requires : tie.Need-pointer-of-requires
 pointer-of-requires c κs = search needs
@@ -25,7 +25,7 @@ plain-least-requires : tie.Need-plain-least-requires
 plain-least-requires c κs = (c .before .before .before .before .before .before .pre .0, c .before .before .before .before .before .before .pre .1, c .before .before .before .before .before .before .pre .3, (_, c .pointer-of .ensures))
 
 returns-2 : tie.Need-returns-2
-returns-2 c = prefix-least-taken _ _ _ _ _ (c .before .before .before .before .before .cell .ensures) _ (c .before .before .before .before .is-valid-prefix .ensures) (not-false _ (c .before .before .before .if1 .left)) _ (c .before .before .word-at .ensures) (c .before .pointer-of .result) (c .before .pointer-of .ensures) _ (c .plain-least .ensures)
+returns-2 c = prefix-least-taken _ _ _ _ _ (c .before .before .before .before .before .cell .ensures) _ (c .before .before .before .before .is-valid-prefix .ensures) (not-false _ (c .before .before .before .if1 .left)) _ (c .before .before .linked-word .ensures) (c .before .pointer-of .result) (c .before .pointer-of .ensures) _ (c .plain-least .ensures)
 
 pub prefix-least-spec : {M : Type 1} → statement M
 prefix-least-spec =
@@ -34,7 +34,7 @@ prefix-least-spec =
     cell-requires
     is-valid-prefix-requires
     returns
-    word-at-requires
+    linked-word-requires
     pointer-of-requires
     plain-least-requires
     returns-2)
