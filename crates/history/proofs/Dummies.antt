@@ -10,19 +10,15 @@ use native.Mathlib.Omega.{arith}
 use lib.ListN.{length, getD}
 use borrow.Author.Tests.{ne-eqb}
 use Rattle.cells.specs.Bytes.{IsBytes, zeros}
-use Rattle.cells.specs.Memory.{memoryOf}
 use Rattle.cells.proofs.Choice.{never}
 use Rattle.cells.proofs.Words.{set-bytes, bytes-zeros}
-use Rattle.nodes.specs.Layout.{keyLimit}
 use Rattle.trees.specs.Lookup.{emptyTable, sameKey, update}
-use Rattle.updates.specs.Build.{cellsNeeded}
-use Rattle.blocks.specs.Trailer.{badSize, layoutOf, rootWord, slots, validSlot}
+use Rattle.blocks.specs.Trailer.{badSize, layoutOf, slots, validSlot}
 use Rattle.blocks.specs.Refusal.{overLong, badKey, badNewKey, badValue}
 use Rattle.blocks.specs.Refusal.{Changed}
 use Rattle.blocks.specs.Read.{shown}
-use Rattle.store.specs.Free.{free}
 use Rattle.store.specs.Format.{format}
-use Rattle.store.specs.Insert.{blockBuild}
+use Rattle.store.specs.Insert.{cellsFree, cellsToInsert, blockBuild}
 use Rattle.store.specs.Computing.{callsOpen}
 use Rattle.store.proofs.After.{slotShown}
 use Rattle.store.proofs.Format.{format-done}
@@ -64,7 +60,7 @@ unfolding alwaysNo
 always-no-refuted number other d = other (ap (λ (c : Changed). c .answer) (d .formats (zeros 128)) ∙ formats)
 
 -- always no once formatted: 7 needs a full block, and any other answer to a good key and value is the ledger's 0
-insert-fits : length (free (layoutOf fresh) fresh) < cellsNeeded (layoutOf fresh) (memoryOf fresh) (rootWord (layoutOf fresh) fresh) letter → ⊥
+insert-fits : cellsFree fresh < cellsToInsert fresh letter → ⊥
 unfolding callsOpen
 insert-fits more = omega (arith, more)
 
@@ -141,4 +137,4 @@ pub invents-count-refuted : Demand3 inventsCount → ⊥
 unfolding inventsCount run
 invents-count-refuted d =
     let laid = d .atCall (zeros 128) formats [] insertOne [] (letter-bytes, tt) .kind .laid (count-invented .0) in
-    omega (arith, laid .count, count-invented .1, count-invented .2)
+    omega (arith, laid .counted, count-invented .1, count-invented .2)

@@ -17,14 +17,15 @@ use Rattle.blocks.specs.Trailer.{layoutOf, validSlot, inUse}
 use Rattle.blocks.specs.Sound.{reachable}
 use Rattle.blocks.specs.Refusal.{badNewKey, badValue}
 use Rattle.blocks.specs.Read.{shown}
-use Rattle.store.specs.Insert.{noRoom, insert}
+use Rattle.store.specs.Insert.{cellsToInsert, noRoom, blockBuild, insert}
+use Rattle.store.specs.Laid.{MayInsert}
 use Rattle.store.specs.Snapshots.{snapshot, restore, release}
 use Rattle.store.proofs.After.{After, slotShown}
 use Rattle.store.proofs.InsertCall.{insert-after, insert-laid, insert-answer, insert-seven, insert-refused, insert-refused-count}
 use Rattle.store.proofs.SnapshotCalls.{snapshot-law, snapshot-answer, snapshot-refused, restore-law, restore-answer, restore-refused, release-law, release-answer, release-refused}
 use Rattle.history.specs.Calls.{Call, inserting, snapshotting, restoring, releasing, ours, outcome, counted, KeyIsBytes}
 use Rattle.history.specs.Ledger.{Ledger, Noted, unaltered, done, withHeld, noteInsert, ledgerSlot, noteSnapshot, noteHeld, noteRestore, noteRelease, noteCall, gotNoRoom}
-use Rattle.history.specs.Demand3.{AtInsert, AtKind, AtCall}
+use Rattle.history.specs.Demand3.{AtBuild, AtKind, AtCall}
 use Rattle.history.proofs.Beside.{Beside, SlotHolds, holds-some, holds-replaced, holds-dropped, slot-holds, beside-after}
 
 -- a call that answered and left a block, beside the ledger's step
@@ -153,18 +154,10 @@ call-step count b l beside (restoring slot) is-bytes = restore-step count b l be
 call-step count b l beside (releasing slot) is-bytes = release-step count b l beside slot
 
 -- what is said of an insertion
-pub insert-at : (b key : List ℕ) (value : ℕ) → IsBytes b → IsBytes key → AtInsert b key value (counted (insert b key value))
+pub insert-at : (b key : List ℕ) (value : ℕ) → IsBytes b → IsBytes key
+    → AtBuild b key (MayInsert key value) (cellsToInsert b key) (blockBuild b key value) (counted (insert b key value))
 insert-at b key value bytes is-bytes =
-    record {
-      laid = λ e.
-          let laid = insert-laid b key value bytes is-bytes e in
-          record { cells = laid .cells; trailer = laid .trailer; count = laid .counted; most = laid .most; newly = laid .newly };
-      lacks = λ e.
-          let lacks = insert-seven b key value .only e in
-          record { size = lacks .size; valid = lacks .valid; goodKey = lacks .good-key; goodValue = lacks .good-value; more = lacks .more };
-      full = λ lacks. insert-seven b key value .given
-          (record { size = lacks .size; valid = lacks .valid; good-key = lacks .goodKey; good-value = lacks .goodValue; more = lacks .more });
-    }
+    record { laid = insert-laid b key value bytes is-bytes; lacks = insert-seven b key value .only; full = insert-seven b key value .given }
 
 pub kind-at : (b : List ℕ) → IsBytes b → (call : Call) → KeyIsBytes call → AtKind b call (outcome ours b call)
 unfolding outcome ours

@@ -4,23 +4,18 @@ use mathlib.Core.Logic.{_≢_}
 use mathlib.Core.Bool.{true, false}
 use mathlib.Core.List.{List, _∷_, _++_}
 use mathlib.Core.Option.{Option, none, some}
-use Prim.Native.Nat.{ℕ, _+_, _-_, _*_, _/_, _≤_, _<_}
-use lib.Dec.{leb}
+use Prim.Native.Nat.{ℕ, _+_, _≤_}
 use lib.ListN.{length}
-use Rattle.cells.specs.Word.{withWord}
 use Rattle.cells.specs.Memory.{memoryOf}
-use Rattle.cells.specs.Occurrences.{occurrences, select}
-use Rattle.trees.specs.Root.{rootCells}
+use Rattle.cells.specs.Occurrences.{occurrences}
 use Rattle.trees.specs.Lookup.{Table, lookup}
-use Rattle.updates.specs.Build.{cellsNeeded}
-use Rattle.updates.specs.Commit.{memoryWith}
-use Rattle.blocks.specs.Trailer.{badSize, layoutOf, rootWord, slots, validSlot, slotWord, inUse}
+use Rattle.updates.specs.Built.{Built}
+use Rattle.blocks.specs.Trailer.{badSize, layoutOf, slots, validSlot, slotWord, inUse}
 use Rattle.blocks.specs.Sound.{sound, reachable}
-use Rattle.blocks.specs.Refusal.{badNewKey, badValue}
 use Rattle.blocks.specs.Read.{shown}
-use Rattle.store.specs.Free.{free}
 use Rattle.store.specs.Format.{format}
-use Rattle.store.specs.Insert.{numbering, blockBuild}
+use Rattle.store.specs.Insert.{cellsToInsert, blockBuild}
+use Rattle.store.specs.Laid.{Laid, Lacks, MayInsert}
 use Rattle.history.specs.Calls.{Call, inserting, snapshotting, restoring, releasing, Implementation, Outcome, outcome, run, answersOf, KeysAreBytes}
 use Rattle.history.specs.Ledger.{Ledger, emptyLedger, ledgerAfter, ledgerAnswers, fedBy}
 
@@ -47,34 +42,14 @@ pub record AfterList (impl : Implementation) (fresh : List ℕ) (calls : List Ca
   pub answers : answersOf impl fresh calls ≡ ledgerAnswers (slots (layoutOf fresh)) emptyLedger (fedBy impl fresh calls)
   pub agrees : Agrees (run impl fresh calls) (ledgerBeside impl fresh calls)
 
--- 00: "an accepted entry leaves and counts the cells that 01's build lays down"
-pub record Laid (block key : List ℕ) (value : ℕ) (o : Outcome) : Type 0 where
-  -- the allocated cells hold the build's bytes and every other cell its old ones
-  pub cells : (c : ℕ) → c ≢ length block / 32 - 1 → memoryOf (o .block) c ≡ memoryWith (numbering block) (memoryOf block) (blockBuild block key value .cells) c
-  -- in the trailer only the root word moves
-  pub trailer : memoryOf (o .block) (length block / 32 - 1) ≡ withWord (memoryOf block (length block / 32 - 1)) 0 (blockBuild block key value .word)
-  pub count : o .count ≡ length (blockBuild block key value .cells)
-  -- 01: "for m label bytes at most 4m + 10"
-  pub most : o .count ≤ 4 * length key + 10
-  -- 01: "which are the cells of the new tree that were free before"
-  pub newly : o .count ≡ length (select (λ c. leb 1 (occurrences c (rootCells (layoutOf (o .block)) (memoryOf (o .block)) (rootWord (layoutOf (o .block)) (o .block))))) (free (layoutOf block) block))
-
--- 00: "'No room' comes exactly when no answer checked before it applies and the build laid down for that entry takes more
--- cells than there are usable ones that neither root nor any held mark reaches"
-pub record Lacks (block key : List ℕ) (value : ℕ) : Type 0 where
-  pub size : badSize block ≡ false
-  pub valid : sound block ≡ true
-  pub goodKey : badNewKey key ≡ false
-  pub goodValue : badValue value ≡ false
-  pub more : length (free (layoutOf block) block) < cellsNeeded (layoutOf block) (memoryOf block) (rootWord (layoutOf block) block) key
-
-pub record AtInsert (block key : List ℕ) (value : ℕ) (o : Outcome) : Type 0 where
-  pub laid : o .answer ≡ 0 → Laid block key value o
-  pub lacks : o .answer ≡ 7 → Lacks block key value
-  pub full : Lacks block key value → o .answer ≡ 7
+-- a call that lays down a build for a key: what it leaves and counts, and when it lacks room
+pub record AtBuild (block key : List ℕ) (MayAsk : Type 0) (needed : ℕ) (build : Built) (o : Outcome) : Type 0 where
+  pub laid : o .answer ≡ 0 → Laid block key build (o .count) (o .block)
+  pub lacks : o .answer ≡ 7 → Lacks block MayAsk needed
+  pub full : Lacks block MayAsk needed → o .answer ≡ 7
 
 abbrev pub AtKind : List ℕ → Call → Outcome → Type 0
-AtKind block (inserting key value) o = AtInsert block key value o
+AtKind block (inserting key value) o = AtBuild block key (MayInsert key value) (cellsToInsert block key) (blockBuild block key value) o
 AtKind block (snapshotting slot) o = Unit {0}
 AtKind block (restoring slot) o = Unit {0}
 AtKind block (releasing slot) o = Unit {0}

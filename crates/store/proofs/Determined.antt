@@ -19,9 +19,9 @@ use Rattle.blocks.specs.Read.{validate}
 use Rattle.blocks.specs.Tables.{Exactly, Asked, Passes, ValidateTable}
 use Rattle.blocks.proofs.ReadCalls.{validate-table}
 use Rattle.store.specs.Format.{format}
-use Rattle.store.specs.Insert.{insert}
+use Rattle.store.specs.Insert.{cellsFree, cellsToInsert, insert}
 use Rattle.store.specs.Snapshots.{snapshot, restore, release}
-use Rattle.store.proofs.WriteCalls.{FormatTable, format-table, needed, room, InsertTable, insert-table}
+use Rattle.store.proofs.WriteCalls.{FormatTable, format-table, InsertTable, insert-table}
 use Rattle.store.proofs.WriteCalls.{SlotCall, snapshotCall, restoreCall, releaseCall, SlotTable, snapshot-table, restore-table, release-table}
 
 -- two answers that are given under one condition are the same where it holds
@@ -120,7 +120,7 @@ module _ (b : List ℕ) where
         passes-or b (both (t .bad-size) (u .bad-size)) (both (t .unsound) (u .unsound)) (λ p. known p (badNewKey key) refl)
       where
         enough : Asked b (badNewKey key) → badValue value ≡ false → q .answer ≡ r .answer
-        enough a v = elim (decLt (room b) (needed b key)) [
+        enough a v = elim (decLt (cellsFree b) (cellsToInsert b key)) [
           | yes more ↦ both (t .no-room) (u .no-room) (a, (v, more))
           | no fits ↦ both (t .done) (u .done) (a, (v, omega arith))
         ]

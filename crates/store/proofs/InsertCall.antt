@@ -18,7 +18,6 @@ use Rattle.cells.proofs.Memory.{memory-length, memory-bytes}
 use Rattle.nodes.specs.Layout.{Layout, keyLimit}
 use Rattle.trees.specs.Root.{validRoot, rootCells}
 use Rattle.trees.specs.Lookup.{lookup, update}
-use Rattle.updates.specs.Build.{cellsNeeded}
 use Rattle.updates.specs.Commit.{memoryWith}
 use Rattle.updates.proofs.BuildBytes.{Whole, build-whole}
 use Rattle.staging.proofs.CellBytes.{memory-cell}
@@ -33,7 +32,8 @@ use Rattle.blocks.specs.Tables.{Exactly}
 use Rattle.blocks.proofs.Trailer.{sized, either-left, either-right, layout-cells, TrailerSays}
 use Rattle.blocks.proofs.Roots.{RootParts, root-parts, root-valid, root-cells, root-bound, sound-parts, root-reachable}
 use Rattle.store.specs.Free.{free}
-use Rattle.store.specs.Insert.{noRoom, insertRefusals, numbering, blockBuild, insertWrites, insert}
+use Rattle.store.specs.Insert.{cellsToInsert, noRoom, insertRefusals, numbering, blockBuild, insertWrites, insert}
+use Rattle.store.specs.Laid.{Laid, Lacks, Finds, MayInsert}
 use Rattle.store.proofs.CallAnswers.{insert-answers}
 use Rattle.store.proofs.Free.{free-usable, free-once, free-reached}
 use Rattle.store.proofs.After.{After, after, slotShown, not-trailer, slot-root, old-root-kept}
@@ -54,37 +54,11 @@ pub value-fits : (value : ℕ) → badValue value ≡ false → value < 21474836
 unfolding badValue
 value-fits value good = omega (arith, ltb-false 2147483647 value good)
 
--- what holds where an insertion is done, and where there is no room
-pub record InsertAccepted (b key : List ℕ) (value : ℕ) : Type 0 where
-  pub size : badSize b ≡ false
-  pub valid : sound b ≡ true
-  pub good-key : badNewKey key ≡ false
-  pub good-value : badValue value ≡ false
-  pub enough : cellsNeeded (layoutOf b) (memoryOf b) (rootWord (layoutOf b) b) key ≤ length (free (layoutOf b) b)
-
-pub record InsertLacks (b key : List ℕ) (value : ℕ) : Type 0 where
-  pub size : badSize b ≡ false
-  pub valid : sound b ≡ true
-  pub good-key : badNewKey key ≡ false
-  pub good-value : badValue value ≡ false
-  pub more : length (free (layoutOf b) b) < cellsNeeded (layoutOf b) (memoryOf b) (rootWord (layoutOf b) b) key
-
--- what an insertion that is done leaves and counts
-pub record Laid (b key : List ℕ) (value : ℕ) (count : ℕ) (b′ : List ℕ) : Type 0 where
-  -- the allocated cells hold the build's bytes and every other cell its old ones
-  pub cells : (c : ℕ) → c ≢ length b / 32 - 1 → memoryOf b′ c ≡ memoryWith (numbering b) (memoryOf b) (blockBuild b key value .cells) c
-  -- in the trailer only the root word moves
-  pub trailer : memoryOf b′ (length b / 32 - 1) ≡ withWord (memoryOf b (length b / 32 - 1)) 0 (blockBuild b key value .word)
-  pub counted : count ≡ length (blockBuild b key value .cells)
-  -- the count is that of the free cells newly reached
-  pub newly : count ≡ length (select (λ c. leb 1 (occurrences c (rootCells (layoutOf b′) (memoryOf b′) (rootWord (layoutOf b′) b′)))) (free (layoutOf b) b))
-  pub most : count ≤ 4 * length key + 10
-
 -- the block that an insertion leaves where it is done
 abbrev pub leftBlock : List ℕ → List ℕ → ℕ → List ℕ
 leftBlock b key value = written b (insertWrites b (blockBuild b key value))
 
-module _ (b key : List ℕ) (value : ℕ) (bytes : IsBytes b) (is-bytes : IsBytes key) (a : InsertAccepted b key value) where
+module _ (b key : List ℕ) (value : ℕ) (bytes : IsBytes b) (is-bytes : IsBytes key) (a : Finds b (MayInsert key value) (cellsToInsert b key)) where
   build-cells : Whole (blockBuild b key value .cells)
   unfolding blockBuild
   build-cells = build-whole (numbering b) (layoutOf b) (memoryOf b) (λ c. memory-cell b c bytes) (rootWord (layoutOf b) b) key value is-bytes
@@ -94,7 +68,7 @@ module _ (b key : List ℕ) (value : ℕ) (bytes : IsBytes b) (is-bytes : IsByte
   build-enough =
       let s = sized b (a .size) in
       enough-free (layoutOf b) (omega (arith, s .least)) (s .most) (free (layoutOf b) b) (λ c h. free-usable (layoutOf b) b c h) (memoryOf b)
-      (rootWord (layoutOf b) b) key value (value-fits value (a .good-value)) (a .enough)
+      (rootWord (layoutOf b) b) key value (value-fits value (a .may .good-value)) (a .enough)
 
   -- the law of the build, in the memory of the block that is left
   build-law : (p : RootParts (layoutOf b) (memoryOf b) (rootWord (layoutOf b) b))
@@ -104,7 +78,7 @@ module _ (b key : List ℕ) (value : ℕ) (bytes : IsBytes b) (is-bytes : IsByte
       let s = sized b (a .size) in
       insert-law (layoutOf b) (s .most) (free (layoutOf b) b) (λ c h. free-usable (layoutOf b) b c h) (λ c. free-once (layoutOf b) b c)
       (memoryOf b) (memoryOf (leftBlock b key value)) (λ c. memory-bytes b c bytes) (λ c. memory-length b c)
-      value (value-fits value (a .good-value)) key is-bytes keyLimit (rootWord (layoutOf b) b) (p .cells) (key-fits key (a .good-key)) (p .found)
+      value (value-fits value (a .may .good-value)) key is-bytes keyLimit (rootWord (layoutOf b) b) (p .cells) (key-fits key (a .may .good-key)) (p .found)
       (λ c h. free-reached (layoutOf b) b c (omega (arith, h, ap (occurrences c) (p .cells-are), root-reachable (layoutOf b) b c)))
       build-enough
       (λ c u. committed-cells b s (blockBuild b key value) build-cells build-enough c (not-trailer (layoutOf b) c u))
@@ -123,7 +97,7 @@ module _ (b key : List ℕ) (value : ℕ) (bytes : IsBytes b) (is-bytes : IsByte
       let s = sized b (a .size) in
       let p = root-parts (layoutOf b) (memoryOf b) (rootWord (layoutOf b) b) (sound-parts (layoutOf b) b (a .valid) .root) in
       let n = build-law p in
-      let r = n .root (key-some key (a .good-key)) (p .root) in
+      let r = n .root (key-some key (a .may .good-key)) (p .root) in
       record {
         cells = n .cells;
         valid = root-valid (layoutOf b) (memoryOf (leftBlock b key value)) (blockBuild b key value .word) (n .cells) (r .0) (n .valid) (n .once (p .once));
@@ -152,7 +126,7 @@ module _ (b key : List ℕ) (value : ℕ) (bytes : IsBytes b) (is-bytes : IsByte
       kept
 
   -- and its cells are those laid down
-  laid : Laid b key value (length (blockBuild b key value .cells)) (leftBlock b key value)
+  laid : Laid b key (blockBuild b key value) (length (blockBuild b key value .cells)) (leftBlock b key value)
   laid =
       let s = sized b (a .size) in
       let n : layoutOf b .cells ≡ length b / 32 = layout-cells b in
@@ -192,23 +166,22 @@ module _ (b key : List ℕ) (value : ℕ) where
   ]
 
   -- 0 exactly where nothing is refused; any other answer leaves the block and counts nothing
-  accepted : firstRefusal (insertRefusals b key value) ≡ 0 → InsertAccepted b key value
+  accepted : firstRefusal (insertRefusals b key value) ≡ 0 → Finds b (MayInsert key value) (cellsToInsert b key)
   accepted e =
       let c = insert-answers b key value .1 .1 .1 .1 .1 .only e in
       record {
         size = c .0;
         valid = not-false _ (c .1 .0);
-        good-key = c .1 .1 .0;
-        good-value = c .1 .1 .1 .0;
+        may = record { good-key = c .1 .1 .0; good-value = c .1 .1 .1 .0 };
         enough = ltb-false _ _ (c .1 .1 .1 .1 .0);
       }
 
-  pub insert-zero : Exactly (insert b key value .answer) 0 (InsertAccepted b key value)
+  pub insert-zero : Exactly (insert b key value .answer) 0 (Finds b (MayInsert key value) (cellsToInsert b key))
   insert-zero =
       record {
         only = λ e. accepted (sym insert-number ∙ e);
         given = λ a. insert-number ∙ insert-answers b key value .1 .1 .1 .1 .1 .given
-            (a .size, (rw (a .valid), (a .good-key, (a .good-value, (le-ltb _ _ (a .enough), tt)))));
+            (a .size, (rw (a .valid), (a .may .good-key, (a .may .good-value, (le-ltb _ _ (a .enough), tt)))));
       }
 
   pub insert-refused : insert b key value .answer ≢ 0 → insert b key value .block ≡ b
@@ -218,14 +191,14 @@ module _ (b key : List ℕ) (value : ℕ) where
   insert-refused-count n = ap (λ (i : Inserted). i .count) (insert-not-done (λ e. n (insert-number ∙ e)))
 
   -- 7 exactly where none of 1 to 4 applies and more cells are needed than are free
-  pub insert-seven : Exactly (insert b key value .answer) 7 (InsertLacks b key value)
+  pub insert-seven : Exactly (insert b key value .answer) 7 (Lacks b (MayInsert key value) (cellsToInsert b key))
   insert-seven =
       let x = insert-answers b key value .1 .1 .1 .1 .0 in
       record {
         only = λ e.
             let c = x .only (sym insert-number ∙ e) in
-            record { size = c .0 .0; valid = not-false _ (c .0 .1 .0); good-key = c .0 .1 .1 .0; good-value = c .0 .1 .1 .1 .0; more = ltb-true _ _ (c .1) };
-        given = λ l. insert-number ∙ x .given ((l .size, (rw (l .valid), (l .good-key, (l .good-value, tt)))), lt-ltb _ _ (l .more));
+            record { size = c .0 .0; valid = not-false _ (c .0 .1 .0); may = record { good-key = c .0 .1 .1 .0; good-value = c .0 .1 .1 .1 .0 }; more = ltb-true _ _ (c .1) };
+        given = λ l. insert-number ∙ x .given ((l .size, (rw (l .valid), (l .may .good-key, (l .may .good-value, tt)))), lt-ltb _ _ (l .more));
       }
 
   -- the answer on a sound block
@@ -242,7 +215,7 @@ module _ (b key : List ℕ) (value : ℕ) where
         subst (λ (i : Inserted). After b (i .block) (update (shown b) key value) (inUse (layoutOf b) b) (slotShown b)) (sym (insert-done e))
         (inserted b key value bytes is-bytes (accepted e))
 
-    pub insert-laid : Laid b key value (insert b key value .count) (insert b key value .block)
+    pub insert-laid : Laid b key (blockBuild b key value) (insert b key value .count) (insert b key value .block)
     insert-laid =
         let e : firstRefusal (insertRefusals b key value) ≡ 0 = sym insert-number ∙ done in
-        subst (λ (i : Inserted). Laid b key value (i .count) (i .block)) (sym (insert-done e)) (laid b key value bytes is-bytes (accepted e))
+        subst (λ (i : Inserted). Laid b key (blockBuild b key value) (i .count) (i .block)) (sym (insert-done e)) (laid b key value bytes is-bytes (accepted e))

@@ -118,7 +118,7 @@ module _ (layout : Layout) (b stamps key : List ℕ) (value : ℕ) (p : Insertab
       insert-lacks lacks =
           refused-as b key value 7
           (insert-seven b key value .given
-          (record { size = p .size; valid = p .valid; good-key = p .good-key; good-value = p .good-value; more = omega (arith, lacks, listed-free .many, made-needed) }))
+          (record { size = p .size; valid = p .valid; may = record { good-key = p .good-key; good-value = p .good-value }; more = omega (arith, lacks, listed-free .many, made-needed) }))
           (λ e. omega arith)
 
       module _ (enough : made .count ≤ count) where
@@ -143,6 +143,6 @@ module _ (layout : Layout) (b stamps key : List ℕ) (value : ℕ) (p : Insertab
             → insert b key value ≡ record { answer = 0; count = made .count; block = after }
         insert-takes after is =
             let done = insert-zero b key value .given
-            (record { size = p .size; valid = p .valid; good-key = p .good-key; good-value = p .good-value; enough = omega (arith, enough, listed-free .many, made-needed) }) in
+            (record { size = p .size; valid = p .valid; may = record { good-key = p .good-key; good-value = p .good-value }; enough = omega (arith, enough, listed-free .many, made-needed) }) in
             insert-done b key value (sym (insert-number b key value) ∙ done)
             ∙ (λ i. record { answer = 0; count = sym made-count i; block = sym (is ∙ ap (written b) committed-as) i })

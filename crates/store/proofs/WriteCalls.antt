@@ -5,29 +5,26 @@ use mathlib.Core.Logic.{_≢_}
 use mathlib.Core.Bool.{Bool, true, false, not}
 use mathlib.Core.List.{List, [], _∷_, _++_}
 use Prim.Native.Nat.{ℕ, _≤_, _<_}
-use lib.ListN.{length}
 use borrow.Author.Tests.{not-true, not-false}
 use Rattle.cells.specs.Bytes.{IsBytes}
-use Rattle.cells.specs.Memory.{memoryOf}
 use Rattle.cells.specs.Occurrences.{occurrences, all, distinct}
 use Rattle.trees.specs.Lookup.{Table, update}
-use Rattle.updates.specs.Build.{cellsNeeded}
-use Rattle.blocks.specs.Trailer.{badSize, layoutOf, rootWord, validSlot, inUse}
+use Rattle.blocks.specs.Trailer.{badSize, layoutOf, validSlot, inUse}
 use Rattle.blocks.specs.Sound.{sound}
 use Rattle.blocks.specs.Refusal.{Refusal, refusal, firstRefusal, Changed, changedBy, badNewKey, badValue, Inserted}
 use Rattle.blocks.specs.Read.{shown}
 use Rattle.blocks.specs.Tables.{Exactly, Asked, Passes}
 use Rattle.blocks.proofs.Refusals.{Answers, answers, done-block, refused-block}
 use Rattle.blocks.proofs.ReadCalls.{asked, refusals-none, exactly}
-use Rattle.store.specs.Free.{free}
 use Rattle.store.specs.Format.{formatRefusals, format}
-use Rattle.store.specs.Insert.{insert}
+use Rattle.store.specs.Insert.{cellsFree, cellsToInsert, blockBuild, insert}
+use Rattle.store.specs.Laid.{Laid}
 use Rattle.store.specs.Snapshots.{slotRefusals, snapshotBlock, restoreBlock, releaseBlock, snapshot, restore, release}
 use Rattle.store.proofs.CallAnswers.{format-answers, insert-answers}
 use Rattle.store.proofs.TrailerWrites.{replacedAt}
 use Rattle.store.proofs.After.{After, slotShown}
 use Rattle.store.proofs.Format.{Fresh, freshOf, format-law}
-use Rattle.store.proofs.InsertCall.{Laid, insert-number, insert-zero, insert-seven, insert-refused, insert-refused-count, insert-after, insert-laid}
+use Rattle.store.proofs.InsertCall.{insert-number, insert-zero, insert-seven, insert-refused, insert-refused-count, insert-after, insert-laid}
 use Rattle.store.proofs.SnapshotCalls.{snapshot-law, restore-law, release-law}
 
 -- 01's table for a fresh block: this does not ask whether the old one is sound
@@ -51,26 +48,19 @@ format-table b =
       fresh = format-law b;
     }
 
--- the cells that an insertion takes, and those that it may
-abbrev pub needed : List ℕ → List ℕ → ℕ
-needed b key = cellsNeeded (layoutOf b) (memoryOf b) (rootWord (layoutOf b) b) key
-
-abbrev pub room : List ℕ → ℕ
-room b = length (free (layoutOf b) b)
-
 -- 01's table for an insertion
 pub record InsertTable (b key : List ℕ) (value : ℕ) (r : Inserted) : Type 0 where
   pub bad-size : Exactly (r .answer) 1 (badSize b ≡ true)
   pub unsound : Exactly (r .answer) 2 ((badSize b ≡ false) × (sound b ≡ false))
   pub bad-key : Exactly (r .answer) 3 (Passes b × (badNewKey key ≡ true))
   pub bad-value : Exactly (r .answer) 4 (Asked b (badNewKey key) × (badValue value ≡ true))
-  pub no-room : Exactly (r .answer) 7 (Asked b (badNewKey key) × ((badValue value ≡ false) × (room b < needed b key)))
-  pub done : Exactly (r .answer) 0 (Asked b (badNewKey key) × ((badValue value ≡ false) × (needed b key ≤ room b)))
+  pub no-room : Exactly (r .answer) 7 (Asked b (badNewKey key) × ((badValue value ≡ false) × (cellsFree b < cellsToInsert b key)))
+  pub done : Exactly (r .answer) 0 (Asked b (badNewKey key) × ((badValue value ≡ false) × (cellsToInsert b key ≤ cellsFree b)))
   pub refused : r .answer ≢ 0 → (r .count ≡ 0) × (r .block ≡ b)
   -- the block left shows the old table with the value at the key, and each slot what it did
   pub after : IsBytes b → IsBytes key → r .answer ≡ 0 → After b (r .block) (update (shown b) key value) (inUse (layoutOf b) b) (slotShown b)
   -- every byte of it, and the count: that of the cells newly reached
-  pub laid : IsBytes b → IsBytes key → r .answer ≡ 0 → Laid b key value (r .count) (r .block)
+  pub laid : IsBytes b → IsBytes key → r .answer ≡ 0 → Laid b key (blockBuild b key value) (r .count) (r .block)
 
 pub insert-table : (b key : List ℕ) (value : ℕ) → InsertTable b key value (insert b key value)
 insert-table b key value =
@@ -82,11 +72,11 @@ insert-table b key value =
       bad-key = exactly n (x .1 .1 .0) (λ c. ((c .0 .0, not-false _ (c .0 .1 .0)), c .1)) (λ d. ((d .0 .0, (ap not (d .0 .1), tt)), d .1));
       bad-value = exactly n (x .1 .1 .1 .0) (λ c. (asked (c .0), c .1)) (λ d. (refusals-none (d .0) tt, d .1));
       no-room = exactly refl (insert-seven b key value)
-          (λ c. (record { size = c .size; valid = c .valid; key = c .good-key }, (c .good-value, c .more)))
-          (λ d. record { size = d .0 .size; valid = d .0 .valid; good-key = d .0 .key; good-value = d .1 .0; more = d .1 .1 });
+          (λ c. (record { size = c .size; valid = c .valid; key = c .may .good-key }, (c .may .good-value, c .more)))
+          (λ d. record { size = d .0 .size; valid = d .0 .valid; may = record { good-key = d .0 .key; good-value = d .1 .0 }; more = d .1 .1 });
       done = exactly refl (insert-zero b key value)
-          (λ c. (record { size = c .size; valid = c .valid; key = c .good-key }, (c .good-value, c .enough)))
-          (λ d. record { size = d .0 .size; valid = d .0 .valid; good-key = d .0 .key; good-value = d .1 .0; enough = d .1 .1 });
+          (λ c. (record { size = c .size; valid = c .valid; key = c .may .good-key }, (c .may .good-value, c .enough)))
+          (λ d. record { size = d .0 .size; valid = d .0 .valid; may = record { good-key = d .0 .key; good-value = d .1 .0 }; enough = d .1 .1 });
       refused = λ no. (insert-refused-count b key value no, insert-refused b key value no);
       after = insert-after b key value;
       laid = insert-laid b key value;

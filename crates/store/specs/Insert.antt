@@ -15,11 +15,16 @@ use Rattle.blocks.specs.Refusal.{Refusal, refusal, firstRefusal, Inserted, badN
 use Rattle.blocks.specs.Read.{blockRefusals}
 use Rattle.store.specs.Free.{free}
 
+-- how many cells are free in a block, and how many an insertion into it takes
+abbrev pub cellsFree : List ℕ → ℕ
+cellsFree block = length (free (layoutOf block) block)
+
+abbrev pub cellsToInsert : List ℕ → List ℕ → ℕ
+cellsToInsert block key = cellsNeeded (layoutOf block) (memoryOf block) (rootWord (layoutOf block) block) key
+
 -- 01, answer 7: "the entry takes more cells than are free"
 abbrev pub noRoom : List ℕ → List ℕ → Bool
-noRoom block key =
-    let layout = layoutOf block in
-    ltb (length (free layout block)) (cellsNeeded layout (memoryOf block) (rootWord layout block) key)
+noRoom block key = ltb (cellsFree block) (cellsToInsert block key)
 
 abbrev pub insertRefusals : List ℕ → List ℕ → ℕ → List Refusal
 insertRefusals block key value =
