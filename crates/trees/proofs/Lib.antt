@@ -29,3 +29,4 @@ pub mod NextTold
 pub mod NextAnswers
 pub mod Found
 pub mod MeantTree
+pub mod Proved
