@@ -14,7 +14,7 @@ use Rattle.cells.specs.Memory.{memoryOf}
 use Rattle.cells.proofs.Choice.{never}
 use Rattle.cells.proofs.Words.{set-bytes, bytes-zeros}
 use Rattle.nodes.specs.Layout.{keyLimit}
-use Rattle.trees.specs.Lookup.{emptyTable, sameKey, update}
+use Rattle.trees.specs.Lookup.{emptyTable, sameKey, assign, update}
 use Rattle.updates.specs.Build.{cellsNeeded}
 use Rattle.blocks.specs.Trailer.{badSize, layoutOf, rootWord, slots, validSlot}
 use Rattle.blocks.specs.Refusal.{overLong, badKey, badNewKey, badValue}
@@ -87,7 +87,7 @@ only-formats-refuted number other d = elim (ℕ-discrete number 7) [
 
 -- what an equation over a list of calls and the ledger beside it unfolds
 listsOpen : Unit {0}
-unfolding callsOpen sameKey update outcome run ledgerSlot noteInsert noteSnapshot noteHeld noteRestore noteCall ledgerAfter gotNoRoom fedBy
+unfolding callsOpen sameKey assign outcome run ledgerSlot noteInsert noteSnapshot noteHeld noteRestore noteCall ledgerAfter gotNoRoom fedBy
 listsOpen = tt
 
 -- inserting nothing: the ledger has the key, the block does not show it

@@ -22,7 +22,7 @@ pub mod Aside
 pub mod KeyEnd
 pub mod Law
 pub mod Taken
-pub mod InsertLaw
+pub mod ChangeLaw
 pub mod StagedCell
 pub mod StagedBuild
 pub mod StagedChains
