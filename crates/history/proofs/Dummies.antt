@@ -12,7 +12,7 @@ use borrow.Author.Tests.{ne-eqb}
 use Rattle.cells.specs.Bytes.{IsBytes, zeros}
 use Rattle.cells.proofs.Choice.{never}
 use Rattle.cells.proofs.Words.{set-bytes, bytes-zeros}
-use Rattle.trees.specs.Lookup.{emptyTable, sameKey, update}
+use Rattle.trees.specs.Lookup.{emptyTable, sameKey, assign, update}
 use Rattle.blocks.specs.Trailer.{badSize, layoutOf, slots, validSlot}
 use Rattle.blocks.specs.Refusal.{overLong, badKey, badNewKey, badValue}
 use Rattle.blocks.specs.Refusal.{Changed}
@@ -83,7 +83,7 @@ only-formats-refuted number other d = elim (ℕ-discrete number 7) [
 
 -- what an equation over a list of calls and the ledger beside it unfolds
 listsOpen : Unit {0}
-unfolding callsOpen sameKey update outcome run ledgerSlot noteInsert noteSnapshot noteHeld noteRestore noteCall ledgerAfter gotNoRoom fedBy
+unfolding callsOpen sameKey assign outcome run ledgerSlot noteInsert noteSnapshot noteHeld noteRestore noteCall ledgerAfter gotNoRoom fedBy
 listsOpen = tt
 
 -- inserting nothing: the ledger has the key, the block does not show it

@@ -2,6 +2,7 @@
 use mathlib.Core.Path.{_≡_, refl, sym, ap, _∙_, subst}
 use mathlib.Core.Logic.{_≢_}
 use mathlib.Core.Bool.{true, false, cond}
+use mathlib.Core.Option.{some}
 use mathlib.Core.List.{List}
 use Prim.Native.Nat.{ℕ, _+_, _-_, _*_, _/_, _≤_, _<_}
 use native.Mathlib.Decide.{ℕ-discrete}
@@ -23,7 +24,7 @@ use Rattle.updates.proofs.BuildBytes.{Whole, build-whole}
 use Rattle.staging.proofs.CellBytes.{memory-cell}
 use Rattle.updates.proofs.Bound.{build-bound}
 use Rattle.updates.proofs.Taken.{enough-free}
-use Rattle.updates.proofs.InsertLaw.{Inserted as BuildInserted, insert-law}
+use Rattle.updates.proofs.ChangeLaw.{KeyChanged, insert-law}
 use Rattle.blocks.specs.Trailer.{badSize, layoutOf, rootWord, slotWord, inUse}
 use Rattle.blocks.specs.Sound.{sound}
 use Rattle.blocks.specs.Refusal.{firstRefusal, overLong, badKey, badNewKey, badValue, Inserted}
@@ -72,7 +73,8 @@ module _ (b key : List ℕ) (value : ℕ) (bytes : IsBytes b) (is-bytes : IsByte
 
   -- the law of the build, in the memory of the block that is left
   build-law : (p : RootParts (layoutOf b) (memoryOf b) (rootWord (layoutOf b) b))
-      → BuildInserted (layoutOf b) (free (layoutOf b) b) (memoryOf b) (memoryOf (leftBlock b key value)) keyLimit (rootWord (layoutOf b) b) (p .cells) key value
+      → KeyChanged (layoutOf b) (free (layoutOf b) b) (memoryOf b) (memoryOf (leftBlock b key value)) keyLimit (rootWord (layoutOf b) b) (p .cells) key (some value)
+      (blockBuild b key value)
   unfolding blockBuild
   build-law p =
       let s = sized b (a .size) in
@@ -100,10 +102,10 @@ module _ (b key : List ℕ) (value : ℕ) (bytes : IsBytes b) (is-bytes : IsByte
       let r = n .root (key-some key (a .may .good-key)) (p .root) in
       record {
         cells = n .cells;
-        valid = root-valid (layoutOf b) (memoryOf (leftBlock b key value)) (blockBuild b key value .word) (n .cells) (r .0) (n .valid) (n .once (p .once));
-        small = root-bound (layoutOf b) (blockBuild b key value .word) (s .most) (r .0);
+        valid = root-valid (layoutOf b) (memoryOf (leftBlock b key value)) (blockBuild b key value .word) (n .cells) r (n .valid) (n .once (p .once));
+        small = root-bound (layoutOf b) (blockBuild b key value .word) (s .most) r;
         table = n .table;
-        cells-are = root-cells (layoutOf b) (memoryOf (leftBlock b key value)) (blockBuild b key value .word) (n .cells) (r .0) (n .valid);
+        cells-are = root-cells (layoutOf b) (memoryOf (leftBlock b key value)) (blockBuild b key value .word) (n .cells) r (n .valid);
         count = n .count;
       }
 

@@ -30,6 +30,14 @@ sameKey [] (y ∷ k) = false
 sameKey (x ∷ j) [] = false
 sameKey (x ∷ j) (y ∷ k) = let rest = sameKey j k in cond (eqb x y) rest false
 
+-- a key gets what is given, a value or none, in place of what it had
+unfoldable pub assign : Table → List ℕ → Option ℕ → Table
+assign table key given k = cond (sameKey key k) given (table k)
+
 -- 01: "the label has this value, in place of any older one"
-unfoldable pub update : Table → List ℕ → ℕ → Table
-update table key value k = cond (sameKey key k) (some value) (table k)
+abbrev pub update : Table → List ℕ → ℕ → Table
+update table key value = assign table key (some value)
+
+-- 02, 1: "strikes that pair out"
+abbrev pub erase : Table → List ℕ → Table
+erase table key = assign table key none

@@ -16,6 +16,7 @@ use nodes::layout::Layout;
 use nodes::pointer::Pointer;
 use nodes::pointer::pointer_of;
 use nodes::prefix::is_valid_prefix;
+use nodes::prefix::linked_word;
 use nodes::sparse::sparse_count;
 use nodes::sparse::sparse_position;
 
@@ -117,13 +118,14 @@ fn child_check(
     match pointer_of(layout, word) {
         Pointer::Leaf(_) => true,
         Pointer::Prefix(number) => {
-            if !is_valid_prefix(cell(block, number)) {
+            let bytes = cell(block, number);
+            if !is_valid_prefix(layout, bytes) {
                 return false;
             }
             if !stamp_cell(stamps, stamp, number) {
                 return false;
             }
-            let link = word_at(block, number * 32 + 28);
+            let link = linked_word(number, bytes);
             node_check(layout, block, stamps, stamp, link, depth - 1)
         }
         _ => node_check(layout, block, stamps, stamp, word, depth - 1),

@@ -1,5 +1,6 @@
 -- A node's value set aside, and put back after a child is set.
 use mathlib.Core.Path.{_≡_, refl, sym, ap, _∙_, subst}
+use mathlib.Core.Logic.{_≢_}
 use mathlib.Core.Bool.{true}
 use mathlib.Core.List.{List}
 use mathlib.Core.Option.{Option, none, some}
@@ -109,7 +110,7 @@ module _ (layout : Layout) (small : layout .cells ≤ cellLimit) (number : ℕ �
       set-held layout small number m m′ bytes whole _ x b (putBack-held layout small number m′ (valueAside layout m (pointer layout w)) _ held)
 
   module _ (w : ℕ) (X : Node) (node : read layout m w ≡ some X) (agree : Agree m m′ (X .cells)) (x : ℕ) (near : x < 256)
-      (b : Built) (fine : Fine layout number b) where
+      (b : Built) (nonzero : b .word ≢ 0) (fine : Fine layout number b) where
     -- the node before its value is put back
     pub bare-placed : Held layout number m′ (setChild layout number m (pointer layout (wordAside layout m (pointer layout w) w)) x b)
         → Placed layout number m′ (aside layout m w X node .bare) x b
@@ -117,7 +118,7 @@ module _ (layout : Layout) (small : layout .cells ≤ cellLimit) (number : ℕ �
     bare-placed held =
         let n = aside layout m w X node in
         set-placed layout small number m m′ bytes whole (wordAside layout m (pointer layout w) w) (n .bare) x b (n .reads) (n .empty)
-        (agree-less m m′ (X .cells) (n .bare .cells) (λ c h. omega (arith, n .cells c)) agree) near fine held
+        (agree-less m m′ (X .cells) (n .bare .cells) (λ c h. omega (arith, n .cells c)) agree) near nonzero fine held
 
     pub node-changed : Held layout number m′ (nodeSet layout number m w x b) → Changed layout number m′ X x b (nodeSet layout number m w x b)
     node-changed held =

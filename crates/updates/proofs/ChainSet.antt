@@ -1,5 +1,6 @@
 -- Setting a child of a chain node.
 use mathlib.Core.Path.{_≡_, refl, sym, ap, _∙_}
+use mathlib.Core.Logic.{_≢_}
 use mathlib.Core.Bool.{Bool, true, false, cond}
 use mathlib.Core.List.{List}
 use mathlib.Core.Option.{some}
@@ -47,10 +48,10 @@ module _ (layout : Layout) (small : layout .cells ≤ cellLimit) (number : ℕ �
 
   -- with the chain's own character the chain is made anew, else it becomes a pair
   pub chain-set-placed : (Y : Node) → plain layout m (chain c k) ≡ some Y → usable layout c ≡ true → k < 28 → IsBytes (m c)
-      → Fine layout number b → Held layout number m′ (chainSet number (m c) c k x b)
+      → b .word ≢ 0 → Fine layout number b → Held layout number m′ (chainSet number (m c) c k x b)
       → Placed layout number m′ Y x b (chainSet number (m c) c k x b)
   unfolding chainSet
-  chain-set-placed Y reads free chain-kind is-bytes fine held = go (eqb x (chainCharacter (m c) k)) refl held
+  chain-set-placed Y reads free chain-kind is-bytes nonzero fine held = go (eqb x (chainCharacter (m c) k)) refl held
     where
       child : (y : ℕ) → Y .child y ≡ oneChild (chainCharacter (m c) k) (chainChild (m c) c k) y
       child = chain-cut-child layout m c k Y reads
@@ -59,9 +60,9 @@ module _ (layout : Layout) (small : layout .cells ≤ cellLimit) (number : ℕ �
           → Placed layout number m′ Y x b (cond t (chainOver number x b) pair)
       go true e held =
           let same : x ≡ chainCharacter (m c) k = eqb-true x (chainCharacter (m c) k) e in
-          chain-placed layout small number m′ Y x (λ y other. child y ∙ one-child-other _ _ y (λ i. other (i ∙ sym same))) b fine held
+          chain-placed layout small number m′ Y x (λ y other. child y ∙ one-child-other _ _ y (λ i. other (i ∙ sym same))) b nonzero fine held
       go false e held =
-          pair-placed layout small number m′ Y x (chainCharacter (m c) k) (chainChild (m c) c k) b fine (eqb-false x (chainCharacter (m c) k) e)
+          pair-placed layout small number m′ Y x (chainCharacter (m c) k) (chainChild (m c) c k) b nonzero fine (eqb-false x (chainCharacter (m c) k) e)
           (chain-cut layout m c k Y reads .0) (chain-child-small layout small (m c) c k free chain-kind is-bytes) child held
 
   pub chain-set-held : Held layout number m′ (chainSet number (m c) c k x b) → Held layout number m′ b

@@ -128,11 +128,11 @@ module _ (layout : Layout) (small : layout .cells ≤ cellLimit) (number : ℕ �
     with-placed word-small own (suc k) (newest ∷ rest) run held = unfold allocate in longer-placed own k newest rest run held
 
   -- a chain over a child, be the child's cell allocated by this call or not
-  pub chain-placed : (Y : Node) (x : ℕ) → ((y : ℕ) → y ≢ x → Y .child y ≡ 0) → (b : Built) → Fine layout number b
+  pub chain-placed : (Y : Node) (x : ℕ) → ((y : ℕ) → y ≢ x → Y .child y ≡ 0) → (b : Built) → b .word ≢ 0 → Fine layout number b
       → Held layout number m′ (chainOver number x b) → Placed layout number m′ Y x b (chainOver number x b)
   unfolding chainOver
-  chain-placed Y x only b fine held =
-      with-placed Y x only (b .word) (fine .nonzero) (fine .small) (b .own) (roomOf b) (b .cells) (fine .run) held
+  chain-placed Y x only b nonzero fine held =
+      with-placed Y x only (b .word) nonzero (fine .small) (b .own) (roomOf b) (b .cells) (fine .run) held
 
   with-held : (x w k : ℕ) (cells : List (List ℕ)) → Held layout number m′ (chainWith number x w k cells) → HoldsFrom layout number m′ k cells
   unfolding chainWith characterBefore allocate

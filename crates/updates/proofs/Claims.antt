@@ -1,9 +1,8 @@
 -- What is said of a build: where its cells stand in a memory, and what its word then names and shows.
 use mathlib.Core.Path.{_≡_, ap}
-use mathlib.Core.Logic.{_≢_}
 use mathlib.Core.Bool.{true}
 use mathlib.Core.List.{List, [], _∷_}
-use mathlib.Core.Option.{none, some}
+use mathlib.Core.Option.{Option, none, some}
 use native.Mathlib.Omega.{arith}
 use Prim.Native.Nat.{ℕ, zero, suc, _+_, _≤_, _<_}
 use lib.ListN.{length, getD}
@@ -13,7 +12,7 @@ use Rattle.nodes.specs.Layout.{Layout, usable}
 use Rattle.nodes.specs.Pointer.{pointer, wordTo}
 use Rattle.nodes.specs.Node.{Node, read, plain}
 use Rattle.trees.specs.Tree.{tree}
-use Rattle.trees.specs.Lookup.{lookup, update}
+use Rattle.trees.specs.Lookup.{lookup, assign}
 use Rattle.updates.specs.Built.{Built, roomOf}
 use Rattle.updates.specs.SetChild.{withChild}
 
@@ -69,9 +68,8 @@ module _ (layout : Layout) (number : ℕ → ℕ) where
   Run (suc k) word [] = ⊥
   Run (suc k) word (newest ∷ rest) = (word ≡ wordTo (number (length rest)) (suc k)) × (suc k ≤ 27) × (length newest ≡ 32)
 
-  -- the word of a build is a pointer
+  -- the word of a build is one of 32 bits, and goes with its cells
   pub record Fine (b : Built) : Type 0 where
-    pub nonzero : b .word ≢ 0
     pub small : b .word < 4294967296
     pub run : Run (roomOf b) (b .word) (b .cells)
 
@@ -96,10 +94,10 @@ module _ (layout : Layout) (number : ℕ → ℕ) where
     pub least : (c : ℕ) → occurrences c (numbers number (after .cells)) ≤ occurrences c (node .cells) + occurrences c (numbers number (b .cells))
     pub fine : Fine after
 
-  -- the tree and the table at a built word, by those of the old word w
-  pub record Grown (m m′ : Memory) (depth w : ℕ) (cs key : List ℕ) (value : ℕ) (b : Built) : Type 0 where
+  -- the tree and the table at a built word, by those of the old word w: the key has what is given, a value or none
+  pub record Grown (m m′ : Memory) (depth w : ℕ) (cs key : List ℕ) (given : Option ℕ) (b : Built) : Type 0 where
     pub cells : List ℕ
     pub valid : tree layout m′ depth (b .word) ≡ some cells
     pub most : (c : ℕ) → occurrences c cells ≤ occurrences c cs + occurrences c (numbers number (b .cells))
     pub least : (c : ℕ) → occurrences c (numbers number (b .cells)) ≤ occurrences c cells
-    pub table : (k : List ℕ) → lookup layout m′ (b .word) k ≡ update (lookup layout m w) key value k
+    pub table : (k : List ℕ) → lookup layout m′ (b .word) k ≡ assign (lookup layout m w) key given k

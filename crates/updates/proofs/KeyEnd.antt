@@ -1,6 +1,5 @@
 -- The node at the key's end gets its value.
 use mathlib.Core.Path.{_≡_, refl, sym, ap, _∙_}
-use mathlib.Core.Logic.{_≢_}
 use mathlib.Core.List.{List, [], _∷_, _++_}
 use mathlib.Core.Option.{Option, none, some}
 use Prim.Native.Nat.{ℕ, _+_, _≤_, _<_}
@@ -21,7 +20,7 @@ use Rattle.nodes.proofs.Gather.{gather-nil, under-zero}
 use Rattle.nodes.proofs.Frame.{plain-frame, read-is}
 use Rattle.nodes.proofs.Read.{read-plain, read-leaf, read-prefix}
 use Rattle.trees.specs.Tree.{tree}
-use Rattle.trees.specs.Lookup.{Table, lookup, sameKey, update}
+use Rattle.trees.specs.Lookup.{Table, lookup, sameKey, assign}
 use Rattle.trees.proofs.Tree.{kids, tree-cut, tree-at, tree-join, lookup-nil, lookup-cons, lookup-other, lookup-zero}
 use Rattle.trees.proofs.Frame.{link-tree, footprint-in, tree-frame, lookup-frame}
 use Rattle.staging.specs.NewCells.{prefixCell}
@@ -31,14 +30,14 @@ use Rattle.updates.proofs.Claims.{numbers, Held, Fine, Grown}
 use Rattle.updates.proofs.Rooms.{unowned-fine, allocate-numbers}
 use Rattle.updates.proofs.Prefixes.{prefix-allocated}
 
--- a table updated at the empty key
-pub update-end : (table : Table) (value : ℕ) → update table [] value [] ≡ some value
-unfolding update sameKey
-update-end table value = refl
+-- a table with the empty key assigned
+pub assign-end : (table : Table) (given : Option ℕ) → assign table [] given [] ≡ given
+unfolding assign sameKey
+assign-end table given = refl
 
-pub update-past : (table : Table) (value y : ℕ) (k : List ℕ) → update table [] value (y ∷ k) ≡ table (y ∷ k)
-unfolding update sameKey
-update-past table value y k = refl
+pub assign-past : (table : Table) (given : Option ℕ) (y : ℕ) (k : List ℕ) → assign table [] given (y ∷ k) ≡ table (y ∷ k)
+unfolding assign sameKey
+assign-past table given y k = refl
 
 numbers-none : (number : ℕ → ℕ) (c : ℕ) → occurrences c (numbers number []) ≡ 0
 unfolding numbers
@@ -47,10 +46,6 @@ numbers-none number c = occurrences-none c
 leaf-word-small : (value : ℕ) → leafWord value < 4294967296
 unfolding leafWord
 leaf-word-small value = omega arith
-
-leaf-word-nonzero : (value : ℕ) → value < 2147483648 → leafWord value ≢ 0
-unfolding leafWord
-leaf-word-nonzero value clear = omega arith
 
 -- a word that names a chain, sparse or split is small
 pub plain-small : (layout : Layout) → layout .cells ≤ cellLimit → (m : Memory) (w : ℕ) (p : Pointer) (Z : Node) → pointer layout w ≡ p
@@ -68,111 +63,112 @@ plain-small layout small m w (prefix c) Z named e = never e
 plain-small layout small m w invalid Z named e = never e
 
 module _ (layout : Layout) (small : layout .cells ≤ cellLimit) (number : ℕ → ℕ) (m m′ : Memory) (bytes : (c : ℕ) → IsBytes (m c))
-    (value : ℕ) (clear : value < 2147483648) (d w : ℕ) (cs : List ℕ) (found : tree layout m d w ≡ some cs) (agree : Agree m m′ cs) where
-  -- the table of a new node with the value and with the old children's tables
-  end-table : (u : ℕ) (N : Node) → read layout m′ u ≡ some N → N .value ≡ some value
+    (d w : ℕ) (cs : List ℕ) (found : tree layout m d w ≡ some cs) (agree : Agree m m′ cs) where
+  -- the table of a new node with what is given and with the old children's tables
+  end-table : (given : Option ℕ) (u : ℕ) (N : Node) → read layout m′ u ≡ some N → N .value ≡ given
       → ((y : ℕ) (k : List ℕ) → y < 256 → lookup layout m′ (N .child y) k ≡ lookup layout m w (y ∷ k))
-      → (k : List ℕ) → lookup layout m′ u k ≡ update (lookup layout m w) [] value k
-  end-table u N node has children [] = lookup-nil layout m′ u N node ∙ has ∙ sym (update-end (lookup layout m w) value)
-  end-table u N node has children (y ∷ k) = elim (decLt y 256) [
-    | yes near ↦ lookup-cons layout m′ u y k N near node ∙ children y k near ∙ sym (update-past (lookup layout m w) value y k)
+      → (k : List ℕ) → lookup layout m′ u k ≡ assign (lookup layout m w) [] given k
+  end-table given u N node has children [] = lookup-nil layout m′ u N node ∙ has ∙ sym (assign-end (lookup layout m w) given)
+  end-table given u N node has children (y ∷ k) = elim (decLt y 256) [
+    | yes near ↦ lookup-cons layout m′ u y k N near node ∙ children y k near ∙ sym (assign-past (lookup layout m w) given y k)
     | no far ↦
         lookup-other layout m′ u y k (omega arith) ∙ sym (lookup-other layout m w y k (omega arith))
-        ∙ sym (update-past (lookup layout m w) value y k)
+        ∙ sym (assign-past (lookup layout m w) given y k)
   ]
 
-  -- NONE or a leaf becomes a leaf
-  leaf-grown : (old : Option ℕ) → read layout m w ≡ some (childless old)
-      → Fine layout number (unowned (leafWord value) []) × Grown layout number m m′ d w cs [] value (unowned (leafWord value) [])
-  leaf-grown old was =
-      let node : read layout m′ (leafWord value) ≡ some (childless (some value)) =
-      read-leaf layout m′ (leafWord value) value (leaf-made layout value clear) in (
-        unowned-fine layout number (leafWord value) [] (leaf-word-nonzero value clear) (leaf-word-small value),
-        record {
-          cells = [];
-          valid = tree-join layout m′ d (leafWord value) (childless (some value)) [] node (gather-nil _ 256 0 (λ y. under-zero (kids layout m′ d)));
-          most = λ c. omega (arith, occurrences-none c);
-          least = λ c. omega (arith, numbers-none number c);
-          table = end-table (leafWord value) (childless (some value)) node refl
-              (λ y k near. lookup-zero layout m′ k ∙ sym (lookup-zero layout m k) ∙ sym (lookup-cons layout m w y k (childless old) near was));
-        },
-      )
+  module _ (value : ℕ) (clear : value < 2147483648) where
+    -- NONE or a leaf becomes a leaf
+    leaf-grown : (old : Option ℕ) → read layout m w ≡ some (childless old)
+        → Fine layout number (unowned (leafWord value) []) × Grown layout number m m′ d w cs [] (some value) (unowned (leafWord value) [])
+    leaf-grown old was =
+        let node : read layout m′ (leafWord value) ≡ some (childless (some value)) =
+        read-leaf layout m′ (leafWord value) value (leaf-made layout value clear) in (
+          unowned-fine layout number (leafWord value) [] (leaf-word-small value),
+          record {
+            cells = [];
+            valid = tree-join layout m′ d (leafWord value) (childless (some value)) [] node (gather-nil _ 256 0 (λ y. under-zero (kids layout m′ d)));
+            most = λ c. omega (arith, occurrences-none c);
+            least = λ c. omega (arith, numbers-none number c);
+            table = end-table (some value) (leafWord value) (childless (some value)) node refl
+                (λ y k near. lookup-zero layout m′ k ∙ sym (lookup-zero layout m k) ∙ sym (lookup-cons layout m w y k (childless old) near was));
+          },
+        )
 
-  -- a new prefix cell over the chain, sparse or split of a word u, whose tree is part of the old one
-  prefix-grown : (u : ℕ) (es : List ℕ) (Z : Node) → tree layout m d u ≡ some es → ((c : ℕ) → occurrences c es ≤ occurrences c cs)
-      → plain layout m (pointer layout u) ≡ some Z
-      → ((y : ℕ) (k : List ℕ) → y < 256 → lookup layout m u (y ∷ k) ≡ lookup layout m w (y ∷ k))
-      → Held layout number m′ (allocate number 31 (prefixCell value u) [])
-      → Fine layout number (allocate number 31 (prefixCell value u) [])
-      × Grown layout number m m′ d w cs [] value (allocate number 31 (prefixCell value u) [])
-  prefix-grown u es Z part less node same held =
-      let c : ℕ = number 0 in
-      let b : Built = allocate number 31 (prefixCell value u) [] in
-      let agree-part : Agree m m′ es = agree-less m m′ cs es (λ z h. omega (arith, less z)) agree in
-      let read-by : Agree m m′ (Z .footprint) =
-      agree-less m m′ es (Z .footprint) (footprint-in layout small m bytes d u es Z part (read-plain layout m u Z node)) agree-part in
-      let f = plain-frame layout m m′ (pointer layout u) Z node read-by in
-      let new = prefix-allocated layout small number m′ value u [] (f .0) clear
-      (omega (arith, plain-small layout small m u (pointer layout u) Z refl node)) (f .1) held in
-      let q = tree-at layout m′ d u es (f .0) (tree-frame layout small m bytes m′ d u es part agree-part) (read-plain layout m′ u (f .0) (f .1)) in
-      let ns : List ℕ = c ∷ f .0 .cells in
-      let here : (z : ℕ) → occurrences z ns ≡ occurrences z (c ∷ []) + occurrences z (f .0 .cells) =
-      λ z. occurrences-append z (c ∷ []) (f .0 .cells) in
-      let whole-tree : (z : ℕ) → occurrences z (ns ++ q .0) ≡ occurrences z (c ∷ []) + occurrences z es =
-      λ z. omega (arith, occurrences-append z ns (q .0), here z, q .3 z) in
-      let count : (z : ℕ) → occurrences z (numbers number (b .cells)) ≡ occurrences z (c ∷ []) =
-      λ z. omega (arith, allocate-numbers number z 31 (prefixCell value u) [], numbers-none number z) in (
-        new .1,
-        record {
-          cells = ns ++ q .0;
-          valid = tree-join layout m′ d (b .word) (prefixed value c (f .0)) (q .0) (new .0) (q .1);
-          most = λ z. omega (arith, whole-tree z, count z, less z);
-          least = λ z. omega (arith, whole-tree z, count z);
-          table = end-table (b .word) (prefixed value c (f .0)) (new .0) refl
-              (λ y k near.
-              sym (lookup-cons layout m′ u y k (f .0) near (read-plain layout m′ u (f .0) (f .1)))
-              ∙ lookup-frame layout small m bytes m′ (y ∷ k) d u es part agree-part ∙ same y k near);
-        },
-      )
+    -- a new prefix cell over the chain, sparse or split of a word u, whose tree is part of the old one
+    prefix-grown : (u : ℕ) (es : List ℕ) (Z : Node) → tree layout m d u ≡ some es → ((c : ℕ) → occurrences c es ≤ occurrences c cs)
+        → plain layout m (pointer layout u) ≡ some Z
+        → ((y : ℕ) (k : List ℕ) → y < 256 → lookup layout m u (y ∷ k) ≡ lookup layout m w (y ∷ k))
+        → Held layout number m′ (allocate number 31 (prefixCell value u) [])
+        → Fine layout number (allocate number 31 (prefixCell value u) [])
+        × Grown layout number m m′ d w cs [] (some value) (allocate number 31 (prefixCell value u) [])
+    prefix-grown u es Z part less node same held =
+        let c : ℕ = number 0 in
+        let b : Built = allocate number 31 (prefixCell value u) [] in
+        let agree-part : Agree m m′ es = agree-less m m′ cs es (λ z h. omega (arith, less z)) agree in
+        let read-by : Agree m m′ (Z .footprint) =
+        agree-less m m′ es (Z .footprint) (footprint-in layout small m bytes d u es Z part (read-plain layout m u Z node)) agree-part in
+        let f = plain-frame layout m m′ (pointer layout u) Z node read-by in
+        let new = prefix-allocated layout small number m′ value u [] (f .0) clear
+        (omega (arith, plain-small layout small m u (pointer layout u) Z refl node)) (f .1) held in
+        let q = tree-at layout m′ d u es (f .0) (tree-frame layout small m bytes m′ d u es part agree-part) (read-plain layout m′ u (f .0) (f .1)) in
+        let ns : List ℕ = c ∷ f .0 .cells in
+        let here : (z : ℕ) → occurrences z ns ≡ occurrences z (c ∷ []) + occurrences z (f .0 .cells) =
+        λ z. occurrences-append z (c ∷ []) (f .0 .cells) in
+        let whole-tree : (z : ℕ) → occurrences z (ns ++ q .0) ≡ occurrences z (c ∷ []) + occurrences z es =
+        λ z. omega (arith, occurrences-append z ns (q .0), here z, q .3 z) in
+        let count : (z : ℕ) → occurrences z (numbers number (b .cells)) ≡ occurrences z (c ∷ []) =
+        λ z. omega (arith, allocate-numbers number z 31 (prefixCell value u) [], numbers-none number z) in (
+          new .1,
+          record {
+            cells = ns ++ q .0;
+            valid = tree-join layout m′ d (b .word) (prefixed value c (f .0)) (q .0) (new .0) (q .1);
+            most = λ z. omega (arith, whole-tree z, count z, less z);
+            least = λ z. omega (arith, whole-tree z, count z);
+            table = end-table (some value) (b .word) (prefixed value c (f .0)) (new .0) refl
+                (λ y k near.
+                sym (lookup-cons layout m′ u y k (f .0) near (read-plain layout m′ u (f .0) (f .1)))
+                ∙ lookup-frame layout small m bytes m′ (y ∷ k) d u es part agree-part ∙ same y k near);
+          },
+        )
 
-  -- a chain, sparse or split gets a new prefix cell
-  plain-grown : (p : Pointer) → pointer layout w ≡ p → ((X : Node) → readAt layout m p ≡ some X → plain layout m p ≡ some X)
-      → Held layout number m′ (allocate number 31 (prefixCell value w) [])
-      → Fine layout number (allocate number 31 (prefixCell value w) [])
-      × Grown layout number m m′ d w cs [] value (allocate number 31 (prefixCell value w) [])
-  plain-grown p named is held =
-      let q = tree-cut layout m d w cs found in
-      let node : plain layout m (pointer layout w) ≡ some (q .0) = ap (plain layout m) named ∙ is (q .0) (sym (read-is layout m w p named) ∙ q .2) in
-      prefix-grown w cs (q .0) found (λ c. omega arith) node (λ y k near. refl) held
+    -- a chain, sparse or split gets a new prefix cell
+    plain-grown : (p : Pointer) → pointer layout w ≡ p → ((X : Node) → readAt layout m p ≡ some X → plain layout m p ≡ some X)
+        → Held layout number m′ (allocate number 31 (prefixCell value w) [])
+        → Fine layout number (allocate number 31 (prefixCell value w) [])
+        × Grown layout number m m′ d w cs [] (some value) (allocate number 31 (prefixCell value w) [])
+    plain-grown p named is held =
+        let q = tree-cut layout m d w cs found in
+        let node : plain layout m (pointer layout w) ≡ some (q .0) = ap (plain layout m) named ∙ is (q .0) (sym (read-is layout m w p named) ∙ q .2) in
+        prefix-grown w cs (q .0) found (λ c. omega arith) node (λ y k near. refl) held
 
-  -- a prefix is replaced by a new one to the same linked node
-  linked-grown : (c : ℕ) → pointer layout w ≡ prefix c → Held layout number m′ (allocate number 31 (prefixCell value (prefixLink c (m c))) [])
-      → Fine layout number (allocate number 31 (prefixCell value (prefixLink c (m c))) [])
-      × Grown layout number m m′ d w cs [] value (allocate number 31 (prefixCell value (prefixLink c (m c))) [])
-  linked-grown c named held =
-      let q = tree-cut layout m d w cs found in
-      let r = read-prefix layout m w (q .0) (q .2) c named in
-      let l = link-tree layout m d w c cs named found in
-      let linked : read layout m (prefixLink c (m c)) ≡ some (r .0) = read-plain layout m (prefixLink c (m c)) (r .0) (r .2) in
-      prefix-grown (prefixLink c (m c)) (l .0) (r .0) (l .1)
-      (λ z. omega (arith, occurrences-later z c (l .0), ap (occurrences z) (l .2))) (r .2)
-      (λ y k near.
-      lookup-cons layout m (prefixLink c (m c)) y k (r .0) near linked ∙ ap (λ (N : Node). lookup layout m (N .child y) k) (r .3)
-      ∙ sym (lookup-cons layout m w y k (q .0) near (q .2))) held
+    -- a prefix is replaced by a new one to the same linked node
+    linked-grown : (c : ℕ) → pointer layout w ≡ prefix c → Held layout number m′ (allocate number 31 (prefixCell value (prefixLink c (m c))) [])
+        → Fine layout number (allocate number 31 (prefixCell value (prefixLink c (m c))) [])
+        × Grown layout number m m′ d w cs [] (some value) (allocate number 31 (prefixCell value (prefixLink c (m c))) [])
+    linked-grown c named held =
+        let q = tree-cut layout m d w cs found in
+        let r = read-prefix layout m w (q .0) (q .2) c named in
+        let l = link-tree layout m d w c cs named found in
+        let linked : read layout m (prefixLink c (m c)) ≡ some (r .0) = read-plain layout m (prefixLink c (m c)) (r .0) (r .2) in
+        prefix-grown (prefixLink c (m c)) (l .0) (r .0) (l .1)
+        (λ z. omega (arith, occurrences-later z c (l .0), ap (occurrences z) (l .2))) (r .2)
+        (λ y k near.
+        lookup-cons layout m (prefixLink c (m c)) y k (r .0) near linked ∙ ap (λ (N : Node). lookup layout m (N .child y) k) (r .3)
+        ∙ sym (lookup-cons layout m w y k (q .0) near (q .2))) held
 
-  value-grown : (p : Pointer) → pointer layout w ≡ p → Held layout number m′ (valueAt layout number m value p w)
-      → Fine layout number (valueAt layout number m value p w) × Grown layout number m m′ d w cs [] value (valueAt layout number m value p w)
-  unfolding valueAt readAt
-  value-grown nothing named held = leaf-grown none (read-is layout m w nothing named)
-  value-grown (leaf v) named held = leaf-grown (some v) (read-is layout m w (leaf v) named)
-  value-grown (chain c k) named held = plain-grown (chain c k) named (λ X e. e) held
-  value-grown (split c) named held = plain-grown (split c) named (λ X e. e) held
-  value-grown (sparse c) named held = plain-grown (sparse c) named (λ X e. e) held
-  value-grown (prefix c) named held = linked-grown c named held
-  value-grown invalid named held =
-      let q = tree-cut layout m d w cs found in never (sym (read-is layout m w invalid named) ∙ q .2)
+    value-grown : (p : Pointer) → pointer layout w ≡ p → Held layout number m′ (valueAt layout number m value p w)
+        → Fine layout number (valueAt layout number m value p w) × Grown layout number m m′ d w cs [] (some value) (valueAt layout number m value p w)
+    unfolding valueAt readAt
+    value-grown nothing named held = leaf-grown none (read-is layout m w nothing named)
+    value-grown (leaf v) named held = leaf-grown (some v) (read-is layout m w (leaf v) named)
+    value-grown (chain c k) named held = plain-grown (chain c k) named (λ X e. e) held
+    value-grown (split c) named held = plain-grown (split c) named (λ X e. e) held
+    value-grown (sparse c) named held = plain-grown (sparse c) named (λ X e. e) held
+    value-grown (prefix c) named held = linked-grown c named held
+    value-grown invalid named held =
+        let q = tree-cut layout m d w cs found in never (sym (read-is layout m w invalid named) ∙ q .2)
 
-  pub end-grown : Held layout number m′ (valueAt layout number m value (pointer layout w) w)
-      → Fine layout number (valueAt layout number m value (pointer layout w) w)
-      × Grown layout number m m′ d w cs [] value (valueAt layout number m value (pointer layout w) w)
-  end-grown = value-grown (pointer layout w) refl
+    pub end-grown : Held layout number m′ (valueAt layout number m value (pointer layout w) w)
+        → Fine layout number (valueAt layout number m value (pointer layout w) w)
+        × Grown layout number m m′ d w cs [] (some value) (valueAt layout number m value (pointer layout w) w)
+    end-grown = value-grown (pointer layout w) refl

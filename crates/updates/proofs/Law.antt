@@ -1,5 +1,5 @@
 -- The law of the build: in any memory where its cells stand, and that is alike on the cells of the old tree, its word has
--- a tree of old cells and of each allocated one, and the old table with the key updated.
+-- a tree of old cells and of each allocated one, and the old table with the key assigned.
 use mathlib.Core.Path.{_≡_, refl, sym, ap, _∙_, subst}
 use mathlib.Core.Logic.{_≢_}
 use mathlib.Core.Bool.{true}
@@ -18,14 +18,15 @@ use Rattle.nodes.specs.Pointer.{Pointer, pointer}
 use Rattle.nodes.specs.Pointer.Pointer.{nothing, leaf, chain, split, sparse, prefix, invalid}
 use Rattle.nodes.specs.Node.{Node, plain, read}
 use Rattle.trees.specs.Tree.{tree}
+use Rattle.trees.specs.Lookup.{lookup, assign}
 use Rattle.trees.specs.Root.{isRoot}
-use Rattle.trees.proofs.Tree.{tree-cut, tree-below}
+use Rattle.trees.proofs.Tree.{tree-cut, tree-below, lookup-zero}
+use Rattle.trees.proofs.Keys.{same-key-refl}
 use Rattle.updates.specs.Built.{Built}
 use Rattle.updates.specs.SetChild.{setChild}
-use Rattle.updates.specs.Build.{wordAside, valueAside, putBack, childOf, pathCopy, build}
+use Rattle.updates.specs.Build.{wordAside, valueAside, putBack, childOf, pathCopy}
 use Rattle.updates.proofs.Claims.{Held, Fine, Placed, Grown}
 use Rattle.updates.proofs.Aside.{child-of, aside, nodeSet, node-held, bare-placed, node-changed}
-use Rattle.updates.proofs.KeyEnd.{end-grown}
 use Rattle.updates.proofs.Grow.{grow}
 
 -- a root has no value, and a chain, sparse or split is one
@@ -49,9 +50,9 @@ plain-root layout m (sparse c) Z e = refl
 plain-root layout m (prefix c) Z e = never e
 plain-root layout m invalid Z e = never e
 
--- the word of a build is that of a root, and not NONE
+-- the word of a build is that of a root
 abbrev pub Rooted : Layout → Built → Type 0
-Rooted layout b = (isRoot (pointer layout (b .word)) ≡ true) × (b .word ≢ 0)
+Rooted layout b = isRoot (pointer layout (b .word)) ≡ true
 
 -- a placed node is a root where no value is put back over it
 bare-root : (layout : Layout) (number : ℕ → ℕ) (m′ : Memory) (value : Option ℕ) → value ≡ none → (Y : Node) (x : ℕ) (b r : Built)
@@ -59,8 +60,16 @@ bare-root : (layout : Layout) (number : ℕ → ℕ) (m′ : Memory) (value : Op
     → Rooted layout (putBack layout number value r)
 unfolding putBack
 bare-root layout number m′ none bare Y x b r held placed =
-    let p = placed held in (plain-root layout m′ (pointer layout (r .word)) (p .node) (p .reads), p .fine .nonzero)
+    let p = placed held in plain-root layout m′ (pointer layout (r .word)) (p .node) (p .reads)
 bare-root layout number m′ (some v) bare Y x b r held placed = never (sym bare)
+
+-- where a value is assigned, the word of a build is not NONE
+assigned-nonzero : (layout : Layout) (number : ℕ → ℕ) (m m′ : Memory) (d w : ℕ) (cs key : List ℕ) (given : Option ℕ) (b : Built)
+    → Grown layout number m m′ d w cs key given b → given ≢ none → b .word ≢ 0
+unfolding assign
+assigned-nonzero layout number m m′ d w cs key given b grown a-value zero-word =
+    let own : assign (lookup layout m w) key given key ≡ given = rw (same-key-refl key) in
+    a-value (sym own ∙ sym (grown .table key) ∙ ap (λ u. lookup layout m′ u key) zero-word ∙ lookup-zero layout m′ key)
 
 -- one character down: the node of a tree, and the tree below its child
 record Descent (layout : Layout) (m m′ : Memory) (d w x : ℕ) : Type 0 where
@@ -89,41 +98,46 @@ descend layout m m′ d w x cs near found agree =
     }
 
 module _ (layout : Layout) (small : layout .cells ≤ cellLimit) (number : ℕ → ℕ) (m m′ : Memory)
-    (bytes : (c : ℕ) → IsBytes (m c)) (whole : (c : ℕ) → length (m c) ≡ 32) (value : ℕ) (clear : value < 2147483648) where
-  pub law : (key : List ℕ) → IsBytes key → (d w : ℕ) (cs : List ℕ) → length key ≤ d → tree layout m d w ≡ some cs → Agree m m′ cs
-      → Held layout number m′ (build layout number m w key value)
-      → Fine layout number (build layout number m w key value) × Grown layout number m m′ d w cs key value (build layout number m w key value)
-  unfolding build pathCopy
-  law [] is-bytes d w cs fits found agree held = end-grown layout small number m m′ bytes value clear d w cs found agree held
-  law (x ∷ key) is-bytes zero w cs fits found agree held = absurd (omega arith)
-  law (x ∷ key) is-bytes (suc d) w cs fits found agree held =
-      let near : x < 256 = is-bytes .below 0 in
-      let u : ℕ = childOf (read layout m w) x in
-      let b : Built = build layout number m u key value in
-      let s = descend layout m m′ d w x cs near found agree in
-      let later =
-      law key (bytes-tail x key is-bytes) d u (s .cells) (omega arith) (s .found) (s .agree-below) (node-held layout small number m m′ bytes whole w x b held) in
-      let changed = node-changed layout small number m m′ bytes whole w (s .node) (s .reads) (s .agree) x near b (later .0) held in (
-        changed .fine,
-        grow layout small number m m′ bytes d w cs found agree (s .node) (s .reads) x near (s .cells) (ap (tree layout m d) (sym (s .child)) ∙ s .found)
-            key value b (nodeSet layout number m w x b) changed (later .0)
-            (subst (λ v. Grown layout number m m′ d v (s .cells) key value b) (s .child) (later .1)),
-      )
+    (bytes : (c : ℕ) → IsBytes (m c)) (whole : (c : ℕ) → length (m c) ≡ 32) where
+  -- the path of a key copied, by the law of the rule at its end: what the rule assigns to the key, a value or none
+  module _ (atEnd : ℕ → Built) (assigned : Option ℕ) (a-value : assigned ≢ none)
+      (ends : (d w : ℕ) (cs : List ℕ) → tree layout m d w ≡ some cs → Agree m m′ cs → Held layout number m′ (atEnd w)
+      → Fine layout number (atEnd w) × Grown layout number m m′ d w cs [] assigned (atEnd w)) where
+    pub law : (key : List ℕ) → IsBytes key → (d w : ℕ) (cs : List ℕ) → length key ≤ d → tree layout m d w ≡ some cs → Agree m m′ cs
+        → Held layout number m′ (pathCopy layout number m atEnd w key)
+        → Fine layout number (pathCopy layout number m atEnd w key) × Grown layout number m m′ d w cs key assigned (pathCopy layout number m atEnd w key)
+    unfolding pathCopy
+    law [] is-bytes d w cs fits found agree held = ends d w cs found agree held
+    law (x ∷ key) is-bytes zero w cs fits found agree held = absurd (omega arith)
+    law (x ∷ key) is-bytes (suc d) w cs fits found agree held =
+        let near : x < 256 = is-bytes .below 0 in
+        let u : ℕ = childOf (read layout m w) x in
+        let b : Built = pathCopy layout number m atEnd u key in
+        let s = descend layout m m′ d w x cs near found agree in
+        let later =
+        law key (bytes-tail x key is-bytes) d u (s .cells) (omega arith) (s .found) (s .agree-below) (node-held layout small number m m′ bytes whole w x b held) in
+        let nonzero : b .word ≢ 0 = assigned-nonzero layout number m m′ d u (s .cells) key assigned b (later .1) a-value in
+        let changed = node-changed layout small number m m′ bytes whole w (s .node) (s .reads) (s .agree) x near b nonzero (later .0) held in (
+          changed .fine,
+          grow layout small number m m′ bytes d w cs found agree (s .node) (s .reads) x near (s .cells) (ap (tree layout m d) (sym (s .child)) ∙ s .found)
+              key assigned b (nodeSet layout number m w x b) changed
+              (subst (λ v. Grown layout number m m′ d v (s .cells) key assigned b) (s .child) (later .1)),
+        )
 
-  -- a key that is not empty, built at a root, gives a chain, sparse or split
-  pub rooted : (key : List ℕ) → IsBytes key → 1 ≤ length key → (d w : ℕ) (cs : List ℕ) → length key ≤ d → tree layout m d w ≡ some cs
-      → Agree m m′ cs → isRoot (pointer layout w) ≡ true → Held layout number m′ (build layout number m w key value)
-      → Rooted layout (build layout number m w key value)
-  unfolding build pathCopy
-  rooted [] is-bytes some-key d w cs fits found agree root held = absurd (omega arith)
-  rooted (x ∷ key) is-bytes some-key zero w cs fits found agree root held = absurd (omega arith)
-  rooted (x ∷ key) is-bytes some-key (suc d) w cs fits found agree root held =
-      let near : x < 256 = is-bytes .below 0 in
-      let u : ℕ = childOf (read layout m w) x in
-      let b : Built = build layout number m u key value in
-      let s = descend layout m m′ d w x cs near found agree in
-      let later =
-      law key (bytes-tail x key is-bytes) d u (s .cells) (omega arith) (s .found) (s .agree-below) (node-held layout small number m m′ bytes whole w x b held) in
-      bare-root layout number m′ (valueAside layout m (pointer layout w)) (root-value layout m (pointer layout w) root)
-      (aside layout m w (s .node) (s .reads) .bare) x b (setChild layout number m (pointer layout (wordAside layout m (pointer layout w) w)) x b) held
-      (bare-placed layout small number m m′ bytes whole w (s .node) (s .reads) (s .agree) x near b (later .0))
+    -- a key that is not empty, changed at a root, gives a root
+    pub rooted : (key : List ℕ) → IsBytes key → 1 ≤ length key → (d w : ℕ) (cs : List ℕ) → length key ≤ d → tree layout m d w ≡ some cs
+        → Agree m m′ cs → isRoot (pointer layout w) ≡ true → Held layout number m′ (pathCopy layout number m atEnd w key)
+        → Rooted layout (pathCopy layout number m atEnd w key)
+    unfolding pathCopy
+    rooted [] is-bytes some-key d w cs fits found agree root held = absurd (omega arith)
+    rooted (x ∷ key) is-bytes some-key zero w cs fits found agree root held = absurd (omega arith)
+    rooted (x ∷ key) is-bytes some-key (suc d) w cs fits found agree root held =
+        let near : x < 256 = is-bytes .below 0 in
+        let u : ℕ = childOf (read layout m w) x in
+        let b : Built = pathCopy layout number m atEnd u key in
+        let s = descend layout m m′ d w x cs near found agree in
+        let later =
+        law key (bytes-tail x key is-bytes) d u (s .cells) (omega arith) (s .found) (s .agree-below) (node-held layout small number m m′ bytes whole w x b held) in
+        bare-root layout number m′ (valueAside layout m (pointer layout w)) (root-value layout m (pointer layout w) root)
+        (aside layout m w (s .node) (s .reads) .bare) x b (setChild layout number m (pointer layout (wordAside layout m (pointer layout w) w)) x b) held
+        (bare-placed layout small number m m′ bytes whole w (s .node) (s .reads) (s .agree) x near b (assigned-nonzero layout number m m′ d u (s .cells) key assigned b (later .1) a-value) (later .0))

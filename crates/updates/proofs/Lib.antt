@@ -4,6 +4,7 @@ pub mod Chains
 pub mod Pairs
 pub mod ChainSet
 pub mod Prefixes
+pub mod Related
 pub mod Count
 pub mod BuildBytes
 pub mod SplitBound
@@ -21,7 +22,7 @@ pub mod Aside
 pub mod KeyEnd
 pub mod Law
 pub mod Taken
-pub mod InsertLaw
+pub mod ChangeLaw
 pub mod StagedCell
 pub mod StagedBuild
 pub mod StagedChains

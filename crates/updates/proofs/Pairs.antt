@@ -109,23 +109,23 @@ module _ (layout : Layout) (small : layout .cells ≤ cellLimit) (number : ℕ �
       }
 
   -- the new child beside the one child of a chain
-  pub pair-placed : (Y : Node) (x a u : ℕ) (b : Built) → Fine layout number b → x ≢ a → u ≢ 0 → u < 4294967296
+  pub pair-placed : (Y : Node) (x a u : ℕ) (b : Built) → b .word ≢ 0 → Fine layout number b → x ≢ a → u ≢ 0 → u < 4294967296
       → ((y : ℕ) → Y .child y ≡ oneChild a u y)
       → Held layout number m′ (allocate number 30 (sparsePair x (b .word) a u) (b .cells))
       → Placed layout number m′ Y x b (allocate number 30 (sparsePair x (b .word) a u) (b .cells))
   unfolding sparsePair
-  pair-placed Y x a u b fine different u-nonzero u-small child held = elim (decLt x a) [
+  pair-placed Y x a u b nonzero fine different u-nonzero u-small child held = elim (decLt x a) [
     | yes first ↦
         let is : sparsePair x (b .word) a u ≡ pairCell x (b .word) a u = rw (lt-ltb x a first) in
         sparse-allocated Y x b (sparsePair x (b .word) a u)
-        (ap validSparse is ∙ pair-valid x (b .word) a u first (fine .nonzero) u-nonzero (fine .small) u-small)
-        (λ y. ap (λ s. sparseChild s y) is ∙ pair-child x (b .word) a u first (fine .nonzero) u-nonzero (fine .small) u-small y
+        (ap validSparse is ∙ pair-valid x (b .word) a u first nonzero u-nonzero (fine .small) u-small)
+        (λ y. ap (λ s. sparseChild s y) is ∙ pair-child x (b .word) a u first nonzero u-nonzero (fine .small) u-small y
         ∙ ap (cond (eqb y x) (b .word)) (sym (child y))) held
     | no later ↦
         let is : sparsePair x (b .word) a u ≡ pairCell a u x (b .word) = rw (le-ltb x a (omega arith)) in
         let rise : a < x = omega arith in
         sparse-allocated Y x b (sparsePair x (b .word) a u)
-        (ap validSparse is ∙ pair-valid a u x (b .word) rise u-nonzero (fine .nonzero) u-small (fine .small))
-        (λ y. ap (λ s. sparseChild s y) is ∙ pair-child a u x (b .word) rise u-nonzero (fine .nonzero) u-small (fine .small) y
+        (ap validSparse is ∙ pair-valid a u x (b .word) rise u-nonzero nonzero u-small (fine .small))
+        (λ y. ap (λ s. sparseChild s y) is ∙ pair-child a u x (b .word) rise u-nonzero nonzero u-small (fine .small) y
         ∙ cond-swap y x a (b .word) u different ∙ ap (cond (eqb y x) (b .word)) (sym (child y))) held
   ]

@@ -69,14 +69,10 @@ module _ (layout : Layout) (small : layout .cells ≤ cellLimit) (number : ℕ �
         allocate-fine layout small number cells (stands .free) 31 (prefixCell v w) (omega arith) (omega arith),
       )
 
-  -- a value put back over a node that was placed
-  pub putBack-changed : (value : Option ℕ) → ((v : ℕ) → value ≡ some v → v < 2147483648) → (X Y : Node) (x : ℕ) (b r : Built)
-      → X .value ≡ value → ((y : ℕ) → X .child y ≡ Y .child y) → ((c : ℕ) → occurrences c (Y .cells) ≤ occurrences c (X .cells))
-      → Held layout number m′ (putBack layout number value r) → (Held layout number m′ r → Placed layout number m′ Y x b r)
-      → Changed layout number m′ X x b (putBack layout number value r)
-  unfolding putBack
-  putBack-changed none clear X Y x b r had children visits held placed =
-      let p = placed held in
+  -- a node with no value, after its child is set
+  none-changed : (X Y : Node) (x : ℕ) (b r : Built) → X .value ≡ none → ((y : ℕ) → X .child y ≡ Y .child y)
+      → ((c : ℕ) → occurrences c (Y .cells) ≤ occurrences c (X .cells)) → Placed layout number m′ Y x b r → Changed layout number m′ X x b r
+  none-changed X Y x b r had children visits p =
       record {
         node = p .node;
         reads = read-is layout m′ (r .word) _ refl ∙ plain-read layout m′ _ (p .node) (p .reads);
@@ -86,9 +82,13 @@ module _ (layout : Layout) (small : layout .cells ≤ cellLimit) (number : ℕ �
         least = p .least;
         fine = p .fine;
       }
-  putBack-changed (some v) clear X Y x b r had children visits held placed =
-      let p = placed (allocate-before layout number m′ 31 (prefixCell v (r .word)) r held) in
-      let q = prefix-allocated v (r .word) (r .cells) (p .node) (clear v refl) (p .fine .small) (p .reads) held in
+
+  -- a value put back over it
+  over-changed : (v : ℕ) → v < 2147483648 → (X Y : Node) (x : ℕ) (b r : Built) → X .value ≡ some v → ((y : ℕ) → X .child y ≡ Y .child y)
+      → ((c : ℕ) → occurrences c (Y .cells) ≤ occurrences c (X .cells)) → Held layout number m′ (allocate number 31 (prefixCell v (r .word)) (r .cells))
+      → Placed layout number m′ Y x b r → Changed layout number m′ X x b (allocate number 31 (prefixCell v (r .word)) (r .cells))
+  over-changed v clear X Y x b r had children visits held p =
+      let q = prefix-allocated v (r .word) (r .cells) (p .node) clear (p .fine .small) (p .reads) held in
       let here : (c : ℕ) → occurrences c (number (length (r .cells)) ∷ p .node .cells)
       ≡ occurrences c (number (length (r .cells)) ∷ []) + occurrences c (p .node .cells)
       = λ c. occurrences-append c (number (length (r .cells)) ∷ []) (p .node .cells) in
@@ -104,6 +104,17 @@ module _ (layout : Layout) (small : layout .cells ≤ cellLimit) (number : ℕ �
         least = λ c. omega (arith, p .least c, here c, more c);
         fine = q .1;
       }
+
+  -- a value put back over a node that was placed
+  pub putBack-changed : (value : Option ℕ) → ((v : ℕ) → value ≡ some v → v < 2147483648) → (X Y : Node) (x : ℕ) (b r : Built)
+      → X .value ≡ value → ((y : ℕ) → X .child y ≡ Y .child y) → ((c : ℕ) → occurrences c (Y .cells) ≤ occurrences c (X .cells))
+      → Held layout number m′ (putBack layout number value r) → (Held layout number m′ r → Placed layout number m′ Y x b r)
+      → Changed layout number m′ X x b (putBack layout number value r)
+  unfolding putBack
+  putBack-changed none clear X Y x b r had children visits held placed = none-changed X Y x b r had children visits (placed held)
+  putBack-changed (some v) clear X Y x b r had children visits held placed =
+      over-changed v (clear v refl) X Y x b r had children visits held
+      (placed (allocate-before layout number m′ 31 (prefixCell v (r .word)) r held))
 
   pub putBack-held : (value : Option ℕ) (r : Built) → Held layout number m′ (putBack layout number value r) → Held layout number m′ r
   unfolding putBack

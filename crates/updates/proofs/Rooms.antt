@@ -1,6 +1,5 @@
 -- Laws of the room before a chain, and of a cell just allocated.
 use mathlib.Core.Path.{_≡_, refl, sym, subst}
-use mathlib.Core.Logic.{_≢_}
 use mathlib.Core.Bool.{Bool, true, false, _&&_, cond}
 use mathlib.Core.List.{List, [], _∷_}
 use Prim.Native.Nat.{ℕ, zero, suc, _+_, _*_, _%_, _≤_, _<_}
@@ -13,7 +12,7 @@ use Rattle.cells.specs.Occurrences.{occurrences}
 use Rattle.cells.proofs.Pointers.{kind-of-made}
 use Rattle.nodes.specs.Layout.{Layout, usable, cellLimit}
 use Rattle.nodes.specs.Pointer.{pointer, byKind, wordTo}
-use Rattle.nodes.proofs.Pointers.{usable-low, usable-inside, made}
+use Rattle.nodes.proofs.Pointers.{usable-inside, made}
 use Rattle.updates.specs.Built.{Built, unowned, allocate, room, roomOf}
 use Rattle.updates.proofs.Claims.{numbers, numbers-more, Stands, Held, holds-from, Run, Fine}
 
@@ -49,11 +48,11 @@ room-other c k other kind = go (ltb (c * 32 + k) 2147483648)
     go true = let here : (c * 32 + k) % 32 ≡ k = kind-of-made c k kind in rw (here, le-ltb k 28 other)
     go false = refl
 
--- a word whose cell this call did not allocate is fine where it is a pointer: nothing is written before it
-pub unowned-fine : (layout : Layout) (number : ℕ → ℕ) (word : ℕ) (cells : List (List ℕ)) → word ≢ 0 → word < 4294967296
+-- a word whose cell this call did not allocate: nothing is written before it
+pub unowned-fine : (layout : Layout) (number : ℕ → ℕ) (word : ℕ) (cells : List (List ℕ)) → word < 4294967296
     → Fine layout number (unowned word cells)
-unowned-fine layout number word cells nonzero small =
-    record { nonzero = nonzero; small = small; run = subst (λ k. Run layout number k word cells) (sym (room-unowned word)) tt }
+unowned-fine layout number word cells small =
+    record { small = small; run = subst (λ k. Run layout number k word cells) (sym (room-unowned word)) tt }
 
 -- the room of a node of another kind than a chain in a cell just allocated
 pub allocate-room : (number : ℕ → ℕ) (kind : ℕ) (bytes : List ℕ) (cells : List (List ℕ)) → 28 ≤ kind → kind < 32
@@ -79,10 +78,6 @@ module _ (layout : Layout) (small : layout .cells ≤ cellLimit) (number : ℕ �
   unfolding allocate
   allocate-names kind bytes is = made layout (number (length cells)) kind small free is
 
-  allocate-nonzero : (kind : ℕ) (bytes : List ℕ) → allocate number kind bytes cells .word ≢ 0
-  unfolding allocate
-  allocate-nonzero kind bytes = omega (arith, usable-low layout (number (length cells)) free)
-
   allocate-small : (kind : ℕ) (bytes : List ℕ) → kind < 32 → allocate number kind bytes cells .word < 4294967296
   unfolding allocate
   allocate-small kind bytes is = omega (arith, usable-inside layout (number (length cells)) free)
@@ -98,7 +93,6 @@ module _ (layout : Layout) (small : layout .cells ≤ cellLimit) (number : ℕ �
       → Fine layout number (allocate number kind bytes cells)
   fine-as kind k bytes is has run =
       record {
-        nonzero = allocate-nonzero kind bytes;
         small = allocate-small kind bytes is;
         run = subst (λ j. Run layout number j (allocate number kind bytes cells .word) (allocate number kind bytes cells .cells)) (sym has) run;
       }

@@ -1,5 +1,6 @@
 -- Setting a child of a node that has no value, whatever its kind.
 use mathlib.Core.Path.{_≡_, refl, sym, ap, _∙_}
+use mathlib.Core.Logic.{_≢_}
 use mathlib.Core.Option.{none, some}
 use Prim.Native.Nat.{ℕ, _≤_, _<_}
 use lib.ListN.{length}
@@ -26,27 +27,27 @@ module _ (layout : Layout) (small : layout .cells ≤ cellLimit) (number : ℕ �
   -- by the kind of the word: NONE has no children, a leaf and a prefix have a value
   module _ (w : ℕ) (Y : Node) (x : ℕ) (b : Built) where
     kind-placed : (p : Pointer) → pointer layout w ≡ p → readAt layout m p ≡ some Y → Y .value ≡ none → Agree m m′ (Y .cells) → x < 256
-        → Fine layout number b → Held layout number m′ (setChild layout number m p x b)
+        → b .word ≢ 0 → Fine layout number b → Held layout number m′ (setChild layout number m p x b)
         → Placed layout number m′ Y x b (setChild layout number m p x b)
     unfolding readAt setChild
-    kind-placed nothing named node bare agree near fine held =
+    kind-placed nothing named node bare agree near nonzero fine held =
         let is : childless none ≡ Y = cc in
-        chain-placed layout small number m′ Y x (λ y other. ap (λ (Z : Node). Z .child y) (sym is)) b fine held
-    kind-placed (leaf v) named node bare agree near fine held =
+        chain-placed layout small number m′ Y x (λ y other. ap (λ (Z : Node). Z .child y) (sym is)) b nonzero fine held
+    kind-placed (leaf v) named node bare agree near nonzero fine held =
         let is : childless (some v) ≡ Y = cc in never (sym (ap (λ (Z : Node). Z .value) is ∙ bare))
-    kind-placed (chain c k) named node bare agree near fine held =
+    kind-placed (chain c k) named node bare agree near nonzero fine held =
         let n = names layout w (chain c k) named in
-        chain-set-placed layout small number m m′ c k x b Y node (n .0) (n .2) (bytes c) fine held
-    kind-placed (split c) named node bare agree near fine held =
-        split-placed layout small number m m′ bytes whole c Y node agree x near b fine held
-    kind-placed (sparse c) named node bare agree near fine held =
-        sparse-placed layout small number m m′ bytes whole c Y node x near b fine held
-    kind-placed (prefix c) named node bare agree near fine held =
+        chain-set-placed layout small number m m′ c k x b Y node (n .0) (n .2) (bytes c) nonzero fine held
+    kind-placed (split c) named node bare agree near nonzero fine held =
+        split-placed layout small number m m′ bytes whole c Y node agree x near b nonzero fine held
+    kind-placed (sparse c) named node bare agree near nonzero fine held =
+        sparse-placed layout small number m m′ bytes whole c Y node x near b nonzero fine held
+    kind-placed (prefix c) named node bare agree near nonzero fine held =
         let q = prefix-cut layout m c Y node in never (sym (ap (λ (Z : Node). Z .value) (q .3) ∙ bare))
-    kind-placed invalid named node bare agree near fine held = never node
+    kind-placed invalid named node bare agree near nonzero fine held = never node
 
     -- the child is set
-    pub set-placed : read layout m w ≡ some Y → Y .value ≡ none → Agree m m′ (Y .cells) → x < 256 → Fine layout number b
+    pub set-placed : read layout m w ≡ some Y → Y .value ≡ none → Agree m m′ (Y .cells) → x < 256 → b .word ≢ 0 → Fine layout number b
         → Held layout number m′ (setChild layout number m (pointer layout w) x b)
         → Placed layout number m′ Y x b (setChild layout number m (pointer layout w) x b)
     set-placed node = kind-placed (pointer layout w) refl (sym (read-is layout m w _ refl) ∙ node)

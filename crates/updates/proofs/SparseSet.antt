@@ -45,7 +45,7 @@ module _ (number : ℕ → ℕ) (bytes : List ℕ) (x : ℕ) (b : Built) where
 
 module _ (layout : Layout) (small : layout .cells ≤ cellLimit) (number : ℕ → ℕ) (m m′ : Memory)
     (bytes : (c : ℕ) → IsBytes (m c)) (whole : (c : ℕ) → length (m c) ≡ 32) where
-  module _ (c : ℕ) (valid : validSparse (m c) ≡ true) (x : ℕ) (character : x < 256) (b : Built) (fine : Fine layout number b) where
+  module _ (c : ℕ) (valid : validSparse (m c) ≡ true) (x : ℕ) (character : x < 256) (b : Built) (nonzero : b .word ≢ 0) (fine : Fine layout number b) where
     abbrev Sets : Built → Type 0
     Sets after = Held layout number m′ after → Placed layout number m′ (sparseNode (m c) c) x b after
 
@@ -55,21 +55,21 @@ module _ (layout : Layout) (small : layout .cells ≤ cellLimit) (number : ℕ �
     replaced-placed : position (m c) x < sparseCount (m c) → Sets (replaced number (m c) x b)
     replaced-placed inside held =
         sparse-allocated layout small number m′ (sparseNode (m c) c) x b (replacedCell (m c) (position (m c) x) (b .word))
-        (sparse-valid _ _ (replaced-sparse (m c) (whole c) cell (b .word) (fine .nonzero) (fine .small) (position (m c) x) inside))
-        (replaced-child (m c) (whole c) cell (b .word) (fine .nonzero) (fine .small) (position (m c) x) inside x refl) held
+        (sparse-valid _ _ (replaced-sparse (m c) (whole c) cell (b .word) nonzero (fine .small) (position (m c) x) inside))
+        (replaced-child (m c) (whole c) cell (b .word) nonzero (fine .small) (position (m c) x) inside x refl) held
 
     appended-placed : sparseCount (m c) ≤ position (m c) x → sparseCount (m c) < 6 → Sets (appended number (m c) x b)
     appended-placed lacks room held =
         sparse-allocated layout small number m′ (sparseNode (m c) c) x b (appendedCell (m c) x (b .word))
-        (sparse-valid _ _ (appended-sparse (m c) (whole c) cell (b .word) (fine .nonzero) (fine .small) x room new))
-        (appended-child (m c) (whole c) cell (b .word) (fine .nonzero) (fine .small) x room new) held
+        (sparse-valid _ _ (appended-sparse (m c) (whole c) cell (b .word) nonzero (fine .small) x room new))
+        (appended-child (m c) (whole c) cell (b .word) nonzero (fine .small) x room new) held
       where
         new : (r : ℕ) → r < sparseCount (m c) → sparseCharacter (m c) r ≢ x
         new r near = position-first (m c) x (sparseCount (m c)) 0 r (omega arith) (omega arith) (omega (arith, lacks))
 
     divided-placed : Sets (divided number (m c) x b)
     divided-placed held =
-        splitOf-with layout small number m′ (sparseNode (m c) c) x b (sparseChild-bounded (m c) (bytes c)) character fine held
+        splitOf-with layout small number m′ (sparseNode (m c) c) x b (sparseChild-bounded (m c) (bytes c)) character nonzero fine held
 
     set-placed : Sets (sparseSet number (m c) x b)
     unfolding sparseSet
@@ -85,11 +85,11 @@ module _ (layout : Layout) (small : layout .cells ≤ cellLimit) (number : ℕ �
         go false e held = more (ltb (sparseCount (m c)) 6) refl (ltb-false (position (m c) x) (sparseCount (m c)) e) held
 
   -- the node with the child set has the children of before and the new one
-  pub sparse-placed : (c : ℕ) (Y : Node) → plain layout m (sparse c) ≡ some Y → (x : ℕ) → x < 256 → (b : Built) → Fine layout number b
+  pub sparse-placed : (c : ℕ) (Y : Node) → plain layout m (sparse c) ≡ some Y → (x : ℕ) → x < 256 → (b : Built) → b .word ≢ 0 → Fine layout number b
       → Held layout number m′ (sparseSet number (m c) x b) → Placed layout number m′ Y x b (sparseSet number (m c) x b)
-  sparse-placed c Y reads x character b fine held =
+  sparse-placed c Y reads x character b nonzero fine held =
       let cut = sparse-cut layout m c Y reads in
-      subst (λ (Z : Node). Placed layout number m′ Z x b (sparseSet number (m c) x b)) (cut .1) (set-placed c (cut .0) x character b fine held)
+      subst (λ (Z : Node). Placed layout number m′ Z x b (sparseSet number (m c) x b)) (cut .1) (set-placed c (cut .0) x character b nonzero fine held)
 
   -- the cells of the child stand where those of the node do
   pub sparse-held : (c x : ℕ) (b : Built) → Held layout number m′ (sparseSet number (m c) x b) → Held layout number m′ b

@@ -193,7 +193,7 @@ module _ (layout : Layout) (small : layout .cells ≤ cellLimit) (number : ℕ �
 
   -- the end, the mid and the head of the copy
   module _ (c : ℕ) (Y : Node) (reads : plain layout m (split c) ≡ some Y) (agree : Agree m m′ (Y .cells))
-      (x : ℕ) (character : x < 256) (b : Built) (fine : Fine layout number b) where
+      (x : ℕ) (character : x < 256) (b : Built) (nonzero : b .word ≢ 0) (fine : Fine layout number b) where
     pub split-placed : Held layout number m′ (splitCopied number m c x b) → Placed layout number m′ Y x b (splitCopied number m c x b)
     unfolding splitCopied
     split-placed held =
@@ -221,7 +221,7 @@ module _ (layout : Layout) (small : layout .cells ≤ cellLimit) (number : ℕ �
         let alike-mid : Agree m m′ (at .0) = agree-less m m′ (c ∷ cs) (at .0) (λ z h. omega (arith, at .2 z, occurrences-later z c cs)) alike in
         let M =
         copied-mid mid (x / 8 % 8) (wordTo e 0x1C) (omega arith) e-other e-bounded d mid-stands (at .0) (e ∷ []) (at .1) alike-mid
-        (copied-end end (x % 8) (b .word) (omega arith) (fine .nonzero) (fine .small) e end-stands) in
+        (copied-end end (x % 8) (b .word) (omega arith) nonzero (fine .small) e end-stands) in
         let heads : (i : ℕ) → i < 4 → headWord newHead i ≡ cond (eqb i (x / 64)) (wordTo d 0x1C) (headWord (m c) i) =
         λ i near. head-copied c (x / 64) (wordTo d 0x1C) i (omega arith) near d-bounded in
         let H =
@@ -232,7 +232,7 @@ module _ (layout : Layout) (small : layout .cells ≤ cellLimit) (number : ℕ �
         (λ y near.
         copied-children layout m m′ c cs (p .2) alike x (b .word) (wordTo d 0x1C) (wordTo e 0x1C) (headWord newHead) heads
         (copy-below mid (x / 8 % 8) (wordTo e 0x1C) (omega arith) e-other e-bounded d mid-stands)
-        (copy-below end (x % 8) (b .word) (omega arith) (fine .nonzero) (fine .small) e end-stands) y near
+        (copy-below end (x % 8) (b .word) (omega arith) nonzero (fine .small) e end-stands) y near
         ∙ ap (λ (Z : Node). withChild (Z .child) x (b .word) y) (p .3))
         (λ z. omega (
           arith,

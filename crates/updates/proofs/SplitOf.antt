@@ -125,10 +125,10 @@ module _ (layout : Layout) (small : layout .cells ≤ cellLimit) (number : ℕ �
       back i = omega arith
 
   -- so with a child set in any children that are words
-  pub splitOf-with : (Y : Node) (x : ℕ) (b : Built) → ((y : ℕ) → Y .child y < 4294967296) → x < 256 → Fine layout number b
+  pub splitOf-with : (Y : Node) (x : ℕ) (b : Built) → ((y : ℕ) → Y .child y < 4294967296) → x < 256 → b .word ≢ 0 → Fine layout number b
       → Held layout number m′ (splitOf number (withChild (Y .child) x (b .word)) (b .cells))
       → Placed layout number m′ Y x b (splitOf number (withChild (Y .child) x (b .word)) (b .cells))
-  splitOf-with Y x b bounded character fine held =
+  splitOf-with Y x b bounded character nonzero fine held =
       let there : withChild (Y .child) x (b .word) x ≡ b .word = rw (eq-eqb x x refl) in
       splitOf-placed Y x b (withChild (Y .child) x (b .word)) (λ y near. refl) (λ y. cond-bounded (eqb y x) (fine .small) (bounded y)) x character
-      (λ e. fine .nonzero (sym there ∙ e)) held
+      (λ e. nonzero (sym there ∙ e)) held

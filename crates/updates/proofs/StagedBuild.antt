@@ -56,7 +56,7 @@ module _ (layout : Layout) (m : Memory) (word : ℕ) (p : CodedPointer) (coded :
   unfolding wordAside
   aside-leaf v case = ap (λ (q : CodedPointer). wordAside layout m (pointerOf q) word) (sym case) ∙ aside-at
 
-  pub aside-prefix : (c : ℕ) (bytes : List ℕ) (link : ℕ) → p ≡ Prefix c → bytes ≡ m c → link ≡ wordAt bytes 28
+  pub aside-prefix : (c : ℕ) (bytes : List ℕ) (link : ℕ) → p ≡ Prefix c → bytes ≡ m c → link ≡ prefixLink c bytes
       → link ≡ wordAside layout m (pointer layout word) word
   unfolding wordAside
   aside-prefix c bytes link case read-as is =

@@ -52,7 +52,7 @@ module _ (layout : Layout) (number : ℕ → ℕ) (m : Memory) (value word : ℕ
   end-invalid made stage case is =
       leaf-built value made stage is ∙ ap (λ (q : CodedPointer). valueAt layout number m value (pointerOf q) word) (sym case) ∙ at-pointer
 
-  pub end-prefix : (c link : ℕ) (bytes : List ℕ) (all : Built) (stage : List ℕ) → p ≡ Prefix c → bytes ≡ m c → link ≡ wordAt bytes 28
+  pub end-prefix : (c link : ℕ) (bytes : List ℕ) (all : Built) (stage : List ℕ) → p ≡ Prefix c → bytes ≡ m c → link ≡ prefixLink c bytes
       → all ≡ allocate number 31 (prefixCell value link) (staged stage 0) → all ≡ valueAt layout number m value (pointer layout word) word
   unfolding valueAt
   end-prefix c link bytes all stage case read is made =

@@ -19,12 +19,12 @@ use crate::prefix::put_back;
 use crate::sparse_set::sparse_set;
 use crate::split::split_set;
 use cells::cell;
-use cells::word_at;
 use nodes::layout::CELL_LIMIT;
 use nodes::layout::KEY_LIMIT;
 use nodes::layout::Layout;
 use nodes::pointer::Pointer;
 use nodes::pointer::pointer_of;
+use nodes::prefix::linked_word;
 use nodes::step::ChildStep;
 use nodes::step::child_step;
 use nodes::value::value_at;
@@ -55,7 +55,7 @@ fn word_aside(layout: Layout, block: &[u8], word: u32) -> u32
     let named = pointer_of(layout, word);
     match named {
         Pointer::Leaf(_) => 0,
-        Pointer::Prefix(number) => word_at(cell(block, number), 28),
+        Pointer::Prefix(number) => linked_word(number, cell(block, number)),
         _ => word,
     }
 }

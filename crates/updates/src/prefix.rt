@@ -13,12 +13,12 @@ ghost use Rattle.staging.specs.Stage.{stageCells, staged};
 ghost use Rattle.staging.specs.Numbering.{Numbered};
 ghost use Rattle.updates.specs.Staged.{builtOf, leafMade, Fitting};
 use cells::cell;
-use cells::word_at;
 use nodes::layout::CELL_LIMIT;
 use nodes::layout::Layout;
 use nodes::pointer::Pointer;
 use nodes::pointer::leaf_word;
 use nodes::pointer::pointer_of;
+use nodes::prefix::linked_word;
 use nodes::value::Value;
 use staging::new_cells::put_prefix;
 use staging::stage::Made;
@@ -94,7 +94,7 @@ pub fn at_end(
         Pointer::Leaf(_) => leaf_alone(value),
         Pointer::Invalid => leaf_alone(value),
         Pointer::Prefix(number) => {
-            let link = word_at(cell(block, number), 28);
+            let link = linked_word(number, cell(block, number));
             new_prefix(layout, numbers, free, stage, value, link, 0)
         }
         _ => new_prefix(layout, numbers, free, stage, value, word, 0),

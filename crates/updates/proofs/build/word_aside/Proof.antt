@@ -18,14 +18,14 @@ enum-known-named c = search needs
 cell-requires : tie.Need-cell-requires
 cell-requires c κs = omega (arith, prefix-facts _ _ _ (c .before .before .before .pointer-of .ensures) _ (c .before .named .given .1) .2)
 
-word-at-requires : tie.Need-word-at-requires
-word-at-requires c κs = omega (arith, cell-length _ _ _ (c .cell .ensures))
+linked-word-requires : tie.Need-linked-word-requires
+linked-word-requires c κs = cell-length _ _ _ (c .cell .ensures)
 
 returns : tie.Need-returns
 returns c = aside-leaf _ _ _ _ (c .before .before .pointer-of .ensures) _ (c .enum-told .given .1)
 
 returns-2 : tie.Need-returns-2
-returns-2 c = aside-prefix _ _ _ _ (c .before .before .before .before .before .pointer-of .ensures) _ _ _ (c .before .before .before .named .given .1) (c .before .cell .ensures) (c .word-at .ensures)
+returns-2 c = aside-prefix _ _ _ _ (c .before .before .before .before .before .pointer-of .ensures) _ _ _ (c .before .before .before .named .given .1) (c .before .cell .ensures) (c .linked-word .ensures)
 
 returns-3 : tie.Need-returns-3
 returns-3 c = aside-same _ _ _ (c .before .pointer-of .result) (c .before .pointer-of .ensures) (c .match .keys3)
@@ -38,7 +38,7 @@ word-aside-spec =
     enum-told
     enum-known-named
     cell-requires
-    word-at-requires
+    linked-word-requires
     returns
     returns-2
     returns-3)

@@ -35,8 +35,8 @@ enum-known-named c = search needs
 cell-requires : tie.Need-cell-requires
 cell-requires c κs = omega (arith, prefix-facts _ _ _ (c .before .before .before .pointer-of .ensures) _ (c .before .named .given .1) .2)
 
-word-at-requires : tie.Need-word-at-requires
-word-at-requires c κs = omega (arith, ap length (c .cell .ensures), memory-length (c .before .before .before .before .before .before .args .block .now) (c .before .before .named .given .0 .0))
+linked-word-requires : tie.Need-linked-word-requires
+linked-word-requires c κs = ap length (c .cell .ensures) ∙ memory-length (c .before .before .before .before .before .before .args .block .now) (c .before .before .named .given .0 .0)
 
 new-prefix-requires : tie.Need-new-prefix-requires
 new-prefix-requires c κs = search needs
@@ -54,7 +54,7 @@ returns-3 : tie.Need-returns-3
 returns-3 c = end-invalid _ _ _ _ _ _ (c .before .before .before .pointer-of .ensures) _ _ (c .before .enum-told3 .given .1) (c .leaf-alone3 .ensures)
 
 returns-4 : tie.Need-returns-4
-returns-4 c = end-prefix _ _ _ _ _ _ (c .before .before .before .before .before .before .before .pointer-of .ensures) _ _ _ _ _ (c .before .before .before .before .before .named .given .1) (c .before .before .before .cell .ensures) (c .before .before .word-at .ensures) (c .new-prefix .ensures)
+returns-4 c = end-prefix _ _ _ _ _ _ (c .before .before .before .before .before .before .before .pointer-of .ensures) _ _ _ _ _ (c .before .before .before .before .before .named .given .1) (c .before .before .before .cell .ensures) (c .before .before .linked-word .ensures) (c .new-prefix .ensures)
 
 returns-5 : tie.Need-returns-5
 returns-5 c = end-other _ _ _ _ _ (c .before .before .before .pointer-of .result) (c .before .before .before .pointer-of .ensures) _ _ (c .before .before .match .keys5) (c .new-prefix2 .ensures)
@@ -72,7 +72,7 @@ at-end-spec =
     leaf-alone-requires-3
     enum-known-named
     cell-requires
-    word-at-requires
+    linked-word-requires
     new-prefix-requires
     new-prefix-requires-2
     returns

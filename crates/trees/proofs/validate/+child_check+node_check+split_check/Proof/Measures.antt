@@ -15,6 +15,7 @@ use Rattle.cells.proofs.cell.Reads as cell-reads
 use Rattle.cells.proofs.word_at.Reads as word-at-reads
 use Rattle.nodes.proofs.pointer.pointer_of.Reads as pointer-of-reads
 use Rattle.nodes.proofs.prefix.is_valid_prefix.Reads as is-valid-prefix-reads
+use Rattle.nodes.proofs.prefix.linked_word.Reads as linked-word-reads
 use Rattle.nodes.proofs.sparse.sparse_count.Reads as sparse-count-reads
 use Rattle.nodes.proofs.sparse.sparse_position.Reads as sparse-position-reads
 use Rattle.trees.proofs.stamps.stamp_cell.Reads as stamp-cell-reads
@@ -60,8 +61,8 @@ child-told t = (
   is-valid-prefix-reads.Learnt,
   stamp-cell-reads.Asked,
   stamp-cell-reads.Learnt,
-  word-at-reads.Asked,
-  word-at-reads.Learnt,
+  linked-word-reads.Asked,
+  linked-word-reads.Learnt,
   node-check-below t,
   node-check.Post,
 )
