@@ -1,6 +1,6 @@
 -- 01: "for m label bytes at most 4m + 10" cells are allocated, whatever the memory holds; and at least one for a tree.
 use mathlib.Core.Path.{_≡_, refl, sym, ap, _∙_, subst}
-use mathlib.Core.Logic.{_≢_, _⊎_, inl, inr}
+use mathlib.Core.Logic.{_≢_, _⊎_, inl, inr, ⊎-elim}
 use mathlib.Core.Bool.{Bool, true, false, cond}
 use mathlib.Core.List.{List, [], _∷_}
 use mathlib.Core.Option.{Option, none, some}
@@ -42,76 +42,87 @@ no-position bytes (suc count) from x h = go (eqb x (sparseCharacter bytes from))
 abbrev Lacks : List ℕ → ℕ → Type 0
 Lacks bytes x = sparseCount bytes ≤ positionOf bytes (sparseCount bytes) 0 x
 
+-- so many cells at least are allocated, and so many at most
+record Sized (least most : ℕ) (b : Built) : Type 0 where
+  low : least ≤ length (b .cells)
+  high : length (b .cells) ≤ most
+
+cond-sized : (t : Bool) (least most : ℕ) {a b : Built} → Sized least most a → Sized least most b → Sized least most (cond t a b)
+cond-sized true least most p q = p
+cond-sized false least most p q = q
+
+-- one cell more is at most three
+three-more : (n : ℕ) {b : Built} → Sized 1 (1 + n) b → Sized 1 (n + 3) b
+three-more n h = record { low = h .low; high = omega (arith, h .high) }
+
+-- within the first bound, or within the second where something holds
+abbrev SizedOr : Type 0 → ℕ → ℕ → ℕ → Built → Type 0
+SizedOr Else least most most′ b = Sized least most b ⊎ (Else × Sized least most′ b)
+
+-- the least cells of a child set: one, but for the pointers whose children are not set
+unfoldable leastSet : Pointer → ℕ
+leastSet nothing = 1
+leastSet (leaf v) = 1
+leastSet (chain c k) = 1
+leastSet (split c) = 1
+leastSet (sparse c) = 1
+leastSet (prefix c) = 0
+leastSet invalid = 0
+
 module _ (number : ℕ → ℕ) where
-  -- at most one more cell, and one at least
-  with-most : (x word place : ℕ) (cells : List (List ℕ)) → length (chainWith number x word place cells .cells) ≤ 1 + length cells
-  unfolding chainWith characterBefore allocate
-  with-most x word zero cells = omega arith
-  with-most x word (suc place) [] = omega arith
-  with-most x word (suc place) (newest ∷ rest) = omega arith
+  -- one more cell
+  allocate-sized : (kind : ℕ) (bytes : List ℕ) (cells : List (List ℕ)) → Sized 1 (1 + length cells) (allocate number kind bytes cells)
+  unfolding allocate
+  allocate-sized kind bytes cells = record { low = omega arith; high = omega arith }
 
-  with-least : (x word place : ℕ) (cells : List (List ℕ)) → 1 ≤ length (chainWith number x word place cells .cells)
-  unfolding chainWith characterBefore allocate
-  with-least x word zero cells = omega arith
-  with-least x word (suc place) [] = omega arith
-  with-least x word (suc place) (newest ∷ rest) = omega arith
+  with-sized : (x word place : ℕ) (cells : List (List ℕ)) → Sized 1 (1 + length cells) (chainWith number x word place cells)
+  unfolding chainWith characterBefore
+  with-sized x word zero cells = allocate-sized 27 _ cells
+  with-sized x word (suc place) [] = allocate-sized 27 _ []
+  with-sized x word (suc place) (newest ∷ rest) = record { low = omega arith; high = omega arith }
 
-  chainOver-most : (x : ℕ) (b : Built) → length (chainOver number x b .cells) ≤ 1 + length (b .cells)
+  chainOver-sized : (x : ℕ) (b : Built) → Sized 1 (1 + length (b .cells)) (chainOver number x b)
   unfolding chainOver
-  chainOver-most x b = with-most x (b .word) (roomOf b) (b .cells)
+  chainOver-sized x b = with-sized x (b .word) (roomOf b) (b .cells)
 
-  chainOver-least : (x : ℕ) (b : Built) → 1 ≤ length (chainOver number x b .cells)
-  unfolding chainOver
-  chainOver-least x b = with-least x (b .word) (roomOf b) (b .cells)
+  chainSet-sized : (bytes : List ℕ) (cell place x : ℕ) (b : Built) → Sized 1 (1 + length (b .cells)) (chainSet number bytes cell place x b)
+  unfolding chainSet
+  chainSet-sized bytes cell place x b =
+      cond-sized (eqb x (chainCharacter bytes place)) 1 (1 + length (b .cells)) (chainOver-sized x b) (allocate-sized 30 _ (b .cells))
 
-  chainSet-most : (bytes : List ℕ) (cell place x : ℕ) (b : Built) → length (chainSet number bytes cell place x b .cells) ≤ 1 + length (b .cells)
-  unfolding chainSet allocate
-  chainSet-most bytes cell place x b = go (eqb x (chainCharacter bytes place))
-    where
-      go : (t : Bool)
-          → length (cond t (chainOver number x b) (allocate number 30 (sparsePair x (b .word) (chainCharacter bytes place) (chainChild bytes cell place)) (b .cells)) .cells)
-          ≤ 1 + length (b .cells)
-      go true = chainOver-most x b
-      go false = omega arith
+  splitOf-sized : (bytes : List ℕ) (x : ℕ) (b : Built) → Sized 1 (length (b .cells) + 13) (splitOf number (withChild (sparseChild bytes) x (b .word)) (b .cells))
+  splitOf-sized bytes x b =
+      record { low = unfold splitOf allocate in omega arith; high = split-sparse-most number bytes x (b .word) (b .cells) }
 
   -- a sparse cell is copied, or has thirteen cells in its place where it lacks the character
-  sparseSet-most : (bytes : List ℕ) (x : ℕ) (b : Built)
-      → (length (sparseSet number bytes x b .cells) ≤ 1 + length (b .cells))
-      ⊎ (Lacks bytes x × (length (sparseSet number bytes x b .cells) ≤ length (b .cells) + 13))
-  unfolding sparseSet allocate
-  sparseSet-most bytes x b = go (ltb (positionOf bytes (sparseCount bytes) 0 x) (sparseCount bytes)) (ltb (sparseCount bytes) 6) refl
+  sparseSet-sized : (bytes : List ℕ) (x : ℕ) (b : Built)
+      → SizedOr (Lacks bytes x) 1 (1 + length (b .cells)) (length (b .cells) + 13) (sparseSet number bytes x b)
+  unfolding sparseSet
+  sparseSet-sized bytes x b = go (ltb (positionOf bytes (sparseCount bytes) 0 x) (sparseCount bytes)) (ltb (sparseCount bytes) 6) refl
     where
-      after : Bool → Bool → Built
-      after t u =
-          cond t (allocate number 30 (replacedCell bytes (positionOf bytes (sparseCount bytes) 0 x) (b .word)) (b .cells))
-          (cond u (allocate number 30 (appendedCell bytes x (b .word)) (b .cells)) (splitOf number (withChild (sparseChild bytes) x (b .word)) (b .cells)))
-
       go : (t u : Bool) → ltb (positionOf bytes (sparseCount bytes) 0 x) (sparseCount bytes) ≡ t
-          → (length (after t u .cells) ≤ 1 + length (b .cells)) ⊎ (Lacks bytes x × (length (after t u .cells) ≤ length (b .cells) + 13))
-      go true u e = inl (omega arith)
-      go false true e = inl (omega arith)
-      go false false e = inr (ltb-false _ _ e, split-sparse-most number bytes x (b .word) (b .cells))
+          → SizedOr (Lacks bytes x) 1 (1 + length (b .cells)) (length (b .cells) + 13)
+          (cond t (allocate number 30 (replacedCell bytes (positionOf bytes (sparseCount bytes) 0 x) (b .word)) (b .cells))
+          (cond u (allocate number 30 (appendedCell bytes x (b .word)) (b .cells)) (splitOf number (withChild (sparseChild bytes) x (b .word)) (b .cells))))
+      go true u e = inl (allocate-sized 30 _ (b .cells))
+      go false true e = inl (allocate-sized 30 _ (b .cells))
+      go false false e = inr (ltb-false _ _ e, splitOf-sized bytes x b)
 
   module _ (layout : Layout) (m : Memory) where
     -- a child set is at most three cells, but for a sparse cell that lacks the character
-    setChild-most : (p : Pointer) (x : ℕ) (b : Built)
-        → (length (setChild layout number m p x b .cells) ≤ length (b .cells) + 3)
-        ⊎ ((c : ℕ) × (p ≡ sparse c) × Lacks (m c) x × (length (setChild layout number m p x b .cells) ≤ length (b .cells) + 13))
-    unfolding setChild splitCopied allocate
-    setChild-most nothing x b = inl (omega (arith, chainOver-most x b))
-    setChild-most (leaf v) x b = inl (omega (arith, chainOver-most x b))
-    setChild-most (chain c k) x b = inl (omega (arith, chainSet-most (m c) c k x b))
-    setChild-most (split c) x b = inl (omega arith)
-    setChild-most (sparse c) x b = go (sparseSet-most (m c) x b)
-      where
-        go : (length (sparseSet number (m c) x b .cells) ≤ 1 + length (b .cells))
-            ⊎ (Lacks (m c) x × (length (sparseSet number (m c) x b .cells) ≤ length (b .cells) + 13))
-            → (length (sparseSet number (m c) x b .cells) ≤ length (b .cells) + 3)
-            ⊎ ((d : ℕ) × (sparse c ≡ sparse d) × Lacks (m d) x × (length (sparseSet number (m c) x b .cells) ≤ length (b .cells) + 13))
-        go (inl h) = inl (omega arith)
-        go (inr h) = inr (c, refl, h .0, h .1)
-    setChild-most (prefix c) x b = inl (omega arith)
-    setChild-most invalid x b = inl (omega arith)
+    abbrev LacksAt : Pointer → ℕ → Type 0
+    LacksAt p x = (c : ℕ) × (p ≡ sparse c) × Lacks (m c) x
+
+    setChild-sized : (p : Pointer) (x : ℕ) (b : Built)
+        → SizedOr (LacksAt p x) (leastSet p) (length (b .cells) + 3) (length (b .cells) + 13) (setChild layout number m p x b)
+    unfolding setChild splitCopied allocate leastSet
+    setChild-sized nothing x b = inl (three-more (length (b .cells)) (chainOver-sized x b))
+    setChild-sized (leaf v) x b = inl (three-more (length (b .cells)) (chainOver-sized x b))
+    setChild-sized (chain c k) x b = inl (three-more (length (b .cells)) (chainSet-sized (m c) c k x b))
+    setChild-sized (split c) x b = inl (record { low = omega arith; high = omega arith })
+    setChild-sized (sparse c) x b = ⊎-elim (λ h. inl (three-more (length (b .cells)) h)) (λ h. inr ((c, refl, h .0), h .1)) (sparseSet-sized (m c) x b)
+    setChild-sized (prefix c) x b = inl (record { low = omega arith; high = omega arith })
+    setChild-sized invalid x b = inl (record { low = omega arith; high = omega arith })
 
     putBack-most : (value : Option ℕ) (b : Built) → length (putBack layout number value b .cells) ≤ 1 + length (b .cells)
     unfolding putBack allocate
@@ -154,7 +165,7 @@ module _ (number : ℕ → ℕ) where
       from-none [] = empty
       from-none (x ∷ key) =
           rw (pointer-zero layout, read-zero layout m, pointer-zero layout)
-          (let later = from-none key in omega (arith, later, chainOver-most x (pathCopy layout number m atEnd 0 key)))
+          (let later = from-none key in omega (arith, later, chainOver-sized x (pathCopy layout number m atEnd 0 key) .high))
 
       pub pathCopy-bound : (word : ℕ) (key : List ℕ) → length (pathCopy layout number m atEnd word key .cells) ≤ 4 * length key + 10
       unfolding pathCopy
@@ -165,17 +176,17 @@ module _ (number : ℕ → ℕ) where
           joined below (setChild layout number m beside x below)
           (pathCopy-bound (childOf (read layout m word) x) key)
           (putBack-most (valueAside layout m (pointer layout word)) (setChild layout number m beside x below))
-          (setChild-most beside x below)
+          (setChild-sized beside x below)
           (λ c e h. subst (λ (w : ℕ). length (pathCopy layout number m atEnd w key .cells) ≤ length key) (sym (word-lacks word c x e h)) (from-none key))
         where
           joined : (below after : Built) → length (below .cells) ≤ 4 * length key + 10
               → length (putBack layout number (valueAside layout m (pointer layout word)) after .cells) ≤ 1 + length (after .cells)
-              → (length (after .cells) ≤ length (below .cells) + 3)
-              ⊎ ((c : ℕ) × (pointer layout (wordAside layout m (pointer layout word) word) ≡ sparse c) × Lacks (m c) x × (length (after .cells) ≤ length (below .cells) + 13))
+              → SizedOr (LacksAt (pointer layout (wordAside layout m (pointer layout word) word)) x) (leastSet (pointer layout (wordAside layout m (pointer layout word) word)))
+              (length (below .cells) + 3) (length (below .cells) + 13) after
               → ((c : ℕ) → pointer layout (wordAside layout m (pointer layout word) word) ≡ sparse c → Lacks (m c) x → length (below .cells) ≤ length key)
               → length (putBack layout number (valueAside layout m (pointer layout word)) after .cells) ≤ 4 * suc (length key) + 10
-          joined below after before back (inl h) short = omega arith
-          joined below after before back (inr h) short = let few = short (h .0) (h .1) (h .2) in omega (arith, few, h .3)
+          joined below after before back (inl h) short = omega (arith, h .high)
+          joined below after before back (inr h) short = let few = short (h .0 .0) (h .0 .1) (h .0 .2) in omega (arith, few, h .1 .high)
 
     valueAt-most : (value : ℕ) (p : Pointer) (word : ℕ) → length (valueAt layout number m value p word .cells) ≤ 1
     unfolding valueAt allocate
@@ -197,37 +208,17 @@ module _ (number : ℕ → ℕ) where
     build-bound root key value = pathCopy-bound _ (λ word. valueAt-most value (pointer layout word) word) (valueAt-none value) root key
 
     -- one cell at least where the first word names something
-    chainSet-least : (bytes : List ℕ) (cell place x : ℕ) (b : Built) → 1 ≤ length (chainSet number bytes cell place x b .cells)
-    unfolding chainSet allocate
-    chainSet-least bytes cell place x b = go (eqb x (chainCharacter bytes place))
-      where
-        go : (t : Bool)
-            → 1
-            ≤ length (cond t (chainOver number x b) (allocate number 30 (sparsePair x (b .word) (chainCharacter bytes place) (chainChild bytes cell place)) (b .cells)) .cells)
-        go true = chainOver-least x b
-        go false = omega arith
-
-    sparseSet-least : (bytes : List ℕ) (x : ℕ) (b : Built) → 1 ≤ length (sparseSet number bytes x b .cells)
-    unfolding sparseSet splitOf allocate
-    sparseSet-least bytes x b = go (ltb (positionOf bytes (sparseCount bytes) 0 x) (sparseCount bytes)) (ltb (sparseCount bytes) 6)
-      where
-        go : (t u : Bool)
-            → 1
-            ≤ length
-            (cond t (allocate number 30 (replacedCell bytes (positionOf bytes (sparseCount bytes) 0 x) (b .word)) (b .cells))
-            (cond u (allocate number 30 (appendedCell bytes x (b .word)) (b .cells)) (splitOf number (withChild (sparseChild bytes) x (b .word)) (b .cells))) .cells)
-        go true u = omega arith
-        go false true = omega arith
-        go false false = omega arith
+    setChild-least : (p : Pointer) (x : ℕ) (b : Built) → leastSet p ≤ length (setChild layout number m p x b .cells)
+    setChild-least p x b = ⊎-elim (λ h. h .low) (λ h. h .1 .low) (setChild-sized p x b)
 
     step-least : (word x : ℕ) (b : Built) (p : Pointer) → pointer layout word ≡ p → p ≢ invalid
         → 1 ≤ length (putBack layout number (valueAside layout m p) (setChild layout number m (pointer layout (wordAside layout m p word)) x b) .cells)
-    unfolding putBack valueAside wordAside setChild splitCopied allocate
-    step-least word x b nothing is named = rw is (chainOver-least x b)
+    unfolding putBack valueAside wordAside allocate leastSet
+    step-least word x b nothing is named = rw is (setChild-least nothing x b)
     step-least word x b (leaf v) is named = omega arith
-    step-least word x b (chain c k) is named = rw is (chainSet-least (m c) c k x b)
-    step-least word x b (split c) is named = rw is (omega arith)
-    step-least word x b (sparse c) is named = rw is (sparseSet-least (m c) x b)
+    step-least word x b (chain c k) is named = rw is (setChild-least (chain c k) x b)
+    step-least word x b (split c) is named = rw is (setChild-least (split c) x b)
+    step-least word x b (sparse c) is named = rw is (setChild-least (sparse c) x b)
     step-least word x b (prefix c) is named = omega arith
     step-least word x b invalid is named = absurd (named refl)
 

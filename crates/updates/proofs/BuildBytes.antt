@@ -10,7 +10,7 @@ use Rattle.nodes.specs.Layout.{Layout}
 use Rattle.nodes.specs.Pointer.{wordTo}
 use Rattle.staging.specs.NewCells.{blank}
 use Rattle.staging.proofs.CellBytes.{IsCell, blank-cell, chain-cell, prefix-cell, sparsePair-cell, sparseCopy-cell, appended-cell, words-cell, headCopy-cell, tableCopy-cell, set-cell, word-cell}
-use Rattle.updates.specs.Built.{Built, room}
+use Rattle.updates.specs.Built.{Built, room, firstUsed}
 use Rattle.updates.specs.Build.{build}
 use Rattle.updates.proofs.Related.{Contents, Characters, Relation, EachCell, Related, build-related}
 
@@ -53,6 +53,7 @@ whole number =
       new = λ i kind small. refl;
       bothNone = λ i w w′ same. ap (λ u. eqb u 0) same;
       room = λ i w w′ own same. ap (room own) same;
+      firstUsed = λ i w w′ own same. ap (firstUsed own) same;
       ofWord = λ i w w′ f content same. content w;
       ofWords = λ i ws ws′ f content same. content ws;
       ofCell = λ i s s′ f content cell. content s cell;

@@ -23,10 +23,10 @@ use Rattle.nodes.specs.Node.{Node, oneChild, chainNode, plain}
 use Rattle.nodes.proofs.Frame.{chain-join}
 use Rattle.nodes.proofs.Chain.{chain-child-inside, chain-child-end, chain-value, chain-cells-inside, chain-cells-end}
 use Rattle.staging.specs.NewCells.{blank, chainCell}
-use Rattle.updates.specs.Built.{Built, allocate, room, roomOf, characterBefore, chainWith, chainOver}
+use Rattle.updates.specs.Built.{Built, allocate, roomOf, firstUsed, firstUsedOf, characterBefore, chainWith, chainOver}
 use Rattle.updates.specs.SetChild.{withChild}
 use Rattle.updates.proofs.Claims.{from-at, numbers, numbers-more, Stands, HoldsFrom, Held, holds-from, Run, Fine, Placed}
-use Rattle.updates.proofs.Rooms.{room-below, allocate-numbers, allocate-room-chain, allocate-names, allocate-fine-chain, allocate-free, allocate-stands}
+use Rattle.updates.proofs.Rooms.{room-most, first-most, first-chain, allocate-numbers, allocate-first-chain, allocate-names, allocate-fine-chain, allocate-free, allocate-stands}
 
 -- a new chain cell
 pub chain-cell-length : (x w : ℕ) → length (chainCell x w) ≡ 32
@@ -72,7 +72,7 @@ module _ (layout : Layout) (small : layout .cells ≤ cellLimit) (number : ℕ �
         let c : ℕ = number (length cells) in
         let free : usable layout (number (length cells)) ≡ true = allocate-free layout number m′ 27 (chainCell x w) cells held in
         let stands : Stands layout m′ 27 c (chainCell x w) =
-        subst (λ k. Stands layout m′ k c (chainCell x w)) (allocate-room-chain layout small number cells free 27 (chainCell x w) (omega arith))
+        subst (λ k. Stands layout m′ k c (chainCell x w)) (allocate-first-chain layout small number cells free 27 (chainCell x w) (omega arith))
         (allocate-stands layout number m′ 27 (chainCell x w) cells held) in
         let byte : (j : ℕ) → 27 ≤ j → j < 32 → getD (m′ c) j 0 ≡ getD (chainCell x w) j 0 = λ j. from-at 27 (m′ c) (chainCell x w) j (stands .bytes) in
         let character : getD (m′ c) 27 0 ≡ x = byte 27 (omega arith) (omega arith) ∙ chain-cell-character x w in
@@ -100,7 +100,7 @@ module _ (layout : Layout) (small : layout .cells ≤ cellLimit) (number : ℕ �
         let inside : k ≢ 27 = omega arith in
         let free : usable layout (number (length rest)) ≡ true = allocate-free layout number m′ k (set newest k x) rest held in
         let stands : Stands layout m′ k c (set newest k x) =
-        subst (λ j. Stands layout m′ j c (set newest k x)) (allocate-room-chain layout small number rest free k (set newest k x) (omega arith))
+        subst (λ j. Stands layout m′ j c (set newest k x)) (allocate-first-chain layout small number rest free k (set newest k x) (omega arith))
         (allocate-stands layout number m′ k (set newest k x) rest held) in
         let character : getD (m′ c) k 0 ≡ x =
         from-at k (m′ c) (set newest k x) k (stands .bytes) (omega arith) (omega arith) ∙ getD-set-same newest k x 0 (omega (arith, run .2)) in
@@ -134,22 +134,30 @@ module _ (layout : Layout) (small : layout .cells ≤ cellLimit) (number : ℕ �
   chain-placed Y x only b nonzero fine held =
       with-placed Y x only (b .word) nonzero (fine .small) (b .own) (roomOf b) (b .cells) (fine .run) held
 
-  with-held : (x w k : ℕ) (cells : List (List ℕ)) → Held layout number m′ (chainWith number x w k cells) → HoldsFrom layout number m′ k cells
-  unfolding chainWith characterBefore allocate
-  with-held x w zero cells held = holds-from layout number m′ zero cells (held .1)
-  with-held x w (suc k) [] held = tt
-  with-held x w (suc k) (newest ∷ rest) held =
+  -- the cells of the child stand where those of the chain do
+  longer-held : (x k : ℕ) (newest : List ℕ) (rest : List (List ℕ)) → k < 32
+      → Held layout number m′ (record { word = wordTo (number (length rest)) k; own = true; cells = set newest k x ∷ rest })
+      → HoldsFrom layout number m′ (suc k) (newest ∷ rest)
+  longer-held x k newest rest kind held =
       let c : ℕ = number (length rest) in (
         record {
           free = held .0 .free;
           bytes = λ j low high.
-              from-at (room true (wordTo c k)) (m′ c) (set newest k x) j (held .0 .bytes) (omega (arith, room-below true c k)) high
+              from-at (firstUsed true (wordTo c k)) (m′ c) (set newest k x) j (held .0 .bytes) (omega (arith, low, first-most c k kind)) high
               ∙ getD-set-other newest k j x 0 (omega arith);
         },
         held .1,
       )
 
-  -- the cells of the child stand where those of the chain do
+  with-held : (x k : ℕ) (b : Built) → roomOf b ≡ k → (cells : List (List ℕ)) → Held layout number m′ (chainWith number x (b .word) k cells)
+      → HoldsFrom layout number m′ (firstUsedOf b) cells
+  unfolding chainWith
+  with-held x zero b has cells held = holds-from layout number m′ (firstUsedOf b) cells (unfold allocate in held .1)
+  with-held x (suc k) b has [] held = tt
+  with-held x (suc k) b has (newest ∷ rest) held =
+      subst (λ j. HoldsFrom layout number m′ j (newest ∷ rest)) (sym (first-chain (b .own) (b .word) k has))
+      (longer-held x k newest rest (omega (arith, has, room-most (b .own) (b .word))) (unfold characterBefore in held))
+
   pub chain-held : (x : ℕ) (b : Built) → Held layout number m′ (chainOver number x b) → Held layout number m′ b
   unfolding chainOver
-  chain-held x b held = with-held x (b .word) (roomOf b) (b .cells) held
+  chain-held x b held = with-held x (roomOf b) b refl (b .cells) held

@@ -23,7 +23,7 @@ use Rattle.trees.specs.Entries.{entries}
 use Rattle.trees.specs.Root.{isRoot}
 use Rattle.trees.proofs.Frame.{tree-frame, lookup-frame, entries-frame}
 use Rattle.trees.proofs.Usable.{tree-usable}
-use Rattle.updates.specs.Built.{Built, roomOf}
+use Rattle.updates.specs.Built.{Built, firstUsedOf}
 use Rattle.updates.specs.Build.{pathCopy, valueAt, build}
 use Rattle.staging.specs.Numbering.{numberFrom}
 use Rattle.updates.specs.Commit.{memoryWith}
@@ -84,7 +84,7 @@ module _ (layout : Layout) (small : layout .cells ≤ cellLimit) (free : List �
     -- the allocated cells stand, and a tree that has none of them is as it was
     stand : Held layout (numberFrom layout free) m′ b
     stand =
-        holds-from layout (numberFrom layout free) m′ (roomOf b) (b .cells)
+        holds-from layout (numberFrom layout free) m′ (firstUsedOf b) (b .cells)
         (holds-of (numberFrom layout free) m layout m′ (b .cells)
         (λ c h. each c (omega (arith, free-most c)))
         (λ c. omega (arith, once c, free-most c))

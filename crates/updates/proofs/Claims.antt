@@ -13,7 +13,7 @@ use Rattle.nodes.specs.Pointer.{pointer, wordTo}
 use Rattle.nodes.specs.Node.{Node, read, plain}
 use Rattle.trees.specs.Tree.{tree}
 use Rattle.trees.specs.Lookup.{lookup, assign}
-use Rattle.updates.specs.Built.{Built, roomOf}
+use Rattle.updates.specs.Built.{Built, roomOf, firstUsedOf}
 use Rattle.updates.specs.SetChild.{withChild}
 
 -- a cell's bytes are those of s from byte k on; all of them where k is 0
@@ -50,13 +50,13 @@ module _ (layout : Layout) (number : ℕ → ℕ) where
   Holds m [] = Unit {0}
   Holds m (newest ∷ rest) = Stands layout m 0 (number (length rest)) newest × Holds m rest
 
-  -- the same, the newest from byte k on: below it the cell can still take characters
+  -- the same, the newest from byte k on: below it the cell can still take a character or a value
   abbrev pub HoldsFrom : Memory → ℕ → List (List ℕ) → Type 0
   HoldsFrom m k [] = Unit {0}
   HoldsFrom m k (newest ∷ rest) = Stands layout m k (number (length rest)) newest × Holds m rest
 
   abbrev pub Held : Memory → Built → Type 0
-  Held m b = HoldsFrom m (roomOf b) (b .cells)
+  Held m b = HoldsFrom m (firstUsedOf b) (b .cells)
 
   pub holds-from : (m : Memory) (k : ℕ) (cells : List (List ℕ)) → Holds m cells → HoldsFrom m k cells
   holds-from m k [] h = tt

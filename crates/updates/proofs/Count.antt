@@ -13,7 +13,7 @@ use Rattle.cells.proofs.Pointers.{kind-of-made}
 use Rattle.nodes.specs.Layout.{Layout}
 use Rattle.nodes.specs.Pointer.{leafWord, wordTo}
 use Rattle.staging.specs.NewCells.{prefixCell}
-use Rattle.updates.specs.Built.{Built, room}
+use Rattle.updates.specs.Built.{Built, room, firstUsed}
 use Rattle.updates.specs.Build.{build, cellsNeeded}
 use Rattle.updates.proofs.Related.{Contents, Characters, Relation, EachCell, Related, related-count, build-related}
 
@@ -32,10 +32,22 @@ room-same c c′ k false small small′ h = refl
 room-same c c′ k true small small′ h =
     rw (lt-ltb (c * 32 + k) 2147483648 (omega arith), kind-of-made c k h, lt-ltb (c′ * 32 + k) 2147483648 (omega arith), kind-of-made c′ k h)
 
-room-leaves : (value : ℕ) (own : Bool) → value < 2147483648 → room own (leafWord value) ≡ 0
+room-leaf : (value : ℕ) (own : Bool) → value < 2147483648 → room own (leafWord value) ≡ 0
 unfolding room leafWord
-room-leaves value false clear = refl
-room-leaves value true clear = rw (le-ltb (4294967295 - value) 2147483648 (omega arith))
+room-leaf value false clear = refl
+room-leaf value true clear = rw (le-ltb (4294967295 - value) 2147483648 (omega arith))
+
+-- and so does the first byte used
+first-same : (c c′ k : ℕ) (own : Bool) → c < 67108864 → c′ < 67108864 → k < 32 → firstUsed own (wordTo c k) ≡ firstUsed own (wordTo c′ k)
+unfolding firstUsed room
+first-same c c′ k false small small′ h = refl
+first-same c c′ k true small small′ h =
+    rw (lt-ltb (c * 32 + k) 2147483648 (omega arith), kind-of-made c k h, lt-ltb (c′ * 32 + k) 2147483648 (omega arith), kind-of-made c′ k h)
+
+first-leaf : (value : ℕ) (own : Bool) → value < 2147483648 → firstUsed own (leafWord value) ≡ 0
+unfolding firstUsed room leafWord
+first-leaf value false clear = refl
+first-leaf value true clear = rw (le-ltb (4294967295 - value) 2147483648 (omega arith))
 
 -- nothing is asked of a cell's bytes or of a key's characters
 abbrev Any : {A : Type 0} → A → Type 0
@@ -59,10 +71,12 @@ any-characters : (key : List ℕ) → Characters Any key
 any-characters [] = tt
 any-characters (x ∷ key) = (tt, any-characters key)
 
--- two words both NONE or both not, with as much room before them, and the same where so many cells are within a limit
+-- two words both NONE or both not, with as much room before them and the same first byte used, and the same where so many
+-- cells are within a limit
 record WordsAlike (Within : ℕ → Type 0) (count word word′ : ℕ) : Type 0 where
   bothNone : eqb word 0 ≡ eqb word′ 0
   room : (own : Bool) → room own word ≡ room own word′
+  firstUsed : (own : Bool) → firstUsed own word ≡ firstUsed own word′
   same : Within count → word ≡ word′
 
 -- two cells of a place that are the same where the count past it is within a limit
@@ -78,15 +92,17 @@ module _ (number number′ : ℕ → ℕ) (n : Numbering number) (n′ : Numberi
   alike : Relation number number′ Any (WordsAlike Within) (CellsAlike Within)
   alike =
       record {
-        old = λ count w. record { bothNone = refl; room = λ own. refl; same = λ _. refl };
-        later = λ i k w w′ less h. record { bothNone = h .bothNone; room = h .room; same = λ within. h .same (fewer i k less within) };
+        old = λ count w. record { bothNone = refl; room = λ own. refl; firstUsed = λ own. refl; same = λ _. refl };
+        later = λ i k w w′ less h. record { bothNone = h .bothNone; room = h .room; firstUsed = h .firstUsed; same = λ within. h .same (fewer i k less within) };
         new = λ i kind small. record {
           bothNone = word-nonzero (number i) kind (n .low i) ∙ sym (word-nonzero (number′ i) kind (n′ .low i));
           room = λ own. room-same (number i) (number′ i) kind own (n .high i) (n′ .high i) small;
+          firstUsed = λ own. first-same (number i) (number′ i) kind own (n .high i) (n′ .high i) small;
           same = λ within. ap (λ c. wordTo c kind) (agree i within);
         };
         bothNone = λ i w w′ h. h .bothNone;
         room = λ i w w′ own h. h .room own;
+        firstUsed = λ i w w′ own h. h .firstUsed own;
         ofWord = λ i w w′ f _ h within. ap f (h .same (fewer i (suc i) (omega arith) within));
         ofWords = λ i ws ws′ f _ h within. ap f (λ t y. h y .same (fewer i (suc i) (omega arith) within) t);
         ofCell = λ i s s′ f _ h within. ap f (h within);
@@ -140,6 +156,7 @@ count-needed layout number n m root key value clear =
     (build-alike number (λ _. 1) n numbering-one (λ _. ⊥) (λ i k less h. h) (λ i h. absurd h) layout m root key value 0
     (record {
       bothNone = leaf-nonzero value clear ∙ sym (leaf-nonzero 0 (omega arith));
-      room = λ own. room-leaves value own clear ∙ sym (room-leaves 0 own (omega arith));
+      room = λ own. room-leaf value own clear ∙ sym (room-leaf 0 own (omega arith));
+      firstUsed = λ own. first-leaf value own clear ∙ sym (first-leaf 0 own (omega arith));
       same = λ h. absurd h;
     }) (λ h. absurd h))

@@ -18,7 +18,7 @@ use Rattle.nodes.specs.Sparse.{someWord, sparseCount, positionOf, sparseChild}
 use Rattle.nodes.specs.Split.{headWord, wordBelow}
 use Rattle.nodes.specs.Node.{read}
 use Rattle.staging.specs.NewCells.{blank, chainCell, prefixCell, sparsePair, replacedCell, appendedCell, tableCopy, headCopy, withWords}
-use Rattle.updates.specs.Built.{Built, unowned, allocate, room, roomOf, characterBefore, chainWith, chainOver}
+use Rattle.updates.specs.Built.{Built, unowned, allocate, room, roomOf, firstUsed, firstUsedOf, characterBefore, chainWith, chainOver}
 use Rattle.updates.specs.SplitBuild.{Row, tableRow, rows, endRow, midRow, splitOf, splitCopied}
 use Rattle.updates.specs.SetChild.{withChild, chainSet, sparseSet, setChild}
 use Rattle.updates.specs.Build.{wordAside, valueAside, putBack, childOf, pathCopy, valueAt, build}
@@ -49,6 +49,7 @@ pub record Relation (number number′ : ℕ → ℕ) (Content : List ℕ → Typ
   pub new : (n kind : ℕ) → kind < 32 → Words (suc n) (wordTo (number n) kind) (wordTo (number′ n) kind)
   pub bothNone : (n w w′ : ℕ) → Words n w w′ → eqb w 0 ≡ eqb w′ 0
   pub room : (n w w′ : ℕ) (own : Bool) → Words n w w′ → room own w ≡ room own w′
+  pub firstUsed : (n w w′ : ℕ) (own : Bool) → Words n w w′ → firstUsed own w ≡ firstUsed own w′
   pub ofWord : (n w w′ : ℕ) (f : ℕ → List ℕ) → ((u : ℕ) → Content (f u)) → Words n w w′ → Cells n (f w) (f w′)
   pub ofWords : (n : ℕ) (ws ws′ : ℕ → ℕ) (f : (ℕ → ℕ) → List ℕ) → ((us : ℕ → ℕ) → Content (f us)) → ((y : ℕ) → Words n (ws y) (ws′ y))
       → Cells n (f ws) (f ws′)
@@ -196,14 +197,19 @@ module _ (Words : ℕ → ℕ → ℕ → Type 0) (Cells : ℕ → List ℕ → 
               cells = (relation .ofCell (length rest) s s′ (λ t. set t place x) (λ t c. contents .character t place x is c) (e .0), e .1);
             }
 
-    same-room : (b b′ : Built) → Related b b′ → roomOf b ≡ roomOf b′
-    same-room b b′ r =
+    -- as much room, and the same first byte used
+    pub related-room : (b b′ : Built) → Related b b′ → roomOf b ≡ roomOf b′
+    related-room b b′ r =
         relation .room (length (b .cells)) (b .word) (b′ .word) (b .own) (r .word) ∙ ap (λ own. room own (b′ .word)) (r .own)
+
+    pub related-firstUsed : (b b′ : Built) → Related b b′ → firstUsedOf b ≡ firstUsedOf b′
+    related-firstUsed b b′ r =
+        relation .firstUsed (length (b .cells)) (b .word) (b′ .word) (b .own) (r .word) ∙ ap (λ own. firstUsed own (b′ .word)) (r .own)
 
     chainOver-related : (x : ℕ) (b b′ : Built) → Character x → Related b b′ → Related (chainOver number x b) (chainOver number′ x b′)
     unfolding chainOver
     chainOver-related x b b′ is r =
-        subst (λ (k : ℕ). Related (chainWith number x (b .word) (roomOf b) (b .cells)) (chainWith number′ x (b′ .word) k (b′ .cells))) (same-room b b′ r)
+        subst (λ (k : ℕ). Related (chainWith number x (b .word) (roomOf b) (b .cells)) (chainWith number′ x (b′ .word) k (b′ .cells))) (related-room b b′ r)
         (with-related x (roomOf b) b b′ is (omega (arith, room-most (b .own) (b .word))) r)
 
     -- a child set, by the node's kind

@@ -1,19 +1,20 @@
--- Laws of the room before a chain, and of a cell just allocated.
-use mathlib.Core.Path.{_≡_, refl, sym, subst}
+-- Laws of the room before a chain, of the first byte used, and of a cell just allocated.
+use mathlib.Core.Path.{_≡_, refl, sym, _∙_, subst}
+use mathlib.Core.Logic.{_≢_}
 use mathlib.Core.Bool.{Bool, true, false, _&&_, cond}
 use mathlib.Core.List.{List, [], _∷_}
 use Prim.Native.Nat.{ℕ, zero, suc, _+_, _*_, _%_, _≤_, _<_}
 use native.Mathlib.Omega.{arith}
-use lib.Dec.{ltb}
+use lib.Dec.{ltb, eqb}
 use lib.ListN.{length}
-use borrow.Author.Tests.{lt-ltb, le-ltb}
+use borrow.Author.Tests.{lt-ltb, le-ltb, ne-eqb, eqb-true}
 use Rattle.cells.specs.Memory.{Memory}
 use Rattle.cells.specs.Occurrences.{occurrences}
 use Rattle.cells.proofs.Pointers.{kind-of-made}
 use Rattle.nodes.specs.Layout.{Layout, usable, cellLimit}
 use Rattle.nodes.specs.Pointer.{pointer, byKind, wordTo}
 use Rattle.nodes.proofs.Pointers.{usable-inside, made}
-use Rattle.updates.specs.Built.{Built, unowned, allocate, room, roomOf}
+use Rattle.updates.specs.Built.{Built, unowned, allocate, room, roomOf, firstUsed, firstUsedOf}
 use Rattle.updates.proofs.Claims.{numbers, numbers-more, Stands, Held, holds-from, Run, Fine}
 
 -- a word whose cell this call did not allocate has no room
@@ -48,6 +49,43 @@ room-other c k other kind = go (ltb (c * 32 + k) 2147483648)
     go true = let here : (c * 32 + k) % 32 ≡ k = kind-of-made c k kind in rw (here, le-ltb k 28 other)
     go false = refl
 
+-- the first byte used is the room but in a split head
+pub first-other : (own : Bool) (word : ℕ) → word % 32 ≢ 28 → firstUsed own word ≡ room own word
+unfolding firstUsed
+first-other own word other = go own (ltb word 2147483648)
+  where
+    go : (s t : Bool) → cond (s && t && eqb (word % 32) 28) 16 (room own word) ≡ room own word
+    go true true = rw (ne-eqb (word % 32) 28 other)
+    go true false = refl
+    go false t = refl
+
+first-head : (c : ℕ) → c < 67108864 → firstUsed true (wordTo c 28) ≡ 16
+unfolding firstUsed
+first-head c low =
+    let kind : (c * 32 + 28) % 32 ≡ 28 = kind-of-made c 28 (omega arith) in
+    rw (kind, lt-ltb (c * 32 + 28) 2147483648 (omega arith))
+
+-- it is never past the kind
+pub first-most : (c k : ℕ) → k < 32 → firstUsed true (wordTo c k) ≤ k
+unfolding firstUsed
+first-most c k kind = go (ltb (c * 32 + k) 2147483648) (eqb ((c * 32 + k) % 32) 28) refl (kind-of-made c k kind)
+  where
+    go : (s t : Bool) → eqb ((c * 32 + k) % 32) 28 ≡ t → (c * 32 + k) % 32 ≡ k → cond (true && s && t) 16 (room true (wordTo c k)) ≤ k
+    go true true e here = omega (arith, eqb-true ((c * 32 + k) % 32) 28 e, here)
+    go true false e here = room-below true c k
+    go false t e here = room-below true c k
+
+-- where there is room before a chain, it is the chain's first byte
+pub first-chain : (own : Bool) (word k : ℕ) → room own word ≡ suc k → firstUsed own word ≡ suc k
+first-chain own word k has = first-other own word (no-head has) ∙ has
+  where
+    full : (s : Bool) → word % 32 ≡ 28 → cond (s && ltb (word % 32) 28) (word % 32) 0 ≡ suc k → ⊥
+    full true kind e = omega (arith, subst (λ (z : ℕ). cond (ltb z 28) z 0 ≡ suc k) kind e)
+    full false kind e = omega (arith, e)
+
+    no-head : room own word ≡ suc k → word % 32 ≢ 28
+    no-head e kind = unfold room in full (own && ltb word 2147483648) kind e
+
 -- a word whose cell this call did not allocate: nothing is written before it
 pub unowned-fine : (layout : Layout) (number : ℕ → ℕ) (word : ℕ) (cells : List (List ℕ)) → word < 4294967296
     → Fine layout number (unowned word cells)
@@ -59,6 +97,14 @@ pub allocate-room : (number : ℕ → ℕ) (kind : ℕ) (bytes : List ℕ) (cell
     → roomOf (allocate number kind bytes cells) ≡ 0
 unfolding allocate
 allocate-room number kind bytes cells other is = room-other (number (length cells)) kind other is
+
+-- the first byte used of a prefix or sparse in a cell just allocated
+allocate-first : (number : ℕ → ℕ) (kind : ℕ) (bytes : List ℕ) (cells : List (List ℕ)) → 28 < kind → kind < 32
+    → firstUsedOf (allocate number kind bytes cells) ≡ 0
+unfolding allocate
+allocate-first number kind bytes cells other is =
+    first-other true (number (length cells) * 32 + kind) (λ e. omega (arith, e, kind-of-made (number (length cells)) kind is))
+    ∙ room-other (number (length cells)) kind (omega arith) is
 
 -- its number is one more that was allocated
 pub allocate-numbers : (number : ℕ → ℕ) (c kind : ℕ) (bytes : List ℕ) (cells : List (List ℕ))
@@ -72,6 +118,17 @@ module _ (layout : Layout) (small : layout .cells ≤ cellLimit) (number : ℕ �
   pub allocate-room-chain : (kind : ℕ) (bytes : List ℕ) → kind < 28 → roomOf (allocate number kind bytes cells) ≡ kind
   unfolding allocate
   allocate-room-chain kind bytes chain = room-chain (number (length cells)) kind (omega (arith, usable-inside layout (number (length cells)) free)) chain
+
+  -- the first byte used of a chain just allocated, and of a split head
+  pub allocate-first-chain : (kind : ℕ) (bytes : List ℕ) → kind < 28 → firstUsedOf (allocate number kind bytes cells) ≡ kind
+  unfolding allocate
+  allocate-first-chain kind bytes chain =
+      first-other true (number (length cells) * 32 + kind) (λ e. omega (arith, e, kind-of-made (number (length cells)) kind (omega arith)))
+      ∙ room-chain (number (length cells)) kind (omega (arith, usable-inside layout (number (length cells)) free)) chain
+
+  pub allocate-first-head : (bytes : List ℕ) → firstUsedOf (allocate number 28 bytes cells) ≡ 16
+  unfolding allocate
+  allocate-first-head bytes = first-head (number (length cells)) (omega (arith, usable-inside layout (number (length cells)) free))
 
   -- the word names the kind in the cell, and is a pointer
   pub allocate-names : (kind : ℕ) (bytes : List ℕ) → kind < 32 → pointer layout (allocate number kind bytes cells .word) ≡ byKind (number (length cells)) kind
@@ -113,15 +170,15 @@ module _ (layout : Layout) (number : ℕ → ℕ) (m′ : Memory) where
 
   pub allocate-before : (kind : ℕ) (bytes : List ℕ) (b : Built) → Held layout number m′ (allocate number kind bytes (b .cells)) → Held layout number m′ b
   unfolding allocate
-  allocate-before kind bytes b held = holds-from layout number m′ (roomOf b) (b .cells) (held .1)
+  allocate-before kind bytes b held = holds-from layout number m′ (firstUsedOf b) (b .cells) (held .1)
 
   pub allocate-stands : (kind : ℕ) (bytes : List ℕ) (cells : List (List ℕ)) → Held layout number m′ (allocate number kind bytes cells)
-      → Stands layout m′ (roomOf (allocate number kind bytes cells)) (number (length cells)) bytes
+      → Stands layout m′ (firstUsedOf (allocate number kind bytes cells)) (number (length cells)) bytes
   unfolding allocate
   allocate-stands kind bytes cells held = held .0
 
-  -- a cell of another kind than a chain stands as a whole
-  pub allocate-whole : (kind : ℕ) (bytes : List ℕ) (cells : List (List ℕ)) → 28 ≤ kind → kind < 32
+  -- a cell of another kind than a chain or split stands as a whole
+  pub allocate-whole : (kind : ℕ) (bytes : List ℕ) (cells : List (List ℕ)) → 28 < kind → kind < 32
       → Held layout number m′ (allocate number kind bytes cells) → Stands layout m′ 0 (number (length cells)) bytes
   allocate-whole kind bytes cells other is held =
-      subst (λ k. Stands layout m′ k (number (length cells)) bytes) (allocate-room number kind bytes cells other is) (allocate-stands kind bytes cells held)
+      subst (λ k. Stands layout m′ k (number (length cells)) bytes) (allocate-first number kind bytes cells other is) (allocate-stands kind bytes cells held)

@@ -2,7 +2,7 @@
 use mathlib.Core.Bool.{Bool, true, false, _&&_, cond}
 use mathlib.Core.List.{List, [], _∷_}
 use Prim.Native.Nat.{ℕ, zero, suc, _%_}
-use lib.Dec.{ltb}
+use lib.Dec.{ltb, eqb}
 use lib.ListN.{length, set}
 use Rattle.nodes.specs.Pointer.{wordTo}
 use Rattle.staging.specs.NewCells.{chainCell}
@@ -26,6 +26,13 @@ room own word = cond (own && ltb word 0x80000000 && ltb (word % 32) 0x1C) (word 
 
 abbrev pub roomOf : Built → ℕ
 roomOf b = room (b .own) (b .word)
+
+-- the first byte that a node uses of a cell that this call allocated: a chain's place, 10 of a split head, 0 of any other
+unfoldable pub firstUsed : Bool → ℕ → ℕ
+firstUsed own word = cond (own && ltb word 0x80000000 && eqb (word % 32) 0x1C) 0x10 (room own word)
+
+abbrev pub firstUsedOf : Built → ℕ
+firstUsedOf b = firstUsed (b .own) (b .word)
 
 -- a character written into the newest cell
 unfoldable pub characterBefore : (ℕ → ℕ) → ℕ → ℕ → ℕ → List (List ℕ) → Built
