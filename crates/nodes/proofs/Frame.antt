@@ -19,7 +19,7 @@ use Rattle.nodes.specs.Pointer.Pointer.{nothing, leaf, chain, split, spa
 use Rattle.nodes.specs.Chain.{chainChild}
 use Rattle.nodes.specs.Sparse.{validSparse}
 use Rattle.nodes.specs.Split.{headWord, tableWord, validHead, validTable, gather, under, splitCell, endCells, midCells, headCells, wordBelow, splitChild}
-use Rattle.nodes.specs.Prefix.{prefixValue, prefixLink, validPrefix}
+use Rattle.nodes.specs.Prefix.{prefixValue, prefixLink, prefixCells, validPrefix}
 use Rattle.nodes.specs.Node.{Node, childless, chainNode, sparseNode, splitNode, prefixed, plain, readAt, read}
 use Rattle.nodes.proofs.Pointers.{names, pointer-zero}
 use Rattle.nodes.proofs.Gather.{gather-at, under-zero, under-word, Framed, words-frame}
@@ -159,7 +159,7 @@ module _ (layout : Layout) where
   -- a prefix: its cell, and the node linked
   pub prefix-cut : (m : Memory) (c : ℕ) (X : Node) → readAt layout m (prefix c) ≡ some X
       → (Z : Node) × (validPrefix layout (m c) ≡ true) × (plain layout m (pointer layout (prefixLink c (m c))) ≡ some Z)
-      × (prefixed c (m c) Z ≡ X)
+      × (prefixed (prefixValue (m c)) (prefixCells c (m c)) c Z ≡ X)
   unfolding readAt
   prefix-cut m c X e =
       let p = kept (validPrefix layout (m c)) e in
@@ -167,7 +167,7 @@ module _ (layout : Layout) where
       (q .0, p .0, q .1, cc)
 
   pub prefix-join : (m : Memory) (c : ℕ) (Z : Node) → validPrefix layout (m c) ≡ true → plain layout m (pointer layout (prefixLink c (m c))) ≡ some Z
-      → readAt layout m (prefix c) ≡ some (prefixed c (m c) Z)
+      → readAt layout m (prefix c) ≡ some (prefixed (prefixValue (m c)) (prefixCells c (m c)) c Z)
   unfolding readAt
   prefix-join m c Z valid linked = rw valid (keep _ linked refl)
 
@@ -356,16 +356,16 @@ module _ (layout : Layout) where
         let f = plain-frame (pointer layout (prefixLink c (m c))) Z (p .2) (agree-tail m m′ c (Z .footprint) agree′) in
         let linked : plain layout m′ (pointer layout (prefixLink c (m′ c))) ≡ some (f .0) =
         subst (λ s. plain layout m′ (pointer layout (prefixLink c s)) ≡ some (f .0)) cell (f .1) in
-        let like : Like (prefixed c (m c) Z) (prefixed c (m′ c) (f .0)) =
+        let like : Like (prefixed (prefixValue (m c)) (prefixCells c (m c)) c Z) (prefixed (prefixValue (m′ c)) (prefixCells c (m′ c)) c (f .0)) =
         record {
           value = ap (λ s. some (prefixValue s)) cell;
           cells = ap (λ l. c ∷ l) (f .2 .cells);
           footprint = ap (λ l. c ∷ l) (f .2 .footprint);
           child = f .2 .child;
         } in (
-          prefixed c (m′ c) (f .0),
+          prefixed (prefixValue (m′ c)) (prefixCells c (m′ c)) c (f .0),
           prefix-join m′ c (f .0) (subst (λ s. validPrefix layout s ≡ true) cell (p .1)) linked,
-          subst (λ (N : Node). Like N (prefixed c (m′ c) (f .0))) (p .3) like,
+          subst (λ (N : Node). Like N (prefixed (prefixValue (m′ c)) (prefixCells c (m′ c)) c (f .0))) (p .3) like,
         )
 
     readAt-frame : (p : Pointer) (X : Node) → readAt layout m p ≡ some X → Agree m m′ (X .footprint)

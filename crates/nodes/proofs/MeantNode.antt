@@ -237,17 +237,18 @@ module _ (layout : Layout) (m m′ : Memory) where
   plain-alike w invalid named alike = tt
 
   -- a prefix before nodes that are the same
-  prefixed-alike : (v : Bool) (c : ℕ) (s t : List ℕ) → prefixValue s ≡ prefixValue t → (o p : Option Node) → SameNode o p
-      → SameNode (cond v (bind o (λ linked. some (prefixed c s linked))) none) (cond v (bind p (λ linked. some (prefixed c t linked))) none)
+  prefixed-alike : (v : Bool) (value : ℕ) (visited : List ℕ) (c : ℕ) (o p : Option Node) → SameNode o p
+      → SameNode (cond v (bind o (λ linked. some (prefixed value visited c linked))) none)
+      (cond v (bind p (λ linked. some (prefixed value visited c linked))) none)
   unfolding bind
-  prefixed-alike false c s t value o p same = tt
-  prefixed-alike true c s t value none none same = tt
-  prefixed-alike true c s t value none (some Y) same = absurd same
-  prefixed-alike true c s t value (some X) none same = absurd same
-  prefixed-alike true c s t value (some X) (some Y) same =
+  prefixed-alike false value visited c o p same = tt
+  prefixed-alike true value visited c none none same = tt
+  prefixed-alike true value visited c none (some Y) same = absurd same
+  prefixed-alike true value visited c (some X) none same = absurd same
+  prefixed-alike true value visited c (some X) (some Y) same =
       record {
-        value = ap some value;
-        cells = ap (λ l. prefixCells c s ++ l) (same .cells);
+        value = refl;
+        cells = ap (λ l. visited ++ l) (same .cells);
         footprint = ap (λ l. c ∷ l) (same .footprint);
         child = same .child;
       }
@@ -260,10 +261,11 @@ module _ (layout : Layout) (m m′ : Memory) where
       let value = prefix-value-alike layout c (m c) (m′ c) bytes in
       let link = prefix-link-alike layout c (m c) (m′ c) bytes in
       let linked = plain-alike (prefixLink c (m c)) (pointer layout (prefixLink c (m c))) refl (λ d i means. alike d i (inr means)) in
-      let both = prefixed-alike (validPrefix layout (m c)) c (m c) (m′ c) value _ _ linked in
-      let right : cond (validPrefix layout (m c)) (bind (plain layout m′ (pointer layout (prefixLink c (m c)))) (λ l. some (prefixed c (m′ c) l))) none
+      let both = prefixed-alike (validPrefix layout (m c)) (prefixValue (m c)) (prefixCells c (m c)) c _ _ linked in
+      let right : cond (validPrefix layout (m c))
+      (bind (plain layout m′ (pointer layout (prefixLink c (m c)))) (λ l. some (prefixed (prefixValue (m c)) (prefixCells c (m c)) c l))) none
       ≡ readAt layout m′ (prefix c) =
-      λ i. cond (valid i) (bind (plain layout m′ (pointer layout (link i))) (λ l. some (prefixed c (m′ c) l))) none in
+      λ i. cond (valid i) (bind (plain layout m′ (pointer layout (link i))) (λ l. some (prefixed (value i) (c ∷ []) c l))) none in
       subst (SameNode (readAt layout m (prefix c))) right both
 
   -- the node that a word names

@@ -13,7 +13,7 @@ use Rattle.nodes.specs.Pointer.Pointer.{nothing, leaf, chain, split, spa
 use Rattle.nodes.specs.Chain.{chainChild}
 use Rattle.nodes.specs.Sparse.{validSparse}
 use Rattle.nodes.specs.Split.{validHead, headCells}
-use Rattle.nodes.specs.Prefix.{prefixValue, prefixLink, validPrefix}
+use Rattle.nodes.specs.Prefix.{prefixValue, prefixLink, prefixCells, validPrefix}
 use Rattle.nodes.specs.Node.{Node, childless, chainNode, sparseNode, splitNode, prefixed, plain, readAt, read}
 use Rattle.nodes.proofs.Frame.{chain-cut, split-cut, sparse-cut, prefix-cut, read-is, plain-read}
 use Rattle.nodes.proofs.Chain.{chain-value}
@@ -55,5 +55,5 @@ module _ (layout : Layout) (m : Memory) (w : ℕ) where
 
     pub read-prefix : (c : ℕ) → pointer layout w ≡ prefix c
         → (Z : Node) × (validPrefix layout (m c) ≡ true) × (plain layout m (pointer layout (prefixLink c (m c))) ≡ some Z)
-        × (prefixed c (m c) Z ≡ X)
+        × (prefixed (prefixValue (m c)) (prefixCells c (m c)) c Z ≡ X)
     read-prefix c named = prefix-cut layout m c X (sym (read-is layout m w (prefix c) named) ∙ node)

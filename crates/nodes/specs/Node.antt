@@ -42,15 +42,10 @@ sparseNode bytes cell = record { value = none; cells = cell ∷ []; footprint = 
 abbrev pub splitNode : Memory → ℕ → List ℕ → Node
 splitNode m cell below = record { value = none; cells = cell ∷ below; footprint = cell ∷ below; child = splitChild m cell }
 
--- a node with the value and the cells of a prefix before it
-abbrev pub prefixed : ℕ → List ℕ → Node → Node
-prefixed cell bytes linked =
-    record {
-      value = some (prefixValue bytes);
-      cells = prefixCells cell bytes ++ linked .cells;
-      footprint = cell ∷ linked .footprint;
-      child = linked .child;
-    }
+-- a node with the value of a prefix before it, the cells that this visits itself, and the cell that it stands in
+abbrev pub prefixed : ℕ → List ℕ → ℕ → Node → Node
+prefixed value visited cell linked =
+    record { value = some value; cells = visited ++ linked .cells; footprint = cell ∷ linked .footprint; child = linked .child }
 
 -- a chain, sparse or split; nothing where a rule is broken. 01: "A chain's child is never NONE."
 unfoldable pub plain : Layout → Memory → Pointer → Option Node
@@ -70,7 +65,7 @@ readAt layout m (chain c k) = plain layout m (chain c k)
 readAt layout m (split c) = plain layout m (split c)
 readAt layout m (sparse c) = plain layout m (sparse c)
 readAt layout m (prefix c) =
-    cond (validPrefix layout (m c)) (bind (plain layout m (pointer layout (prefixLink c (m c)))) (λ linked. some (prefixed c (m c) linked))) none
+    cond (validPrefix layout (m c)) (bind (plain layout m (pointer layout (prefixLink c (m c)))) (λ linked. some (prefixed (prefixValue (m c)) (prefixCells c (m c)) c linked))) none
 readAt layout m invalid = none
 
 -- the node that a word names

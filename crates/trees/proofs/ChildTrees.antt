@@ -11,7 +11,7 @@ use Rattle.cells.proofs.Choice.{absurd-bool}
 use Rattle.nodes.specs.Layout.{Layout, keyLimit}
 use Rattle.nodes.specs.Pointer.{Pointer, pointer}
 use Rattle.nodes.specs.Pointer.Pointer.{nothing, leaf, chain, split, sparse, prefix, invalid}
-use Rattle.nodes.specs.Prefix.{prefixValue, prefixLink, validPrefix}
+use Rattle.nodes.specs.Prefix.{prefixValue, prefixLink, prefixCells, validPrefix}
 use Rattle.nodes.specs.Split.{gather, under}
 use Rattle.nodes.specs.Node.{Node, childless, prefixed, plain, readAt, read}
 use Rattle.nodes.proofs.Pointers.{names, pointer-zero}
@@ -140,14 +140,14 @@ module _ (layout : Layout) (m : Memory) where
     prefix-broken broken =
         tree-unread d w
         (read-is layout m w (prefix c) named
-        ∙ ap (λ b. cond b (bind (plain layout m (pointer layout (prefixLink c (m c)))) (λ linked. some (prefixed c (m c) linked))) none) broken)
+        ∙ ap (λ b. cond b (bind (plain layout m (pointer layout (prefixLink c (m c)))) (λ linked. some (prefixed (prefixValue (m c)) (prefixCells c (m c)) c linked))) none) broken)
 
     pub prefix-tree : validPrefix layout (m c) ≡ true → tree layout m d w ≡ joined (some (c ∷ [])) (plainTree layout m d (prefixLink c (m c)))
     prefix-tree valid =
         tree-step layout m d w ∙ stepped
-        ∙ bind-assoc linked (λ X. some (prefixed c (m c) X)) (spread (kids layout m d))
+        ∙ bind-assoc linked (λ X. some (prefixed (prefixValue (m c)) (prefixCells c (m c)) c X)) (spread (kids layout m d))
         ∙ bind-same linked _ _ (λ X.
-        bind-of (prefixed c (m c) X) (spread (kids layout m d)) ∙ spread-joined d (prefixed c (m c) X) ∙ apart X)
+        bind-of (prefixed (prefixValue (m c)) (prefixCells c (m c)) c X) (spread (kids layout m d)) ∙ spread-joined d (prefixed (prefixValue (m c)) (prefixCells c (m c)) c X) ∙ apart X)
         ∙ moved ∙ ap (joined (some (c ∷ []))) (sym (plain-tree-read d (prefixLink c (m c)) (pointer layout (prefixLink c (m c))) refl))
       where
         linked : Option Node
@@ -157,11 +157,11 @@ module _ (layout : Layout) (m : Memory) where
         below X = gather (λ x. childTree layout m d (X .child x)) 256 0
 
         stepped : step layout m (kids layout m d) w
-            ≡ bind (bind linked (λ X. some (prefixed c (m c) X))) (spread (kids layout m d))
+            ≡ bind (bind linked (λ X. some (prefixed (prefixValue (m c)) (prefixCells c (m c)) c X))) (spread (kids layout m d))
         stepped =
             unfold step readAt in
             ap (λ o. bind o (spread (kids layout m d)))
-            (read-is layout m w (prefix c) named ∙ ap (λ b. cond b (bind linked (λ X. some (prefixed c (m c) X))) none) valid)
+            (read-is layout m w (prefix c) named ∙ ap (λ b. cond b (bind linked (λ X. some (prefixed (prefixValue (m c)) (prefixCells c (m c)) c X))) none) valid)
 
         apart : (X : Node) → joined (some (c ∷ X .cells)) (below X) ≡ joined (some (c ∷ [])) (joined (some (X .cells)) (below X))
         apart X =

@@ -30,9 +30,9 @@ use Rattle.updates.proofs.Prefixes.{putBack-changed, putBack-held}
 use Rattle.updates.proofs.SetChild.{set-placed, set-held}
 
 -- a valid prefix has a value with its top bit clear
-prefix-clear : (s : List ℕ) → validPrefix layout s ≡ true → prefixValue s < 2147483648
+prefix-clear : (layout : Layout) (s : List ℕ) → validPrefix layout s ≡ true → prefixValue s < 2147483648
 unfolding validPrefix
-prefix-clear s valid = ltb-true (prefixValue s) 2147483648 (both-left (ltb (prefixValue s) 2147483648) (eqb (getD s 4 0) 255) valid)
+prefix-clear layout s valid = ltb-true (prefixValue s) 2147483648 (both-left (ltb (prefixValue s) 2147483648) (eqb (getD s 4 0) 255) valid)
 
 -- the child of a node that is read
 pub child-of : (o : Option Node) (X : Node) (x : ℕ) → o ≡ some X → childOf o x ≡ X .child x
@@ -89,7 +89,7 @@ module _ (layout : Layout) (m : Memory) where
         reads = read-plain layout m (prefixLink c (m c)) (q .0) (q .2);
         empty = plain-value layout m (pointer layout (prefixLink c (m c))) (q .0) (q .2);
         value = ap (λ (Z : Node). Z .value) (sym (q .3));
-        clear = λ u e. let same : prefixValue (m c) ≡ u = cc in subst (λ z. z < 2147483648) same (prefix-clear (m c) (q .1));
+        clear = λ u e. let same : prefixValue (m c) ≡ u = cc in subst (λ z. z < 2147483648) same (prefix-clear layout (m c) (q .1));
         child = λ y. ap (λ (Z : Node). Z .child y) (sym (q .3));
         cells = λ z. omega (arith, occurrences-later z c (q .0 .cells), ap (λ (Z : Node). occurrences z (Z .cells)) (q .3));
       }

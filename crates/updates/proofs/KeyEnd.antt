@@ -121,10 +121,10 @@ module _ (layout : Layout) (small : layout .cells ≤ cellLimit) (number : ℕ �
           new .1,
           record {
             cells = ns ++ q .0;
-            valid = tree-join layout m′ d (b .word) (prefixed value c (f .0)) (q .0) (new .0) (q .1);
+            valid = tree-join layout m′ d (b .word) (prefixed value (c ∷ []) c (f .0)) (q .0) (new .0) (q .1);
             most = λ z. omega (arith, whole-tree z, count z, less z);
             least = λ z. omega (arith, whole-tree z, count z);
-            table = end-table (some value) (b .word) (prefixed value c (f .0)) (new .0) refl
+            table = end-table (some value) (b .word) (prefixed value (c ∷ []) c (f .0)) (new .0) refl
                 (λ y k near.
                 sym (lookup-cons layout m′ u y k (f .0) near (read-plain layout m′ u (f .0) (f .1)))
                 ∙ lookup-frame layout small m bytes m′ (y ∷ k) d u es part agree-part ∙ same y k near);

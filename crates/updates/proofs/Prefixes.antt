@@ -31,32 +31,32 @@ pub prefix-cell-value : (v w : ℕ) → v < 4294967296 → prefixValue (prefixCe
 unfolding wordAt prefixCell withWord blank zeros
 prefix-cell-value v w small = recombine v small
 
-pub prefix-cell-link : (v w : ℕ) → w < 4294967296 → prefixLink c (prefixCell v w) ≡ w
+pub prefix-cell-link : (c v w : ℕ) → w < 4294967296 → prefixLink c (prefixCell v w) ≡ w
 unfolding wordAt prefixCell withWord blank zeros
-prefix-cell-link v w small = recombine w small
+prefix-cell-link c v w small = recombine w small
 
 prefix-cell-mark : (v w : ℕ) → getD (prefixCell v w) 4 0 ≡ 255
 unfolding prefixCell withWord blank zeros
 prefix-cell-mark v w = refl
 
-pub prefix-cell-valid : (v w : ℕ) → v < 2147483648 → validPrefix layout (prefixCell v w) ≡ true
+pub prefix-cell-valid : (layout : Layout) (v w : ℕ) → v < 2147483648 → validPrefix layout (prefixCell v w) ≡ true
 unfolding validPrefix
-prefix-cell-valid v w clear = rw (prefix-cell-value v w (omega arith), prefix-cell-mark v w, lt-ltb v 2147483648 clear)
+prefix-cell-valid layout v w clear = rw (prefix-cell-value v w (omega arith), prefix-cell-mark v w, lt-ltb v 2147483648 clear)
 
 -- a prefix cell that stands over a plain node is read as that node with the value
 pub prefix-reads : (layout : Layout) (m′ : Memory) (c v w : ℕ) (linked : Node) → v < 2147483648 → w < 4294967296 → m′ c ≡ prefixCell v w
-    → plain layout m′ (pointer layout w) ≡ some linked → readAt layout m′ (prefix c) ≡ some (prefixed v c linked)
+    → plain layout m′ (pointer layout w) ≡ some linked → readAt layout m′ (prefix c) ≡ some (prefixed v (c ∷ []) c linked)
 prefix-reads layout m′ c v w linked clear small here reads =
-    let link : prefixLink c (m′ c) ≡ w = ap (prefixLink c) here ∙ prefix-cell-link v w small in
+    let link : prefixLink c (m′ c) ≡ w = ap (prefixLink c) here ∙ prefix-cell-link c v w small in
     let value : prefixValue (m′ c) ≡ v = ap prefixValue here ∙ prefix-cell-value v w (omega arith) in
-    prefix-join layout m′ c linked (ap (validPrefix layout) here ∙ prefix-cell-valid v w clear) (ap (λ u. plain layout m′ (pointer layout u)) link ∙ reads)
-    ∙ ap (λ u. some (prefixed u c linked)) value
+    prefix-join layout m′ c linked (ap (validPrefix layout) here ∙ prefix-cell-valid layout v w clear) (ap (λ u. plain layout m′ (pointer layout u)) link ∙ reads)
+    ∙ ap (λ u. some (prefixed u (c ∷ []) c linked)) value
 
 module _ (layout : Layout) (small : layout .cells ≤ cellLimit) (number : ℕ → ℕ) (m′ : Memory) where
   -- the same of a prefix cell just allocated
   pub prefix-allocated : (v w : ℕ) (cells : List (List ℕ)) (linked : Node) → v < 2147483648 → w < 4294967296
       → plain layout m′ (pointer layout w) ≡ some linked → Held layout number m′ (allocate number 31 (prefixCell v w) cells)
-      → (read layout m′ (allocate number 31 (prefixCell v w) cells .word) ≡ some (prefixed v (number (length cells)) linked))
+      → (read layout m′ (allocate number 31 (prefixCell v w) cells .word) ≡ some (prefixed v (number (length cells) ∷ []) (number (length cells)) linked))
       × Fine layout number (allocate number 31 (prefixCell v w) cells)
   unfolding byKind
   prefix-allocated v w cells linked clear word-small reads held =
@@ -96,7 +96,7 @@ module _ (layout : Layout) (small : layout .cells ≤ cellLimit) (number : ℕ �
       ≡ occurrences c (number (length (r .cells)) ∷ []) + occurrences c (numbers number (r .cells))
       = λ c. allocate-numbers number c 31 (prefixCell v (r .word)) (r .cells) in
       record {
-        node = prefixed v (number (length (r .cells))) (p .node);
+        node = prefixed v (number (length (r .cells)) ∷ []) (number (length (r .cells))) (p .node);
         reads = q .0;
         value = sym had;
         child = λ y near. p .child y near ∙ ap (cond (eqb y x) (b .word)) (sym (children y));
