@@ -15,6 +15,7 @@ use Rattle.nodes.specs.Sparse.{someWord, everyWord, sparseDigits, validSparse, 
 use Rattle.nodes.specs.Split.{gather, under, splitCell, endCells, midCells, headCells, wordBelow, splitChild}
 use Rattle.nodes.specs.Prefix.{validPrefix}
 use Rattle.nodes.specs.Node.{chainNode, plain, readAt, read}
+use Rattle.nodes.specs.Value.{pointerValue}
 use Rattle.trees.specs.Tree.{spread, step, tree}
 use Rattle.trees.specs.Root.{isRoot, rootTree, onceVisited, cellsOf}
 use Rattle.trees.specs.Lookup.{lookup}
@@ -22,7 +23,7 @@ use Rattle.staging.specs.NewCells.{blank, chainCell, prefixCell, pairCell, spar
 use Rattle.updates.specs.Built.{allocate, room, characterBefore, chainWith, chainOver}
 use Rattle.updates.specs.SplitBuild.{tableRow, rows, endRow, midRow, splitOf, splitCopied}
 use Rattle.updates.specs.SetChild.{chainSet, sparseSet, setChild}
-use Rattle.updates.specs.Build.{wordAside, valueAside, putBack, childOf, pathCopy, valueAt, build, cellsNeeded}
+use Rattle.updates.specs.Build.{wordAside, putBack, childOf, pathCopy, valueAt, build, cellsNeeded}
 use Rattle.staging.specs.Numbering.{numberFrom}
 use Rattle.updates.specs.Commit.{buildWrites}
 use Rattle.blocks.specs.Trailer.{badSize, layoutOf, rootWord, slots, validSlot, slotAt, inUse, everySlot, validTrailer}
@@ -47,7 +48,7 @@ treesOpen = tt
 
 -- the build of an insertion
 unfoldable pub buildsOpen : Unit {0}
-unfolding blank chainCell prefixCell pairCell sparsePair withoutCharacters sparseCopy withOrder appendedCell tableCopy headCopy withWords allocate room characterBefore chainWith chainOver tableRow rows endRow midRow splitOf splitCopied chainSet sparseSet setChild wordAside valueAside putBack childOf pathCopy valueAt build cellsNeeded numberFrom buildWrites
+unfolding blank chainCell prefixCell pairCell sparsePair withoutCharacters sparseCopy withOrder appendedCell tableCopy headCopy withWords allocate room characterBefore chainWith chainOver tableRow rows endRow midRow splitOf splitCopied chainSet sparseSet setChild wordAside pointerValue putBack childOf pathCopy valueAt build cellsNeeded numberFrom buildWrites
 buildsOpen = tt
 
 -- the calls, with all of these

@@ -19,12 +19,14 @@ use Rattle.nodes.specs.Pointer.{Pointer, pointer}
 use Rattle.nodes.specs.Pointer.Pointer.{nothing, leaf, chain, split, sparse, prefix, invalid}
 use Rattle.nodes.specs.Prefix.{prefixValue, prefixLink, validPrefix}
 use Rattle.nodes.specs.Node.{Node, childless, readAt, read}
+use Rattle.nodes.specs.Value.{pointerValue}
 use Rattle.nodes.proofs.Pointers.{leaf-value}
 use Rattle.nodes.proofs.Frame.{prefix-cut, read-is, read-zero}
 use Rattle.nodes.proofs.Read.{plain-value, read-plain}
 use Rattle.updates.specs.Built.{Built}
 use Rattle.updates.specs.SetChild.{setChild}
-use Rattle.updates.specs.Build.{wordAside, valueAside, putBack, childOf}
+use Rattle.updates.specs.Build.{wordAside, childOf}
+use Rattle.updates.specs.Staged.{nodeCopy}
 use Rattle.updates.proofs.Claims.{Held, Fine, Placed, Changed}
 use Rattle.updates.proofs.Prefixes.{putBack-changed, putBack-held}
 use Rattle.updates.proofs.SetChild.{set-placed, set-held}
@@ -45,13 +47,13 @@ module _ (layout : Layout) (m : Memory) where
     pub bare : Node
     pub reads : read layout m (wordAside layout m p w) ≡ some bare
     pub empty : bare .value ≡ none
-    pub value : X .value ≡ valueAside layout m p
-    pub clear : (v : ℕ) → valueAside layout m p ≡ some v → v < 2147483648
+    pub value : X .value ≡ pointerValue m p
+    pub clear : (v : ℕ) → pointerValue m p ≡ some v → v < 2147483648
     pub child : (y : ℕ) → X .child y ≡ bare .child y
     pub cells : (c : ℕ) → occurrences c (bare .cells) ≤ occurrences c (X .cells)
 
   -- a node with no value is left as it is
-  aside-none : (w : ℕ) (p : Pointer) (X : Node) → wordAside layout m p w ≡ w → valueAside layout m p ≡ none → read layout m w ≡ some X
+  aside-none : (w : ℕ) (p : Pointer) (X : Node) → wordAside layout m p w ≡ w → pointerValue m p ≡ none → read layout m w ≡ some X
       → X .value ≡ none → Aside w p X
   aside-none w p X same no-value node empty =
       record {
@@ -65,7 +67,7 @@ module _ (layout : Layout) (m : Memory) where
       }
 
   aside-of : (w : ℕ) (p : Pointer) (X : Node) → pointer layout w ≡ p → read layout m w ≡ some X → readAt layout m p ≡ some X → Aside w p X
-  unfolding wordAside valueAside readAt
+  unfolding wordAside pointerValue readAt
   aside-of w nothing X named node at =
       let is : childless none ≡ X = cc in aside-none w nothing X refl refl node (ap (λ (Z : Node). Z .value) (sym is))
   aside-of w (leaf v) X named node at =
@@ -98,16 +100,11 @@ module _ (layout : Layout) (m : Memory) where
   pub aside : (w : ℕ) (X : Node) → read layout m w ≡ some X → Aside w (pointer layout w) X
   aside w X node = aside-of w (pointer layout w) X refl node (sym (read-is layout m w _ refl) ∙ node)
 
--- a child of any node set: its value set aside, the child set, the value put back
-abbrev pub nodeSet : Layout → (ℕ → ℕ) → Memory → ℕ → ℕ → Built → Built
-nodeSet layout number m w x b =
-    putBack layout number (valueAside layout m (pointer layout w)) (setChild layout number m (pointer layout (wordAside layout m (pointer layout w) w)) x b)
-
 module _ (layout : Layout) (small : layout .cells ≤ cellLimit) (number : ℕ → ℕ) (m m′ : Memory)
     (bytes : (c : ℕ) → IsBytes (m c)) (whole : (c : ℕ) → length (m c) ≡ 32) where
-  pub node-held : (w x : ℕ) (b : Built) → Held layout number m′ (nodeSet layout number m w x b) → Held layout number m′ b
+  pub node-held : (w x : ℕ) (b : Built) → Held layout number m′ (nodeCopy layout number m w x b) → Held layout number m′ b
   node-held w x b held =
-      set-held layout small number m m′ bytes whole _ x b (putBack-held layout small number m′ (valueAside layout m (pointer layout w)) _ held)
+      set-held layout small number m m′ bytes whole _ x b (putBack-held layout small number m′ (pointerValue m (pointer layout w)) _ held)
 
   module _ (w : ℕ) (X : Node) (node : read layout m w ≡ some X) (agree : Agree m m′ (X .cells)) (x : ℕ) (near : x < 256)
       (b : Built) (nonzero : b .word ≢ 0) (fine : Fine layout number b) where
@@ -120,8 +117,8 @@ module _ (layout : Layout) (small : layout .cells ≤ cellLimit) (number : ℕ �
         set-placed layout small number m m′ bytes whole (wordAside layout m (pointer layout w) w) (n .bare) x b (n .reads) (n .empty)
         (agree-less m m′ (X .cells) (n .bare .cells) (λ c h. omega (arith, n .cells c)) agree) near nonzero fine held
 
-    pub node-changed : Held layout number m′ (nodeSet layout number m w x b) → Changed layout number m′ X x b (nodeSet layout number m w x b)
+    pub node-changed : Held layout number m′ (nodeCopy layout number m w x b) → Changed layout number m′ X x b (nodeCopy layout number m w x b)
     node-changed held =
         let n = aside layout m w X node in
-        putBack-changed layout small number m′ (valueAside layout m (pointer layout w)) (n .clear) X (n .bare) x b _ (n .value) (n .child) (n .cells)
+        putBack-changed layout small number m′ (pointerValue m (pointer layout w)) (n .clear) X (n .bare) x b _ (n .value) (n .child) (n .cells)
         held bare-placed

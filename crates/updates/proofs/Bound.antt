@@ -14,16 +14,17 @@ use Rattle.cells.proofs.Choice.{never}
 use Rattle.nodes.specs.Layout.{Layout}
 use Rattle.nodes.specs.Pointer.{Pointer, pointer}
 use Rattle.nodes.specs.Pointer.Pointer.{nothing, leaf, chain, split, sparse, prefix, invalid}
-use Rattle.nodes.specs.Chain.{chainCharacter, chainChild}
+use Rattle.nodes.specs.Chain.{chainCharacter}
 use Rattle.nodes.specs.Sparse.{sparseCharacter, sparseWord, sparseCount, positionOf, childFrom, sparseChild}
 use Rattle.nodes.specs.Node.{Node, childless, plain, readAt, read}
+use Rattle.nodes.specs.Value.{pointerValue}
 use Rattle.nodes.proofs.Pointers.{pointer-zero}
 use Rattle.nodes.proofs.Frame.{sparse-cut, prefix-cut, read-is, read-zero}
-use Rattle.staging.specs.NewCells.{sparsePair, replacedCell, appendedCell}
+use Rattle.staging.specs.NewCells.{replacedCell, appendedCell}
 use Rattle.updates.specs.Built.{Built, allocate, roomOf, characterBefore, chainWith, chainOver}
 use Rattle.updates.specs.SplitBuild.{splitOf, splitCopied}
 use Rattle.updates.specs.SetChild.{withChild, chainSet, sparseSet, setChild}
-use Rattle.updates.specs.Build.{wordAside, valueAside, putBack, childOf, pathCopy, valueAt, build}
+use Rattle.updates.specs.Build.{wordAside, putBack, childOf, pathCopy, valueAt, build}
 use Rattle.updates.proofs.SplitBound.{split-sparse-most}
 
 -- a character at none of so many positions has no child there
@@ -161,7 +162,7 @@ module _ (number : ℕ → ℕ) where
     -- a path copied, where the rule at its end allocates at most one cell, and none at NONE
     module _ (atEnd : ℕ → Built) (one : (word : ℕ) → length (atEnd word .cells) ≤ 1) (empty : length (atEnd 0 .cells) ≤ 0) where
       from-none : (key : List ℕ) → length (pathCopy layout number m atEnd 0 key .cells) ≤ length key
-      unfolding pathCopy valueAside wordAside putBack setChild childOf
+      unfolding pathCopy pointerValue wordAside putBack setChild childOf
       from-none [] = empty
       from-none (x ∷ key) =
           rw (pointer-zero layout, read-zero layout m, pointer-zero layout)
@@ -175,16 +176,16 @@ module _ (number : ℕ → ℕ) where
           let below : Built = pathCopy layout number m atEnd (childOf (read layout m word) x) key in
           joined below (setChild layout number m beside x below)
           (pathCopy-bound (childOf (read layout m word) x) key)
-          (putBack-most (valueAside layout m (pointer layout word)) (setChild layout number m beside x below))
+          (putBack-most (pointerValue m (pointer layout word)) (setChild layout number m beside x below))
           (setChild-sized beside x below)
           (λ c e h. subst (λ (w : ℕ). length (pathCopy layout number m atEnd w key .cells) ≤ length key) (sym (word-lacks word c x e h)) (from-none key))
         where
           joined : (below after : Built) → length (below .cells) ≤ 4 * length key + 10
-              → length (putBack layout number (valueAside layout m (pointer layout word)) after .cells) ≤ 1 + length (after .cells)
+              → length (putBack layout number (pointerValue m (pointer layout word)) after .cells) ≤ 1 + length (after .cells)
               → SizedOr (LacksAt (pointer layout (wordAside layout m (pointer layout word) word)) x) (leastSet (pointer layout (wordAside layout m (pointer layout word) word)))
               (length (below .cells) + 3) (length (below .cells) + 13) after
               → ((c : ℕ) → pointer layout (wordAside layout m (pointer layout word) word) ≡ sparse c → Lacks (m c) x → length (below .cells) ≤ length key)
-              → length (putBack layout number (valueAside layout m (pointer layout word)) after .cells) ≤ 4 * suc (length key) + 10
+              → length (putBack layout number (pointerValue m (pointer layout word)) after .cells) ≤ 4 * suc (length key) + 10
           joined below after before back (inl h) short = omega (arith, h .high)
           joined below after before back (inr h) short = let few = short (h .0 .0) (h .0 .1) (h .0 .2) in omega (arith, few, h .1 .high)
 
@@ -212,8 +213,8 @@ module _ (number : ℕ → ℕ) where
     setChild-least p x b = ⊎-elim (λ h. h .low) (λ h. h .1 .low) (setChild-sized p x b)
 
     step-least : (word x : ℕ) (b : Built) (p : Pointer) → pointer layout word ≡ p → p ≢ invalid
-        → 1 ≤ length (putBack layout number (valueAside layout m p) (setChild layout number m (pointer layout (wordAside layout m p word)) x b) .cells)
-    unfolding putBack valueAside wordAside allocate leastSet
+        → 1 ≤ length (putBack layout number (pointerValue m p) (setChild layout number m (pointer layout (wordAside layout m p word)) x b) .cells)
+    unfolding putBack pointerValue wordAside allocate leastSet
     step-least word x b nothing is named = rw is (setChild-least nothing x b)
     step-least word x b (leaf v) is named = omega arith
     step-least word x b (chain c k) is named = rw is (setChild-least (chain c k) x b)

@@ -7,7 +7,6 @@ use Rattle.cells.specs.Bytes.{IsBytes}
 use Rattle.cells.specs.Memory.{Memory}
 use Rattle.cells.proofs.Words.{bytes-tail}
 use Rattle.nodes.specs.Layout.{Layout}
-use Rattle.nodes.specs.Pointer.{wordTo}
 use Rattle.staging.specs.NewCells.{blank}
 use Rattle.staging.proofs.CellBytes.{IsCell, blank-cell, chain-cell, prefix-cell, sparsePair-cell, sparseCopy-cell, appended-cell, words-cell, headCopy-cell, tableCopy-cell, set-cell, word-cell}
 use Rattle.updates.specs.Built.{Built, room, firstUsed}

@@ -49,10 +49,9 @@ pub record KeyChanged (layout : Layout) (free : List ℕ) (m m′ : Memory) (d w
   pub valid : tree layout m′ d (b .word) ≡ some cells
   -- no cell is visited twice where none was
   pub once : ((c : ℕ) → occurrences c cs ≤ 1) → (c : ℕ) → occurrences c cells ≤ 1
-  -- the cells visited are old ones and each of those taken, which are free ones
+  -- the cells visited are old ones and each of those taken
   pub most : (c : ℕ) → occurrences c cells ≤ occurrences c cs + occurrences c (taken layout free b)
   pub least : (c : ℕ) → occurrences c (taken layout free b) ≤ occurrences c cells
-  pub were-free : (c : ℕ) → occurrences c (taken layout free b) ≤ occurrences c free
   pub newly : (c : ℕ) → 1 ≤ occurrences c free → 1 ≤ occurrences c cells → 1 ≤ occurrences c (taken layout free b)
   -- of the free cells as many are now visited as were allocated
   pub count : length (select (λ c. leb 1 (occurrences c cells)) free) ≡ length (b .cells)
@@ -136,7 +135,6 @@ module _ (layout : Layout) (small : layout .cells ≤ cellLimit) (free : List �
               (omega (arith, once c, less c)) (avoids c);
           most = grown .most;
           least = grown .least;
-          were-free = less;
           newly = newly;
           count = taken-count layout free once (b .cells) enough (λ c. leb 1 (occurrences c (grown .cells)))
               (λ c h. le-leb 1 (occurrences c (grown .cells)) (omega (arith, grown .least c)))

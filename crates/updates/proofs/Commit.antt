@@ -12,7 +12,7 @@ use borrow.Author.Tests.{eq-eqb, ne-eqb}
 use Rattle.cells.specs.Memory.{Memory, memoryOf}
 use Rattle.cells.specs.Writes.{written, cellWrites}
 use Rattle.cells.specs.Occurrences.{occurrences}
-use Rattle.cells.proofs.Occurrences.{occurrences-append, occurrences-same, occurrences-here, occurrences-later, Agree}
+use Rattle.cells.proofs.Occurrences.{occurrences-append, occurrences-same, occurrences-here, occurrences-later}
 use Rattle.cells.proofs.CellWrites.{written-length, written-append, cell-written-same, cell-written-other}
 use Rattle.nodes.specs.Layout.{Layout, usable, cellLimit}
 use Rattle.nodes.proofs.Pointers.{usable-low, usable-inside}
@@ -54,10 +54,7 @@ module _ (number : ℕ → ℕ) (m : Memory) where
       memoryWith-next number m newest rest c (λ e. omega (arith, numbers-same number newest rest c e))
       ∙ memoryWith-other rest c (omega (arith, numbers-later number newest rest c))
 
-  pub memoryWith-agrees : (cells : List (List ℕ)) (cs : List ℕ) → ((c : ℕ) → 1 ≤ occurrences c cs → occurrences c (numbers number cells) ≡ 0)
-      → Agree m (memoryWith number m cells) cs
-  memoryWith-agrees cells cs apart = λ c h. sym (memoryWith-other cells c (apart c h))
-
+  -- the allocated cells stand where the memory has them, their numbers are usable and no two of them the same
   module _ (layout : Layout) where
     pub holds-of : (m′ : Memory) (cells : List (List ℕ)) → ((c : ℕ) → 1 ≤ occurrences c (numbers number cells) → usable layout c ≡ true)
         → ((c : ℕ) → occurrences c (numbers number cells) ≤ 1)
@@ -73,11 +70,6 @@ module _ (number : ℕ → ℕ) (m : Memory) where
               (λ d h. same d (omega (arith, numbers-later number newest rest d))
               ∙ memoryWith-next number m newest rest d (λ e. omega (arith, once d, numbers-same number newest rest d e))),
         )
-
-    -- every allocated cell stands at its number, where these are usable and no two of them the same
-    pub memoryWith-holds : (cells : List (List ℕ)) → ((c : ℕ) → 1 ≤ occurrences c (numbers number cells) → usable layout c ≡ true)
-        → ((c : ℕ) → occurrences c (numbers number cells) ≤ 1) → Holds layout number (memoryWith number m cells) cells
-    memoryWith-holds cells free once = holds-of (memoryWith number m cells) cells free once (λ c h. refl)
 
 -- the writes of a build put its cells into the memory of the block
 pub written-memory : (number : ℕ → ℕ) (b : List ℕ) (cells : List (List ℕ)) → Whole cells
@@ -147,24 +139,9 @@ module _ (layout : Layout) (free : List ℕ) (each : (c : ℕ) → 1 ≤ occurre
       high i (inl e) = omega arith
       high i (inr h) = omega (arith, usable-inside layout (getD free i (layout .cells - 1)) (each _ h))
 
-  module _ (cells : List (List ℕ)) (enough : length cells ≤ length free) where
-    -- every allocated cell stands at its number, and every cell that is not free is as it was
-    pub free-holds : (m : Memory) → ((c : ℕ) → occurrences c free ≤ 1)
-        → Holds layout (numberFrom layout free) (memoryWith (numberFrom layout free) m cells) cells
-    free-holds m once =
-        memoryWith-holds (numberFrom layout free) m layout cells
-        (λ c h. each c (omega (arith, numbers-free layout free cells enough c)))
-        (λ c. omega (arith, once c, numbers-free layout free cells enough c))
-
-    pub free-agrees : (m : Memory) (cs : List ℕ) → ((c : ℕ) → 1 ≤ occurrences c cs → occurrences c free ≡ 0)
-        → Agree m (memoryWith (numberFrom layout free) m cells) cs
-    free-agrees m cs apart =
-        memoryWith-agrees (numberFrom layout free) m cells cs
-        (λ c h. omega (arith, apart c h, numbers-free layout free cells enough c))
-
-    -- and so it is in a block of the layout's size after the writes
-    pub free-written : (b : List ℕ) → Whole cells → layout .cells * 32 ≤ length b
-        → (c : ℕ) → memoryOf (written b (buildWrites (numberFrom layout free) cells)) c ≡ memoryWith (numberFrom layout free) (memoryOf b) cells c
-    free-written b whole size =
-        written-memory (numberFrom layout free) b cells whole
-        (λ c h. omega (arith, size, usable-inside layout c (each c (omega (arith, numbers-free layout free cells enough c)))))
+  -- the writes of a build put its cells into a block of the layout's size
+  pub free-written : (cells : List (List ℕ)) → length cells ≤ length free → (b : List ℕ) → Whole cells → layout .cells * 32 ≤ length b
+      → (c : ℕ) → memoryOf (written b (buildWrites (numberFrom layout free) cells)) c ≡ memoryWith (numberFrom layout free) (memoryOf b) cells c
+  free-written cells enough b whole size =
+      written-memory (numberFrom layout free) b cells whole
+      (λ c h. omega (arith, size, usable-inside layout c (each c (omega (arith, numbers-free layout free cells enough c)))))

@@ -17,6 +17,7 @@ use Rattle.nodes.specs.Layout.{Layout, cellLimit}
 use Rattle.nodes.specs.Pointer.{Pointer, pointer}
 use Rattle.nodes.specs.Pointer.Pointer.{nothing, leaf, chain, split, sparse, prefix, invalid}
 use Rattle.nodes.specs.Node.{Node, plain, read}
+use Rattle.nodes.specs.Value.{pointerValue}
 use Rattle.trees.specs.Tree.{tree}
 use Rattle.trees.specs.Lookup.{lookup, assign}
 use Rattle.trees.specs.Root.{isRoot}
@@ -24,14 +25,15 @@ use Rattle.trees.proofs.Tree.{tree-cut, tree-below, lookup-zero}
 use Rattle.trees.proofs.Keys.{same-key-refl}
 use Rattle.updates.specs.Built.{Built}
 use Rattle.updates.specs.SetChild.{setChild}
-use Rattle.updates.specs.Build.{wordAside, valueAside, putBack, childOf, pathCopy}
+use Rattle.updates.specs.Build.{wordAside, putBack, childOf, pathCopy}
+use Rattle.updates.specs.Staged.{nodeCopy}
 use Rattle.updates.proofs.Claims.{Held, Fine, Placed, Grown}
-use Rattle.updates.proofs.Aside.{child-of, aside, nodeSet, node-held, bare-placed, node-changed}
+use Rattle.updates.proofs.Aside.{child-of, aside, node-held, bare-placed, node-changed}
 use Rattle.updates.proofs.Grow.{grow}
 
 -- a root has no value, and a chain, sparse or split is one
-root-value : (layout : Layout) (m : Memory) (p : Pointer) → isRoot p ≡ true → valueAside layout m p ≡ none
-unfolding isRoot valueAside
+root-value : (layout : Layout) (m : Memory) (p : Pointer) → isRoot p ≡ true → pointerValue m p ≡ none
+unfolding isRoot pointerValue
 root-value layout m nothing root = refl
 root-value layout m (leaf v) root = absurd-false root
 root-value layout m (chain c k) root = refl
@@ -120,7 +122,7 @@ module _ (layout : Layout) (small : layout .cells ≤ cellLimit) (number : ℕ �
         let changed = node-changed layout small number m m′ bytes whole w (s .node) (s .reads) (s .agree) x near b nonzero (later .0) held in (
           changed .fine,
           grow layout small number m m′ bytes d w cs found agree (s .node) (s .reads) x near (s .cells) (ap (tree layout m d) (sym (s .child)) ∙ s .found)
-              key assigned b (nodeSet layout number m w x b) changed
+              key assigned b (nodeCopy layout number m w x b) changed
               (subst (λ v. Grown layout number m m′ d v (s .cells) key assigned b) (s .child) (later .1)),
         )
 
@@ -138,6 +140,6 @@ module _ (layout : Layout) (small : layout .cells ≤ cellLimit) (number : ℕ �
         let s = descend layout m m′ d w x cs near found agree in
         let later =
         law key (bytes-tail x key is-bytes) d u (s .cells) (omega arith) (s .found) (s .agree-below) (node-held layout small number m m′ bytes whole w x b held) in
-        bare-root layout number m′ (valueAside layout m (pointer layout w)) (root-value layout m (pointer layout w) root)
+        bare-root layout number m′ (pointerValue m (pointer layout w)) (root-value layout m (pointer layout w) root)
         (aside layout m w (s .node) (s .reads) .bare) x b (setChild layout number m (pointer layout (wordAside layout m (pointer layout w) w)) x b) held
         (bare-placed layout small number m m′ bytes whole w (s .node) (s .reads) (s .agree) x near b (assigned-nonzero layout number m m′ d u (s .cells) key assigned b (later .1) a-value) (later .0))

@@ -20,6 +20,7 @@ use Rattle.nodes.specs.Pointer.Pointer.{nothing, leaf, chain, split, sparse, pr
 use Rattle.nodes.specs.Split.{headWord, under, midCells, headCells, wordBelow}
 use Rattle.nodes.specs.Prefix.{prefixValue, prefixLink}
 use Rattle.nodes.specs.Node.{Node, chainNode, readAt, read}
+use Rattle.nodes.specs.Value.{pointerValue}
 use Rattle.nodes.proofs.Pointers.{pointer-zero}
 use Rattle.nodes.proofs.Gather.{gather-at}
 use Rattle.nodes.proofs.Frame.{end-agree, mid-agree, below-same, head-is, mid-ends, chain-cut, split-cut, sparse-cut, prefix-cut, read-is, plain-read}
@@ -30,8 +31,9 @@ use Rattle.staging.specs.NewCells.{blank, tableCopy, headCopy, prefixCell}
 use Rattle.updates.specs.Built.{Built, allocate}
 use Rattle.updates.specs.SplitBuild.{splitCopied}
 use Rattle.updates.specs.SetChild.{chainSet, sparseSet, setChild}
-use Rattle.updates.specs.Build.{wordAside, valueAside, putBack, childOf, pathCopy, valueAt, build, cellsNeeded}
-use Rattle.updates.proofs.Aside.{child-of, nodeSet}
+use Rattle.updates.specs.Build.{wordAside, putBack, childOf, pathCopy, valueAt, build, cellsNeeded}
+use Rattle.updates.specs.Staged.{nodeCopy}
+use Rattle.updates.proofs.Aside.{child-of}
 use mathlib.Core.Bool.{cond}
 
 -- the cells of a split's copy, by the bytes that they are copied from
@@ -109,9 +111,9 @@ module _ (layout : Layout) (m m′ : Memory) where
         (setChild-frame (pointer layout (prefixLink c (m c))) (q .0) linked (agree-tail m m′ c (q .0 .footprint) agree′))
 
     node-same : (w : ℕ) (p : Pointer) (X : Node) → pointer layout w ≡ p → readAt layout m p ≡ some X → Agree m m′ (X .footprint)
-        → putBack layout number (valueAside layout m′ p) (setChild layout number m′ (pointer layout (wordAside layout m′ p w)) x b)
-        ≡ putBack layout number (valueAside layout m p) (setChild layout number m (pointer layout (wordAside layout m p w)) x b)
-    unfolding valueAside wordAside setChild
+        → putBack layout number (pointerValue m′ p) (setChild layout number m′ (pointer layout (wordAside layout m′ p w)) x b)
+        ≡ putBack layout number (pointerValue m p) (setChild layout number m (pointer layout (wordAside layout m p w)) x b)
+    unfolding pointerValue wordAside setChild
     node-same w nothing X named e agree = ap (putBack layout number none) (rw named)
     node-same w (leaf v) X named e agree = ap (putBack layout number (some v)) (rw (pointer-zero layout))
     node-same w (chain c k) X named e agree =
@@ -123,9 +125,9 @@ module _ (layout : Layout) (m m′ : Memory) where
     node-same w (prefix c) X named e agree = prefix-same c X e agree
     node-same w invalid X named e agree = ap (putBack layout number none) (rw named)
 
-    pub nodeSet-frame : (w : ℕ) (X : Node) → read layout m w ≡ some X → Agree m m′ (X .footprint)
-        → nodeSet layout number m′ w x b ≡ nodeSet layout number m w x b
-    nodeSet-frame w X node agree = node-same w (pointer layout w) X refl (sym (read-is layout m w _ refl) ∙ node) agree
+    pub nodeCopy-frame : (w : ℕ) (X : Node) → read layout m w ≡ some X → Agree m m′ (X .footprint)
+        → nodeCopy layout number m′ w x b ≡ nodeCopy layout number m w x b
+    nodeCopy-frame w X node agree = node-same w (pointer layout w) X refl (sym (read-is layout m w _ refl) ∙ node) agree
 
   -- a value set at the key's end
   pub valueAt-frame : (number : ℕ → ℕ) (value w : ℕ) (p : Pointer) (X : Node) → readAt layout m p ≡ some X → Agree m m′ (X .footprint)
@@ -165,9 +167,9 @@ module _ (layout : Layout) (small : layout .cells ≤ cellLimit) (m : Memory) (b
       let later =
       build-frame number value key (bytes-tail x key is-bytes) d u (l .0) (omega arith) (ap (tree layout m d) old ∙ l .1)
       (agree-less m m′ cs (l .0) (λ c h. omega (arith, l .2 c)) agree) in
-      ap (λ v. nodeSet layout number m′ w x (build layout number m′ v key value)) child
-      ∙ ap (nodeSet layout number m′ w x) later
-      ∙ nodeSet-frame layout m m′ number x near (build layout number m u key value) w (q .0) (q .2) here
+      ap (λ v. nodeCopy layout number m′ w x (build layout number m′ v key value)) child
+      ∙ ap (nodeCopy layout number m′ w x) later
+      ∙ nodeCopy-frame layout m m′ number x near (build layout number m u key value) w (q .0) (q .2) here
 
   -- the cells needed are as many
   pub needed-frame : (key : List ℕ) → IsBytes key → (d w : ℕ) (cs : List ℕ) → length key ≤ d → tree layout m d w ≡ some cs → Agree m m′ cs

@@ -1,6 +1,6 @@
 -- Two builds of one change, under two numberings, are related wherever the words of new cells are: the law over every
 -- step of a build, of which the counts, the bytes and the numbers of a build are instances.
-use mathlib.Core.Path.{_≡_, refl, sym, ap, _∙_, subst}
+use mathlib.Core.Path.{_≡_, refl, ap, _∙_, subst}
 use mathlib.Core.Bool.{Bool, true, false, cond}
 use mathlib.Core.List.{List, [], _∷_}
 use mathlib.Core.Option.{Option, none, some}
@@ -14,14 +14,15 @@ use Rattle.nodes.specs.Layout.{Layout}
 use Rattle.nodes.specs.Pointer.{Pointer, pointer, leafWord, wordTo}
 use Rattle.nodes.specs.Pointer.Pointer.{nothing, leaf, chain, split, sparse, prefix, invalid}
 use Rattle.nodes.specs.Chain.{chainCharacter, chainChild}
-use Rattle.nodes.specs.Sparse.{someWord, sparseCount, positionOf, sparseChild}
+use Rattle.nodes.specs.Sparse.{someWord, sparseCount, positionOf}
 use Rattle.nodes.specs.Split.{headWord, wordBelow}
 use Rattle.nodes.specs.Node.{read}
+use Rattle.nodes.specs.Value.{pointerValue}
 use Rattle.staging.specs.NewCells.{blank, chainCell, prefixCell, sparsePair, replacedCell, appendedCell, tableCopy, headCopy, withWords}
 use Rattle.updates.specs.Built.{Built, unowned, allocate, room, roomOf, firstUsed, firstUsedOf, characterBefore, chainWith, chainOver}
 use Rattle.updates.specs.SplitBuild.{Row, tableRow, rows, endRow, midRow, splitOf, splitCopied}
-use Rattle.updates.specs.SetChild.{withChild, chainSet, sparseSet, setChild}
-use Rattle.updates.specs.Build.{wordAside, valueAside, putBack, childOf, pathCopy, valueAt, build}
+use Rattle.updates.specs.SetChild.{chainSet, sparseSet, setChild}
+use Rattle.updates.specs.Build.{wordAside, putBack, childOf, pathCopy, valueAt, build}
 use Rattle.updates.proofs.Rooms.{room-most}
 
 -- what holds of every cell that a build writes, by the ways to write one; the characters of its key are `Character`
@@ -266,7 +267,7 @@ module _ (Words : ℕ → ℕ → ℕ → Type 0) (Cells : ℕ → List ℕ → 
       unfolding pathCopy
       pathCopy-related atEnd atEnd′ h word [] is = h word
       pathCopy-related atEnd atEnd′ h word (x ∷ key) is =
-          putBack-related (valueAside layout m (pointer layout word)) _ _
+          putBack-related (pointerValue m (pointer layout word)) _ _
           (setChild-related (pointer layout (wordAside layout m (pointer layout word) word)) x _ _ (is .0)
           (pathCopy-related atEnd atEnd′ h (childOf (read layout m word) x) key (is .1)))
 

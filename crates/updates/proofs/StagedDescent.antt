@@ -11,34 +11,18 @@ use lib.ListN.{length, getD, set, drop, length-drop, drop-of-length-le}
 use lib.Seq.{drop-cons, getD-set-same, getD-set-other}
 use Rattle.cells.specs.Memory.{Memory}
 use Rattle.nodes.specs.Layout.{Layout, keyLimit}
-use Rattle.nodes.specs.Pointer.{Pointer, pointer}
-use Rattle.nodes.specs.Pointer.Pointer.{nothing, leaf, chain, split, sparse, prefix, invalid}
+use Rattle.nodes.specs.Pointer.{pointer}
 use Rattle.nodes.specs.Node.{Node, read}
 use Rattle.nodes.specs.Value.{pointerValue, valueOf}
 use Rattle.trees.specs.Tree.{tree}
 use Rattle.trees.proofs.Tree.{tree-cut, tree-below}
 use Rattle.updates.specs.Built.{Built, allocate}
 use Rattle.updates.specs.SetChild.{setChild}
-use Rattle.updates.specs.Build.{wordAside, valueAside, putBack, childOf, pathCopy, valueAt, build}
+use Rattle.updates.specs.Build.{wordAside, putBack, childOf, pathCopy, valueAt, build}
 use Rattle.updates.specs.Staged.{Fitting, HasTree, nodeCopy, reached, Path}
 use Rattle.updates.proofs.Bound.{build-bound}
 use Rattle.updates.proofs.Aside.{aside}
 use Rattle.updates.proofs.Aside.{child-of}
-
--- the value of a node is the one set aside
-value-aside : (layout : Layout) (m : Memory) (p : Pointer) → pointerValue m p ≡ valueAside layout m p
-unfolding pointerValue valueAside
-value-aside layout m nothing = refl
-value-aside layout m (leaf v) = refl
-value-aside layout m (chain c k) = refl
-value-aside layout m (split c) = refl
-value-aside layout m (sparse c) = refl
-value-aside layout m (prefix c) = refl
-value-aside layout m invalid = refl
-
-held-aside : (layout : Layout) (m : Memory) (word : ℕ) → valueOf layout m word ≡ valueAside layout m (pointer layout word)
-unfolding valueOf
-held-aside layout m word = value-aside layout m (pointer layout word)
 
 -- a word that has a tree names a node, and so does the word without its value
 module _ (layout : Layout) (m : Memory) (word left : ℕ) (has : HasTree layout m word left) where
@@ -127,14 +111,14 @@ module _ (layout : Layout) (number : ℕ → ℕ) (m : Memory) where
     pub set-fits : Fitting (nodeCopy layout number m word x below) → Fitting (setChild layout number m (pointer layout bare) x below)
     set-fits fits =
         subst Fitting (sym set-is)
-        (omega (arith, fits, putBack-grows (valueAside layout m (pointer layout word)) (setChild layout number m (pointer layout (wordAside layout m (pointer layout word) word)) x below)))
+        (omega (arith, fits, putBack-grows (pointerValue m (pointer layout word)) (setChild layout number m (pointer layout (wordAside layout m (pointer layout word) word)) x below)))
 
     pub copy-is : (placed : Built) (held : Option ℕ) → placed ≡ setChild layout number m (pointer layout bare) x below → held ≡ valueOf layout m word
         → putBack layout number held placed ≡ nodeCopy layout number m word x below
     copy-is placed held is aside-is =
         ap (putBack layout number held) (is ∙ set-is)
         ∙ ap (λ (o : Option ℕ). putBack layout number o (setChild layout number m (pointer layout (wordAside layout m (pointer layout word) word)) x below))
-        (aside-is ∙ held-aside layout m word)
+        (unfold valueOf in aside-is)
 
     pub back-fits : (placed : Built) (held : Option ℕ) → placed ≡ setChild layout number m (pointer layout bare) x below → held ≡ valueOf layout m word
         → Fitting (nodeCopy layout number m word x below) → Fitting (putBack layout number held placed)

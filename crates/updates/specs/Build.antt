@@ -7,7 +7,8 @@ use Rattle.cells.specs.Memory.{Memory}
 use Rattle.nodes.specs.Layout.{Layout}
 use Rattle.nodes.specs.Pointer.{Pointer, pointer, leafWord}
 use Rattle.nodes.specs.Pointer.Pointer.{nothing, leaf, chain, split, sparse, prefix, invalid}
-use Rattle.nodes.specs.Prefix.{prefixValue, prefixLink}
+use Rattle.nodes.specs.Prefix.{prefixLink}
+use Rattle.nodes.specs.Value.{pointerValue}
 use Rattle.nodes.specs.Node.{Node, read}
 use Rattle.staging.specs.NewCells.{prefixCell}
 use Rattle.updates.specs.Built.{Built, allocate, unowned}
@@ -22,16 +23,6 @@ wordAside layout m (split c) word = word
 wordAside layout m (sparse c) word = word
 wordAside layout m (prefix c) word = prefixLink c (m c)
 wordAside layout m invalid word = word
-
--- the value set aside
-unfoldable pub valueAside : Layout → Memory → Pointer → Option ℕ
-valueAside layout m nothing = none
-valueAside layout m (leaf v) = some v
-valueAside layout m (chain c k) = none
-valueAside layout m (split c) = none
-valueAside layout m (sparse c) = none
-valueAside layout m (prefix c) = some (prefixValue (m c))
-valueAside layout m invalid = none
 
 -- 01: "then put the value back with a new prefix cell"
 unfoldable pub putBack : Layout → (ℕ → ℕ) → Option ℕ → Built → Built
@@ -48,7 +39,7 @@ pathCopy layout number m atEnd word [] = atEnd word
 pathCopy layout number m atEnd word (x ∷ key) =
     let here = pointer layout word in
     let below = pathCopy layout number m atEnd (childOf (read layout m word) x) key in
-    putBack layout number (valueAside layout m here) (setChild layout number m (pointer layout (wordAside layout m here word)) x below)
+    putBack layout number (pointerValue m here) (setChild layout number m (pointer layout (wordAside layout m here word)) x below)
 
 -- 01: "At the label's end: NONE or leaf becomes a leaf. A prefix is replaced by a new prefix cell to the same linked node;
 -- any other node gets a new prefix cell."

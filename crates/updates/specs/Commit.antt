@@ -1,11 +1,10 @@
 -- The allocated cells as writes, and as a memory.
 use mathlib.Core.List.{List, [], _∷_, _++_}
-use Prim.Native.Nat.{ℕ, _-_}
+use Prim.Native.Nat.{ℕ}
 use lib.Dec.{eqb}
-use lib.ListN.{length, getD}
+use lib.ListN.{length}
 use Rattle.cells.specs.Memory.{Memory}
 use Rattle.cells.specs.Writes.{Write, cellWrites}
-use Rattle.nodes.specs.Layout.{Layout}
 use mathlib.Core.Bool.{cond}
 
 -- eight word writes for each cell, in the order allocated

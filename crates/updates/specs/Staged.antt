@@ -9,11 +9,12 @@ use Rattle.cells.specs.Memory.{Memory}
 use Rattle.nodes.specs.Layout.{Layout}
 use Rattle.nodes.specs.Pointer.{pointer, leafWord}
 use Rattle.nodes.specs.Node.{read}
+use Rattle.nodes.specs.Value.{pointerValue}
 use Rattle.trees.specs.Tree.{tree}
 use Rattle.updates.specs.Built.{Built}
 use Rattle.updates.specs.SplitBuild.{Row}
 use Rattle.updates.specs.SetChild.{setChild}
-use Rattle.updates.specs.Build.{wordAside, valueAside, putBack, childOf}
+use Rattle.updates.specs.Build.{wordAside, putBack, childOf}
 use Rattle.staging.specs.Stage.{stageCells, staged}
 use Rattle.staging.specs.declared.stage.Made.{Made}
 
@@ -52,7 +53,7 @@ pub record HasTree (layout : Layout) (m : Memory) (word left : ℕ) : Type 0 whe
 -- one node of a path copied, over what is built below it
 abbrev pub nodeCopy : Layout → (ℕ → ℕ) → Memory → ℕ → ℕ → Built → Built
 nodeCopy layout number m word x below =
-    putBack layout number (valueAside layout m (pointer layout word)) (setChild layout number m (pointer layout (wordAside layout m (pointer layout word) word)) x below)
+    putBack layout number (pointerValue m (pointer layout word)) (setChild layout number m (pointer layout (wordAside layout m (pointer layout word) word)) x below)
 
 -- the word that a descent by a key reaches after so many of its characters
 unfoldable pub reached : Layout → Memory → ℕ → List ℕ → ℕ → ℕ
