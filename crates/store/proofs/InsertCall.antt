@@ -1,44 +1,40 @@
--- The law of one insertion on any block.
-use mathlib.Core.Path.{_≡_, refl, sym, ap, _∙_, subst}
+-- The law of one insertion on any block: it is one change of its key.
+use mathlib.Core.Path.{_≡_, sym, ap, _∙_, subst}
 use mathlib.Core.Logic.{_≢_}
 use mathlib.Core.Bool.{true, false, cond}
 use mathlib.Core.Option.{some}
 use mathlib.Core.List.{List}
-use Prim.Native.Nat.{ℕ, _+_, _-_, _*_, _/_, _≤_, _<_}
+use Prim.Native.Nat.{ℕ, _-_, _≤_, _<_}
 use native.Mathlib.Decide.{ℕ-discrete}
 use native.Mathlib.Omega.{arith}
-use lib.Dec.{leb, eqb}
+use lib.Dec.{eqb}
 use lib.ListN.{length}
 use borrow.Author.Tests.{lt-ltb, le-ltb, eq-eqb, ne-eqb, ltb-true, ltb-false, eqb-false, not-false}
 use Rattle.cells.specs.Bytes.{IsBytes}
-use Rattle.cells.specs.Word.{withWord}
 use Rattle.cells.specs.Memory.{memoryOf}
-use Rattle.cells.specs.Writes.{written}
-use Rattle.cells.specs.Occurrences.{occurrences, select}
+use Rattle.cells.specs.Occurrences.{occurrences}
 use Rattle.cells.proofs.Memory.{memory-length, memory-bytes}
-use Rattle.nodes.specs.Layout.{Layout, keyLimit}
-use Rattle.trees.specs.Root.{validRoot, rootCells}
-use Rattle.trees.specs.Lookup.{lookup, update}
-use Rattle.updates.specs.Commit.{memoryWith}
-use Rattle.updates.proofs.BuildBytes.{Whole, build-whole}
+use Rattle.nodes.specs.Layout.{keyLimit}
+use Rattle.trees.specs.Lookup.{update}
+use Rattle.updates.proofs.BuildBytes.{build-whole}
 use Rattle.staging.proofs.CellBytes.{memory-cell}
 use Rattle.updates.proofs.Bound.{build-bound}
 use Rattle.updates.proofs.Taken.{enough-free}
-use Rattle.updates.proofs.ChangeLaw.{KeyChanged, insert-law}
-use Rattle.blocks.specs.Trailer.{badSize, layoutOf, rootWord, slotWord, inUse}
+use Rattle.updates.proofs.ChangeLaw.{insert-law}
+use Rattle.blocks.specs.Trailer.{badSize, layoutOf, rootWord, inUse}
 use Rattle.blocks.specs.Sound.{sound}
 use Rattle.blocks.specs.Refusal.{firstRefusal, overLong, badKey, badNewKey, badValue, Inserted}
 use Rattle.blocks.specs.Read.{shown}
 use Rattle.blocks.specs.Tables.{Exactly}
-use Rattle.blocks.proofs.Trailer.{sized, either-left, either-right, layout-cells, TrailerSays}
-use Rattle.blocks.proofs.Roots.{RootParts, root-parts, root-valid, root-cells, root-bound, sound-parts, root-reachable}
+use Rattle.blocks.proofs.Trailer.{sized, either-left, either-right}
+use Rattle.blocks.proofs.Roots.{root-reachable}
 use Rattle.store.specs.Free.{free}
-use Rattle.store.specs.Insert.{cellsToInsert, noRoom, insertRefusals, numbering, blockBuild, insertWrites, insert}
+use Rattle.store.specs.Insert.{cellsToInsert, noRoom, insertRefusals, numbering, blockBuild, insert}
 use Rattle.store.specs.Laid.{Laid, Lacks, Finds, MayInsert}
 use Rattle.store.proofs.CallAnswers.{insert-answers}
 use Rattle.store.proofs.Free.{free-usable, free-once, free-reached}
-use Rattle.store.proofs.After.{After, after, slotShown, not-trailer, slot-root, old-root-kept}
-use Rattle.store.proofs.Committed.{committed-bytes, committed-cells, committed-trailer, committed-kept, committed-says}
+use Rattle.store.proofs.After.{After, slotShown}
+use Rattle.store.proofs.ChangeCall.{Change, changedBlock, change-after, change-laid}
 
 -- a new key has 1 to as many bytes as the limit, and a value fits
 pub key-some : (key : List ℕ) → badNewKey key ≡ false → 1 ≤ length key
@@ -55,104 +51,35 @@ pub value-fits : (value : ℕ) → badValue value ≡ false → value < 21474836
 unfolding badValue
 value-fits value good = omega (arith, ltb-false 2147483647 value good)
 
--- the block that an insertion leaves where it is done
-abbrev pub leftBlock : List ℕ → List ℕ → ℕ → List ℕ
-leftBlock b key value = written b (insertWrites b (blockBuild b key value))
-
-module _ (b key : List ℕ) (value : ℕ) (bytes : IsBytes b) (is-bytes : IsBytes key) (a : Finds b (MayInsert key value) (cellsToInsert b key)) where
-  build-cells : Whole (blockBuild b key value .cells)
-  unfolding blockBuild
-  build-cells = build-whole (numbering b) (layoutOf b) (memoryOf b) (λ c. memory-cell b c bytes) (rootWord (layoutOf b) b) key value is-bytes
-
-  build-enough : length (blockBuild b key value .cells) ≤ length (free (layoutOf b) b)
-  unfolding blockBuild
-  build-enough =
-      let s = sized b (a .size) in
-      enough-free (layoutOf b) (omega (arith, s .least)) (s .most) (free (layoutOf b) b) (λ c h. free-usable (layoutOf b) b c h) (memoryOf b)
-      (rootWord (layoutOf b) b) key value (value-fits value (a .may .good-value)) (a .enough)
-
-  -- the law of the build, in the memory of the block that is left
-  build-law : (p : RootParts (layoutOf b) (memoryOf b) (rootWord (layoutOf b) b))
-      → KeyChanged (layoutOf b) (free (layoutOf b) b) (memoryOf b) (memoryOf (leftBlock b key value)) keyLimit (rootWord (layoutOf b) b) (p .cells) key (some value)
-      (blockBuild b key value)
-  unfolding blockBuild
-  build-law p =
-      let s = sized b (a .size) in
-      insert-law (layoutOf b) (s .most) (free (layoutOf b) b) (λ c h. free-usable (layoutOf b) b c h) (λ c. free-once (layoutOf b) b c)
-      (memoryOf b) (memoryOf (leftBlock b key value)) (λ c. memory-bytes b c bytes) (λ c. memory-length b c)
-      value (value-fits value (a .may .good-value)) key is-bytes keyLimit (rootWord (layoutOf b) b) (p .cells) (key-fits key (a .may .good-key)) (p .found)
-      (λ c h. free-reached (layoutOf b) b c (omega (arith, h, ap (occurrences c) (p .cells-are), root-reachable (layoutOf b) b c)))
-      build-enough
-      (λ c u. committed-cells b s (blockBuild b key value) build-cells build-enough c (not-trailer (layoutOf b) c u))
-
-  pub record NewRoot : Type 0 where
-    pub cells : List ℕ
-    pub valid : validRoot (layoutOf b) (memoryOf (leftBlock b key value)) (blockBuild b key value .word) ≡ true
-    pub small : blockBuild b key value .word < 4294967296
-    pub table : (k : List ℕ) → lookup (layoutOf b) (memoryOf (leftBlock b key value)) (blockBuild b key value .word) k ≡ update (shown b) key value k
-    pub cells-are : rootCells (layoutOf b) (memoryOf (leftBlock b key value)) (blockBuild b key value .word) ≡ cells
-    pub count : length (select (λ c. leb 1 (occurrences c cells)) (free (layoutOf b) b)) ≡ length (blockBuild b key value .cells)
-
-  new-root : NewRoot
-  unfolding blockBuild
-  new-root =
-      let s = sized b (a .size) in
-      let p = root-parts (layoutOf b) (memoryOf b) (rootWord (layoutOf b) b) (sound-parts (layoutOf b) b (a .valid) .root) in
-      let n = build-law p in
-      let r = n .root (key-some key (a .may .good-key)) (p .root) in
-      record {
-        cells = n .cells;
-        valid = root-valid (layoutOf b) (memoryOf (leftBlock b key value)) (blockBuild b key value .word) (n .cells) r (n .valid) (n .once (p .once));
-        small = root-bound (layoutOf b) (blockBuild b key value .word) (s .most) r;
-        table = n .table;
-        cells-are = root-cells (layoutOf b) (memoryOf (leftBlock b key value)) (blockBuild b key value .word) (n .cells) r (n .valid);
-        count = n .count;
-      }
-
-  -- the block left is sound again, and shows what it did with the key updated; every slot shows what it did
-  inserted-says : TrailerSays b (leftBlock b key value) (blockBuild b key value .word) (slotWord (layoutOf b) b) (inUse (layoutOf b) b)
-  inserted-says =
-      committed-says b (sized b (a .size)) (blockBuild b key value) build-cells build-enough (sound-parts (layoutOf b) b (a .valid) .trailer) (new-root .small)
-
-  inserted : After b (leftBlock b key value) (update (shown b) key value) (inUse (layoutOf b) b) (slotShown b)
-  inserted =
-      let s = sized b (a .size) in
-      let p = sound-parts (layoutOf b) b (a .valid) in
-      let kept = committed-kept b s (blockBuild b key value) build-cells build-enough p in
-      let keeps = old-root-kept b p s bytes (leftBlock b key value) kept in
-      after b (leftBlock b key value) (a .size) (blockBuild b key value .word) (slotWord (layoutOf b) b) (inUse (layoutOf b) b) inserted-says
-      (committed-bytes b s (blockBuild b key value) build-cells build-enough bytes)
-      (update (shown b) key value) (slotShown b) (new-root .valid) (new-root .table)
-      (λ slot is-slot on. keeps (slotWord (layoutOf b) b slot) (slot-root b p slot is-slot on) .valid)
-      (λ slot is-slot on. keeps (slotWord (layoutOf b) b slot) (slot-root b p slot is-slot on) .table)
-      kept
-
-  -- and its cells are those laid down
-  laid : Laid b key (blockBuild b key value) (length (blockBuild b key value .cells)) (leftBlock b key value)
-  laid =
-      let s = sized b (a .size) in
-      let n : layoutOf b .cells ≡ length b / 32 = layout-cells b in
-      let reached : rootCells (layoutOf (leftBlock b key value)) (memoryOf (leftBlock b key value)) (rootWord (layoutOf (leftBlock b key value)) (leftBlock b key value))
-      ≡ new-root .cells =
-      subst (λ (l : Layout). rootCells l (memoryOf (leftBlock b key value)) (rootWord l (leftBlock b key value)) ≡ new-root .cells) (sym (inserted-says .layout))
-      (ap (rootCells (layoutOf b) (memoryOf (leftBlock b key value))) (inserted-says .root-is) ∙ new-root .cells-are) in
-      record {
-        cells = subst (λ (k : ℕ). (c : ℕ) → c ≢ k - 1 → memoryOf (leftBlock b key value) c ≡ memoryWith (numbering b) (memoryOf b) (blockBuild b key value .cells) c) n
-            (committed-cells b s (blockBuild b key value) build-cells build-enough);
-        trailer = subst (λ (k : ℕ). memoryOf (leftBlock b key value) (k - 1) ≡ withWord (memoryOf b (k - 1)) 0 (blockBuild b key value .word)) n
-            (committed-trailer b s (blockBuild b key value) build-cells build-enough);
-        counted = refl;
-        newly = sym (ap (λ (l : List ℕ). length (select (λ c. leb 1 (occurrences c l)) (free (layoutOf b) b))) reached ∙ new-root .count);
-        most = build-most;
-      }
-    where
-      build-most : length (blockBuild b key value .cells) ≤ 4 * length key + 10
-      build-most = unfold blockBuild in build-bound (numbering b) (layoutOf b) (memoryOf b) (rootWord (layoutOf b) b) key value
-
 module _ (b key : List ℕ) (value : ℕ) where
+  -- an insertion that finds room is one change of its key
+  inserted-change : IsBytes b → IsBytes key → Finds b (MayInsert key value) (cellsToInsert b key) → Change b key (blockBuild b key value) (some value)
+  unfolding blockBuild
+  inserted-change bytes is-bytes a =
+      let s = sized b (a .size) in
+      let layout = layoutOf b in
+      let m = memoryOf b in
+      let enough =
+      enough-free layout (omega (arith, s .least)) (s .most) (free layout b) (λ c h. free-usable layout b c h) m
+      (rootWord layout b) key value (value-fits value (a .may .good-value)) (a .enough) in
+      record {
+        size = a .size;
+        valid = a .valid;
+        some-key = key-some key (a .may .good-key);
+        whole = build-whole (numbering b) layout m (λ c. memory-cell b c bytes) (rootWord layout b) key value is-bytes;
+        enough = enough;
+        bound = build-bound (numbering b) layout m (rootWord layout b) key value;
+        law = λ m′ same p.
+            insert-law layout (s .most) (free layout b) (λ c h. free-usable layout b c h) (λ c. free-once layout b c)
+            m m′ (λ c. memory-bytes b c bytes) (λ c. memory-length b c)
+            value (value-fits value (a .may .good-value)) key is-bytes keyLimit (rootWord layout b) (p .cells) (key-fits key (a .may .good-key)) (p .found)
+            (λ c h. free-reached layout b c (omega (arith, h, ap (occurrences c) (p .cells-are), root-reachable layout b c)))
+            enough same;
+      }
+
   -- the answer is the first refusal's number; the block and the count are told by it
   pub insert-done : firstRefusal (insertRefusals b key value) ≡ 0
-      → insert b key value ≡ record { answer = 0; count = length (blockBuild b key value .cells); block = leftBlock b key value }
+      → insert b key value ≡ record { answer = 0; count = length (blockBuild b key value .cells); block = changedBlock b (blockBuild b key value) }
   unfolding insert
   insert-done e = rw (eq-eqb (firstRefusal (insertRefusals b key value)) 0 e)
 
@@ -215,9 +142,9 @@ module _ (b key : List ℕ) (value : ℕ) where
     insert-after =
         let e : firstRefusal (insertRefusals b key value) ≡ 0 = sym insert-number ∙ done in
         subst (λ (i : Inserted). After b (i .block) (update (shown b) key value) (inUse (layoutOf b) b) (slotShown b)) (sym (insert-done e))
-        (inserted b key value bytes is-bytes (accepted e))
+        (change-after b key (blockBuild b key value) (some value) bytes (inserted-change bytes is-bytes (accepted e)))
 
     pub insert-laid : Laid b key (blockBuild b key value) (insert b key value .count) (insert b key value .block)
     insert-laid =
         let e : firstRefusal (insertRefusals b key value) ≡ 0 = sym insert-number ∙ done in
-        subst (λ (i : Inserted). Laid b key (blockBuild b key value) (i .count) (i .block)) (sym (insert-done e)) (laid b key value bytes is-bytes (accepted e))
+        subst (λ (i : Inserted). Laid b key (blockBuild b key value) (i .count) (i .block)) (sym (insert-done e)) (change-laid b key (blockBuild b key value) (some value) bytes (inserted-change bytes is-bytes (accepted e)))

@@ -6,6 +6,7 @@ pub mod After
 pub mod SnapshotCalls
 pub mod Format
 pub mod Committed
+pub mod ChangeCall
 pub mod InsertCall
 pub mod FormatSteps
 pub mod SnapshotSteps
