@@ -27,9 +27,9 @@ use Rattle.updates.specs.Built.{Built}
 use Rattle.updates.specs.SetChild.{setChild}
 use Rattle.updates.specs.Build.{wordAside, childOf}
 use Rattle.updates.specs.Staged.{nodeCopy}
-use Rattle.updates.proofs.Claims.{Held, Fine, Placed, Changed}
-use Rattle.updates.proofs.Prefixes.{putBack-changed, putBack-held}
-use Rattle.updates.proofs.SetChild.{set-placed, set-held}
+use Rattle.updates.proofs.Claims.{BuildStands, Consistent, Placed, NodeChanged}
+use Rattle.updates.proofs.Prefixes.{putBack-changed, putBack-below-stands}
+use Rattle.updates.proofs.SetChild.{set-placed, set-below-stands}
 
 -- a valid prefix has a value with its top bit clear
 prefix-clear : (layout : Layout) (s : List ℕ) → validPrefix layout s ≡ true → prefixValue s < 2147483648
@@ -102,23 +102,23 @@ module _ (layout : Layout) (m : Memory) where
 
 module _ (layout : Layout) (small : layout .cells ≤ cellLimit) (number : ℕ → ℕ) (m m′ : Memory)
     (bytes : (c : ℕ) → IsBytes (m c)) (whole : (c : ℕ) → length (m c) ≡ 32) where
-  pub node-held : (w x : ℕ) (b : Built) → Held layout number m′ (nodeCopy layout number m w x b) → Held layout number m′ b
-  node-held w x b held =
-      set-held layout small number m m′ bytes whole _ x b (putBack-held layout small number m′ (pointerValue m (pointer layout w)) _ held)
+  pub node-below-stands : (w x : ℕ) (b : Built) → BuildStands layout number m′ (nodeCopy layout number m w x b) → BuildStands layout number m′ b
+  node-below-stands w x b standing =
+      set-below-stands layout small number m m′ bytes whole _ x b (putBack-below-stands layout small number m′ (pointerValue m (pointer layout w)) _ standing)
 
   module _ (w : ℕ) (X : Node) (node : read layout m w ≡ some X) (agree : Agree m m′ (X .cells)) (x : ℕ) (near : x < 256)
-      (b : Built) (nonzero : b .word ≢ 0) (fine : Fine layout number b) where
+      (b : Built) (nonzero : b .word ≢ 0) (consistent : Consistent layout number b) where
     -- the node before its value is put back
-    pub bare-placed : Held layout number m′ (setChild layout number m (pointer layout (wordAside layout m (pointer layout w) w)) x b)
+    pub bare-placed : BuildStands layout number m′ (setChild layout number m (pointer layout (wordAside layout m (pointer layout w) w)) x b)
         → Placed layout number m′ (aside layout m w X node .bare) x b
         (setChild layout number m (pointer layout (wordAside layout m (pointer layout w) w)) x b)
-    bare-placed held =
+    bare-placed standing =
         let n = aside layout m w X node in
         set-placed layout small number m m′ bytes whole (wordAside layout m (pointer layout w) w) (n .bare) x b (n .reads) (n .empty)
-        (agree-less m m′ (X .cells) (n .bare .cells) (λ c h. omega (arith, n .cells c)) agree) near nonzero fine held
+        (agree-less m m′ (X .cells) (n .bare .cells) (λ c h. omega (arith, n .cells c)) agree) near nonzero consistent standing
 
-    pub node-changed : Held layout number m′ (nodeCopy layout number m w x b) → Changed layout number m′ X x b (nodeCopy layout number m w x b)
-    node-changed held =
+    pub node-changed : BuildStands layout number m′ (nodeCopy layout number m w x b) → NodeChanged layout number m′ X x b (nodeCopy layout number m w x b)
+    node-changed standing =
         let n = aside layout m w X node in
         putBack-changed layout small number m′ (pointerValue m (pointer layout w)) (n .clear) X (n .bare) x b _ (n .value) (n .child) (n .cells)
-        held bare-placed
+        standing bare-placed

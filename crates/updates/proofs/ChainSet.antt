@@ -22,9 +22,9 @@ use Rattle.nodes.proofs.Chain.{one-child-other, chain-child-inside, chain-child
 use Rattle.staging.specs.NewCells.{sparsePair}
 use Rattle.updates.specs.Built.{Built, allocate, chainOver}
 use Rattle.updates.specs.SetChild.{chainSet}
-use Rattle.updates.proofs.Claims.{Held, Fine, Placed}
+use Rattle.updates.proofs.Claims.{BuildStands, Consistent, Placed}
 use Rattle.updates.proofs.Rooms.{allocate-before}
-use Rattle.updates.proofs.Chains.{chain-placed, chain-held}
+use Rattle.updates.proofs.Chains.{chain-placed, chain-below-stands}
 use Rattle.updates.proofs.Pairs.{pair-placed}
 
 -- the child word of a chain is below 2^32
@@ -48,27 +48,27 @@ module _ (layout : Layout) (small : layout .cells ≤ cellLimit) (number : ℕ �
 
   -- with the chain's own character the chain is made anew, else it becomes a pair
   pub chain-set-placed : (Y : Node) → plain layout m (chain c k) ≡ some Y → usable layout c ≡ true → k < 28 → IsBytes (m c)
-      → b .word ≢ 0 → Fine layout number b → Held layout number m′ (chainSet number (m c) c k x b)
+      → b .word ≢ 0 → Consistent layout number b → BuildStands layout number m′ (chainSet number (m c) c k x b)
       → Placed layout number m′ Y x b (chainSet number (m c) c k x b)
   unfolding chainSet
-  chain-set-placed Y reads free chain-kind is-bytes nonzero fine held = go (eqb x (chainCharacter (m c) k)) refl held
+  chain-set-placed Y reads free chain-kind is-bytes nonzero consistent standing = go (eqb x (chainCharacter (m c) k)) refl standing
     where
       child : (y : ℕ) → Y .child y ≡ oneChild (chainCharacter (m c) k) (chainChild (m c) c k) y
       child = chain-cut-child layout m c k Y reads
 
-      go : (t : Bool) → eqb x (chainCharacter (m c) k) ≡ t → Held layout number m′ (cond t (chainOver number x b) pair)
+      go : (t : Bool) → eqb x (chainCharacter (m c) k) ≡ t → BuildStands layout number m′ (cond t (chainOver number x b) pair)
           → Placed layout number m′ Y x b (cond t (chainOver number x b) pair)
-      go true e held =
+      go true e standing =
           let same : x ≡ chainCharacter (m c) k = eqb-true x (chainCharacter (m c) k) e in
-          chain-placed layout small number m′ Y x (λ y other. child y ∙ one-child-other _ _ y (λ i. other (i ∙ sym same))) b nonzero fine held
-      go false e held =
-          pair-placed layout small number m′ Y x (chainCharacter (m c) k) (chainChild (m c) c k) b nonzero fine (eqb-false x (chainCharacter (m c) k) e)
-          (chain-cut layout m c k Y reads .0) (chain-child-small layout small (m c) c k free chain-kind is-bytes) child held
+          chain-placed layout small number m′ Y x (λ y other. child y ∙ one-child-other _ _ y (λ i. other (i ∙ sym same))) b nonzero consistent standing
+      go false e standing =
+          pair-placed layout small number m′ Y x (chainCharacter (m c) k) (chainChild (m c) c k) b nonzero consistent (eqb-false x (chainCharacter (m c) k) e)
+          (chain-cut layout m c k Y reads .0) (chain-child-small layout small (m c) c k free chain-kind is-bytes) child standing
 
-  pub chain-set-held : Held layout number m′ (chainSet number (m c) c k x b) → Held layout number m′ b
+  pub chain-set-below-stands : BuildStands layout number m′ (chainSet number (m c) c k x b) → BuildStands layout number m′ b
   unfolding chainSet
-  chain-set-held held = go (eqb x (chainCharacter (m c) k)) held
+  chain-set-below-stands standing = go (eqb x (chainCharacter (m c) k)) standing
     where
-      go : (t : Bool) → Held layout number m′ (cond t (chainOver number x b) pair) → Held layout number m′ b
-      go true held = chain-held layout small number m′ x b held
-      go false held = allocate-before layout number m′ 30 (sparsePair x (b .word) (chainCharacter (m c) k) (chainChild (m c) c k)) b held
+      go : (t : Bool) → BuildStands layout number m′ (cond t (chainOver number x b) pair) → BuildStands layout number m′ b
+      go true standing = chain-below-stands layout small number m′ x b standing
+      go false standing = allocate-before layout number m′ 30 (sparsePair x (b .word) (chainCharacter (m c) k) (chainChild (m c) c k)) b standing

@@ -25,8 +25,8 @@ use Rattle.nodes.proofs.Chain.{chain-child-inside, chain-child-end, chain-value
 use Rattle.staging.specs.NewCells.{blank, chainCell}
 use Rattle.updates.specs.Built.{Built, allocate, roomOf, firstUsed, firstUsedOf, characterBefore, chainWith, chainOver}
 use Rattle.updates.specs.SetChild.{withChild}
-use Rattle.updates.proofs.Claims.{from-at, numbers, numbers-more, Stands, HoldsFrom, Held, holds-from, Run, Fine, Placed}
-use Rattle.updates.proofs.Rooms.{room-most, first-most, first-chain, allocate-numbers, allocate-first-chain, allocate-names, allocate-fine-chain, allocate-free, allocate-stands}
+use Rattle.updates.proofs.Claims.{from-at, numbers, numbers-more, CellStands, CellsStandFrom, BuildStands, cells-stand-from, InNewest, Consistent, Placed}
+use Rattle.updates.proofs.Rooms.{room-most, first-most, first-chain, allocate-numbers, allocate-first-chain, allocate-names, allocate-consistent-chain, allocate-free, allocate-stands}
 
 -- a new chain cell
 pub chain-cell-length : (x w : ℕ) → length (chainCell x w) ≡ 32
@@ -66,14 +66,14 @@ module _ (layout : Layout) (small : layout .cells ≤ cellLimit) (number : ℕ �
         ∙ chain-join layout m′ (number (length cells)) kind (λ e. nonzero (sym child ∙ e))
 
     -- in a new cell
-    new-placed : w < 4294967296 → (own : Bool) (cells : List (List ℕ)) → Held layout number m′ (allocate number 27 (chainCell x w) cells)
+    new-placed : w < 4294967296 → (own : Bool) (cells : List (List ℕ)) → BuildStands layout number m′ (allocate number 27 (chainCell x w) cells)
         → Placed layout number m′ Y x (record { word = w; own = own; cells = cells }) (allocate number 27 (chainCell x w) cells)
-    new-placed word-small own cells held =
+    new-placed word-small own cells standing =
         let c : ℕ = number (length cells) in
-        let free : usable layout (number (length cells)) ≡ true = allocate-free layout number m′ 27 (chainCell x w) cells held in
-        let stands : Stands layout m′ 27 c (chainCell x w) =
-        subst (λ k. Stands layout m′ k c (chainCell x w)) (allocate-first-chain layout small number cells free 27 (chainCell x w) (omega arith))
-        (allocate-stands layout number m′ 27 (chainCell x w) cells held) in
+        let free : usable layout (number (length cells)) ≡ true = allocate-free layout number m′ 27 (chainCell x w) cells standing in
+        let stands : CellStands layout m′ 27 c (chainCell x w) =
+        subst (λ k. CellStands layout m′ k c (chainCell x w)) (allocate-first-chain layout small number cells free 27 (chainCell x w) (omega arith))
+        (allocate-stands layout number m′ 27 (chainCell x w) cells standing) in
         let byte : (j : ℕ) → 27 ≤ j → j < 32 → getD (m′ c) j 0 ≡ getD (chainCell x w) j 0 = λ j. from-at 27 (m′ c) (chainCell x w) j (stands .bytes) in
         let character : getD (m′ c) 27 0 ≡ x = byte 27 (omega arith) (omega arith) ∙ chain-cell-character x w in
         let child : chainChild (m′ c) c 27 ≡ w =
@@ -87,24 +87,24 @@ module _ (layout : Layout) (small : layout .cells ≤ cellLimit) (number : ℕ �
           child = λ y _. chain-node-child (m′ c) c 27 x w y character child ∙ one-child (Y .child) x w only y;
           most = λ z. omega (arith, here z, allocate-numbers number z 27 (chainCell x w) cells);
           least = λ z. omega (arith, here z, allocate-numbers number z 27 (chainCell x w) cells);
-          fine = allocate-fine-chain layout small number cells free 27 (chainCell x w) (omega arith) (chain-cell-length x w);
+          consistent = allocate-consistent-chain layout small number cells free 27 (chainCell x w) (omega arith) (chain-cell-length x w);
         }
 
     -- by one more character in the newest cell
-    longer-placed : (own : Bool) (k : ℕ) (newest : List ℕ) (rest : List (List ℕ)) → Run layout number (suc k) w (newest ∷ rest)
-        → Held layout number m′ (allocate number k (set newest k x) rest)
+    longer-placed : (own : Bool) (k : ℕ) (newest : List ℕ) (rest : List (List ℕ)) → InNewest layout number (suc k) w (newest ∷ rest)
+        → BuildStands layout number m′ (allocate number k (set newest k x) rest)
         → Placed layout number m′ Y x (record { word = w; own = own; cells = newest ∷ rest }) (allocate number k (set newest k x) rest)
-    longer-placed own k newest rest run held =
+    longer-placed own k newest rest in-newest standing =
         let c : ℕ = number (length rest) in
-        let before : k < 27 = omega (arith, run .1) in
+        let before : k < 27 = omega (arith, in-newest .1) in
         let inside : k ≢ 27 = omega arith in
-        let free : usable layout (number (length rest)) ≡ true = allocate-free layout number m′ k (set newest k x) rest held in
-        let stands : Stands layout m′ k c (set newest k x) =
-        subst (λ j. Stands layout m′ j c (set newest k x)) (allocate-first-chain layout small number rest free k (set newest k x) (omega arith))
-        (allocate-stands layout number m′ k (set newest k x) rest held) in
+        let free : usable layout (number (length rest)) ≡ true = allocate-free layout number m′ k (set newest k x) rest standing in
+        let stands : CellStands layout m′ k c (set newest k x) =
+        subst (λ j. CellStands layout m′ j c (set newest k x)) (allocate-first-chain layout small number rest free k (set newest k x) (omega arith))
+        (allocate-stands layout number m′ k (set newest k x) rest standing) in
         let character : getD (m′ c) k 0 ≡ x =
-        from-at k (m′ c) (set newest k x) k (stands .bytes) (omega arith) (omega arith) ∙ getD-set-same newest k x 0 (omega (arith, run .2)) in
-        let child : chainChild (m′ c) c k ≡ w = chain-child-inside (m′ c) c k inside ∙ omega (arith, run .0) in
+        from-at k (m′ c) (set newest k x) k (stands .bytes) (omega arith) (omega arith) ∙ getD-set-same newest k x 0 (omega (arith, in-newest .2)) in
+        let child : chainChild (m′ c) c k ≡ w = chain-child-inside (m′ c) c k inside ∙ omega (arith, in-newest .0) in
         let here : (z : ℕ) → occurrences z (chainNode (m′ c) c k .cells) ≡ 0 =
         λ z. ap (occurrences z) (chain-cells-inside (m′ c) c k inside) ∙ occurrences-none z in
         let same : (z : ℕ) → occurrences z (numbers number (allocate number k (set newest k x) rest .cells)) ≡ occurrences z (numbers number (newest ∷ rest))
@@ -116,48 +116,48 @@ module _ (layout : Layout) (small : layout .cells ≤ cellLimit) (number : ℕ �
           child = λ y _. chain-node-child (m′ c) c k x w y character child ∙ one-child (Y .child) x w only y;
           most = λ z. omega (arith, here z, same z);
           least = λ z. omega (arith, here z, same z);
-          fine = allocate-fine-chain layout small number rest free k (set newest k x) (omega arith) (length-set newest k x ∙ run .2);
+          consistent = allocate-consistent-chain layout small number rest free k (set newest k x) (omega arith) (length-set newest k x ∙ in-newest .2);
         }
 
-    with-placed : w < 4294967296 → (own : Bool) (k : ℕ) (cells : List (List ℕ)) → Run layout number k w cells
-        → Held layout number m′ (chainWith number x w k cells)
+    with-placed : w < 4294967296 → (own : Bool) (k : ℕ) (cells : List (List ℕ)) → InNewest layout number k w cells
+        → BuildStands layout number m′ (chainWith number x w k cells)
         → Placed layout number m′ Y x (record { word = w; own = own; cells = cells }) (chainWith number x w k cells)
     unfolding chainWith characterBefore
-    with-placed word-small own zero cells run held = new-placed word-small own cells held
-    with-placed word-small own (suc k) [] run held = absurd run
-    with-placed word-small own (suc k) (newest ∷ rest) run held = unfold allocate in longer-placed own k newest rest run held
+    with-placed word-small own zero cells in-newest standing = new-placed word-small own cells standing
+    with-placed word-small own (suc k) [] in-newest standing = absurd in-newest
+    with-placed word-small own (suc k) (newest ∷ rest) in-newest standing = unfold allocate in longer-placed own k newest rest in-newest standing
 
   -- a chain over a child, be the child's cell allocated by this call or not
-  pub chain-placed : (Y : Node) (x : ℕ) → ((y : ℕ) → y ≢ x → Y .child y ≡ 0) → (b : Built) → b .word ≢ 0 → Fine layout number b
-      → Held layout number m′ (chainOver number x b) → Placed layout number m′ Y x b (chainOver number x b)
+  pub chain-placed : (Y : Node) (x : ℕ) → ((y : ℕ) → y ≢ x → Y .child y ≡ 0) → (b : Built) → b .word ≢ 0 → Consistent layout number b
+      → BuildStands layout number m′ (chainOver number x b) → Placed layout number m′ Y x b (chainOver number x b)
   unfolding chainOver
-  chain-placed Y x only b nonzero fine held =
-      with-placed Y x only (b .word) nonzero (fine .small) (b .own) (roomOf b) (b .cells) (fine .run) held
+  chain-placed Y x only b nonzero consistent standing =
+      with-placed Y x only (b .word) nonzero (consistent .small) (b .own) (roomOf b) (b .cells) (consistent .in-newest) standing
 
   -- the cells of the child stand where those of the chain do
-  longer-held : (x k : ℕ) (newest : List ℕ) (rest : List (List ℕ)) → k < 32
-      → Held layout number m′ (record { word = wordTo (number (length rest)) k; own = true; cells = set newest k x ∷ rest })
-      → HoldsFrom layout number m′ (suc k) (newest ∷ rest)
-  longer-held x k newest rest kind held =
+  longer-below-stands : (x k : ℕ) (newest : List ℕ) (rest : List (List ℕ)) → k < 32
+      → BuildStands layout number m′ (record { word = wordTo (number (length rest)) k; own = true; cells = set newest k x ∷ rest })
+      → CellsStandFrom layout number m′ (suc k) (newest ∷ rest)
+  longer-below-stands x k newest rest kind standing =
       let c : ℕ = number (length rest) in (
         record {
-          free = held .0 .free;
+          free = standing .0 .free;
           bytes = λ j low high.
-              from-at (firstUsed true (wordTo c k)) (m′ c) (set newest k x) j (held .0 .bytes) (omega (arith, low, first-most c k kind)) high
+              from-at (firstUsed true (wordTo c k)) (m′ c) (set newest k x) j (standing .0 .bytes) (omega (arith, low, first-most c k kind)) high
               ∙ getD-set-other newest k j x 0 (omega arith);
         },
-        held .1,
+        standing .1,
       )
 
-  with-held : (x k : ℕ) (b : Built) → roomOf b ≡ k → (cells : List (List ℕ)) → Held layout number m′ (chainWith number x (b .word) k cells)
-      → HoldsFrom layout number m′ (firstUsedOf b) cells
+  with-below-stands : (x k : ℕ) (b : Built) → roomOf b ≡ k → (cells : List (List ℕ)) → BuildStands layout number m′ (chainWith number x (b .word) k cells)
+      → CellsStandFrom layout number m′ (firstUsedOf b) cells
   unfolding chainWith
-  with-held x zero b has cells held = holds-from layout number m′ (firstUsedOf b) cells (unfold allocate in held .1)
-  with-held x (suc k) b has [] held = tt
-  with-held x (suc k) b has (newest ∷ rest) held =
-      subst (λ j. HoldsFrom layout number m′ j (newest ∷ rest)) (sym (first-chain (b .own) (b .word) k has))
-      (longer-held x k newest rest (omega (arith, has, room-most (b .own) (b .word))) (unfold characterBefore in held))
+  with-below-stands x zero b has cells standing = cells-stand-from layout number m′ (firstUsedOf b) cells (unfold allocate in standing .1)
+  with-below-stands x (suc k) b has [] standing = tt
+  with-below-stands x (suc k) b has (newest ∷ rest) standing =
+      subst (λ j. CellsStandFrom layout number m′ j (newest ∷ rest)) (sym (first-chain (b .own) (b .word) k has))
+      (longer-below-stands x k newest rest (omega (arith, has, room-most (b .own) (b .word))) (unfold characterBefore in standing))
 
-  pub chain-held : (x : ℕ) (b : Built) → Held layout number m′ (chainOver number x b) → Held layout number m′ b
+  pub chain-below-stands : (x : ℕ) (b : Built) → BuildStands layout number m′ (chainOver number x b) → BuildStands layout number m′ b
   unfolding chainOver
-  chain-held x b held = with-held x (roomOf b) b refl (b .cells) held
+  chain-below-stands x b standing = with-below-stands x (roomOf b) b refl (b .cells) standing

@@ -27,10 +27,10 @@ use Rattle.updates.specs.Built.{Built, firstUsedOf}
 use Rattle.updates.specs.Build.{pathCopy, valueAt, build}
 use Rattle.staging.specs.Numbering.{numberFrom}
 use Rattle.updates.specs.Commit.{memoryWith}
-use Rattle.updates.proofs.Claims.{numbers, Held, holds-from, Fine, Grown}
-use Rattle.updates.proofs.Commit.{memoryWith-other, holds-of, numbers-free}
-use Rattle.updates.proofs.KeyEnd.{end-grown}
-use Rattle.updates.proofs.Law.{Rooted, law, rooted}
+use Rattle.updates.proofs.Claims.{numbers, BuildStands, cells-stand-from, TreeChanged, EndLaw}
+use Rattle.updates.proofs.Commit.{memoryWith-other, cells-stand, numbers-free}
+use Rattle.updates.proofs.KeyEnd.{value-at-end}
+use Rattle.updates.proofs.PathLaw.{Rooted, path-law, path-rooted}
 use Rattle.updates.proofs.Taken.{taken-count}
 
 -- the cells that a build takes of a list of free ones
@@ -81,10 +81,10 @@ module _ (layout : Layout) (small : layout .cells ≤ cellLimit) (free : List �
     free-most = numbers-free layout free (b .cells) enough
 
     -- the allocated cells stand, and a tree that has none of them is as it was
-    stand : Held layout (numberFrom layout free) m′ b
+    stand : BuildStands layout (numberFrom layout free) m′ b
     stand =
-        holds-from layout (numberFrom layout free) m′ (firstUsedOf b) (b .cells)
-        (holds-of (numberFrom layout free) m layout m′ (b .cells)
+        cells-stand-from layout (numberFrom layout free) m′ (firstUsedOf b) (b .cells)
+        (cells-stand (numberFrom layout free) m layout m′ (b .cells)
         (λ c h. each c (omega (arith, free-most c)))
         (λ c. omega (arith, once c, free-most c))
         (λ c h. same c (each c (omega (arith, free-most c)))))
@@ -106,8 +106,7 @@ module _ (layout : Layout) (small : layout .cells ≤ cellLimit) (free : List �
 
   -- the law of a change of a key at a word whose tree has none of the free cells, from that of its path copy
   module _ (atEnd : ℕ → Built) (assigned : Option ℕ) (a-value : assigned ≢ none)
-      (ends : (d w : ℕ) (cs : List ℕ) → tree layout m d w ≡ some cs → Agree m m′ cs → Held layout (numberFrom layout free) m′ (atEnd w)
-      → Fine layout (numberFrom layout free) (atEnd w) × Grown layout (numberFrom layout free) m m′ d w cs [] assigned (atEnd w)) where
+      (ends : EndLaw layout (numberFrom layout free) m m′ atEnd assigned) where
     pub change-law : (key : List ℕ) → IsBytes key → (d w : ℕ) (cs : List ℕ) → length key ≤ d
         → tree layout m d w ≡ some cs → ((c : ℕ) → 1 ≤ occurrences c cs → occurrences c free ≡ 0)
         → (b : Built) → pathCopy layout (numberFrom layout free) m atEnd w key ≡ b → length (b .cells) ≤ length free
@@ -118,36 +117,36 @@ module _ (layout : Layout) (small : layout .cells ≤ cellLimit) (free : List �
         let less : (c : ℕ) → occurrences c (taken layout free b) ≤ occurrences c free = free-most b enough same in
         let avoids : (c : ℕ) → 1 ≤ occurrences c cs → occurrences c (taken layout free b) ≡ 0 = λ c h. omega (arith, apart c h, less c) in
         let agree : Agree m m′ cs = alike b enough same d w cs found avoids in
-        let held : Held layout (numberFrom layout free) m′ b = stand b enough same in
-        let held-copy : Held layout (numberFrom layout free) m′ (pathCopy layout (numberFrom layout free) m atEnd w key) =
-        subst (λ (c : Built). Held layout (numberFrom layout free) m′ c) (sym is) held in
-        let grown = subst (λ (c : Built). Grown layout (numberFrom layout free) m m′ d w cs key assigned c) is
-        (law layout small number m m′ bytes whole atEnd assigned a-value ends key is-bytes d w cs fits found agree held-copy .1) in
-        let newly : (c : ℕ) → 1 ≤ occurrences c free → 1 ≤ occurrences c (grown .cells) → 1 ≤ occurrences c (taken layout free b) =
+        let standing : BuildStands layout (numberFrom layout free) m′ b = stand b enough same in
+        let standing-copy : BuildStands layout (numberFrom layout free) m′ (pathCopy layout (numberFrom layout free) m atEnd w key) =
+        subst (λ (c : Built). BuildStands layout (numberFrom layout free) m′ c) (sym is) standing in
+        let tree-changed = subst (λ (c : Built). TreeChanged layout (numberFrom layout free) m m′ d w cs key assigned c) is
+        (path-law layout small number m m′ bytes whole atEnd assigned a-value ends key is-bytes d w cs fits found agree standing-copy) in
+        let newly : (c : ℕ) → 1 ≤ occurrences c free → 1 ≤ occurrences c (tree-changed .cells) → 1 ≤ occurrences c (taken layout free b) =
         λ c is-free visited. elim (decLe 1 (occurrences c cs)) [
           | yes h ↦ absurd (omega (arith, apart c h))
-          | no h ↦ omega (arith, grown .most c)
+          | no h ↦ omega (arith, tree-changed .most c)
         ] in
         record {
-          cells = grown .cells;
-          valid = grown .valid;
-          once = λ old c. apart-once (occurrences c cs) (occurrences c (taken layout free b)) (occurrences c (grown .cells)) (grown .most c) (old c)
+          cells = tree-changed .cells;
+          valid = tree-changed .valid;
+          once = λ old c. apart-once (occurrences c cs) (occurrences c (taken layout free b)) (occurrences c (tree-changed .cells)) (tree-changed .most c) (old c)
               (omega (arith, once c, less c)) (avoids c);
-          most = grown .most;
-          least = grown .least;
+          most = tree-changed .most;
+          least = tree-changed .least;
           newly = newly;
-          count = taken-count layout free once (b .cells) enough (λ c. leb 1 (occurrences c (grown .cells)))
-              (λ c h. le-leb 1 (occurrences c (grown .cells)) (omega (arith, grown .least c)))
-              (λ c is-free none. lt-leb 1 (occurrences c (grown .cells)) (elim (decLe 1 (occurrences c (grown .cells))) [
+          count = taken-count layout free once (b .cells) enough (λ c. leb 1 (occurrences c (tree-changed .cells)))
+              (λ c h. le-leb 1 (occurrences c (tree-changed .cells)) (omega (arith, tree-changed .least c)))
+              (λ c is-free none. lt-leb 1 (occurrences c (tree-changed .cells)) (elim (decLe 1 (occurrences c (tree-changed .cells))) [
                 | yes visited ↦ absurd (omega (arith, newly c is-free visited))
                 | no h ↦ omega arith
               ]));
-          table = grown .table;
+          table = tree-changed .table;
           kept = agree;
           others = untouched b enough same;
           root = λ some-key was-root.
               subst (λ (c : Built). Rooted layout c) is
-              (rooted layout small number m m′ bytes whole atEnd assigned a-value ends key is-bytes some-key d w cs fits found agree was-root held-copy);
+              (path-rooted layout small number m m′ bytes whole atEnd assigned a-value ends key is-bytes some-key d w cs fits found agree was-root standing-copy);
         }
 
   -- an insertion is one use of it
@@ -159,5 +158,5 @@ module _ (layout : Layout) (small : layout .cells ≤ cellLimit) (free : List �
   unfolding build
   insert-law value clear key is-bytes d w cs fits found apart enough same =
       change-law (λ word. valueAt layout (numberFrom layout free) m value (pointer layout word) word) (some value) (λ e. never (sym e))
-      (λ d w cs found agree held. end-grown layout small (numberFrom layout free) m m′ bytes d w cs found agree value clear held)
+      (λ d w cs found agree standing. value-at-end layout small (numberFrom layout free) m m′ bytes d w cs found agree value clear standing)
       key is-bytes d w cs fits found apart _ refl enough same

@@ -8,6 +8,7 @@ use Prim.Native.Nat.{ℕ, zero, suc, _+_, _≤_, _<_}
 use lib.ListN.{length, getD}
 use Rattle.cells.specs.Memory.{Memory}
 use Rattle.cells.specs.Occurrences.{occurrences}
+use Rattle.cells.proofs.Occurrences.{Agree}
 use Rattle.nodes.specs.Layout.{Layout, usable}
 use Rattle.nodes.specs.Pointer.{pointer, wordTo}
 use Rattle.nodes.specs.Node.{Node, read, plain}
@@ -40,38 +41,38 @@ unfolding numbers occurrences
 numbers-more number c newest rest = omega arith
 
 -- a usable cell holds s from byte k on
-pub record Stands (layout : Layout) (m : Memory) (k c : ℕ) (s : List ℕ) : Type 0 where
+pub record CellStands (layout : Layout) (m : Memory) (k c : ℕ) (s : List ℕ) : Type 0 where
   pub free : usable layout c ≡ true
   pub bytes : From k (m c) s
 
 module _ (layout : Layout) (number : ℕ → ℕ) where
   -- the allocated cells stand at their numbers
-  abbrev pub Holds : Memory → List (List ℕ) → Type 0
-  Holds m [] = Unit {0}
-  Holds m (newest ∷ rest) = Stands layout m 0 (number (length rest)) newest × Holds m rest
+  abbrev pub CellsStand : Memory → List (List ℕ) → Type 0
+  CellsStand m [] = Unit {0}
+  CellsStand m (newest ∷ rest) = CellStands layout m 0 (number (length rest)) newest × CellsStand m rest
 
   -- the same, the newest from byte k on: below it the cell can still take a character or a value
-  abbrev pub HoldsFrom : Memory → ℕ → List (List ℕ) → Type 0
-  HoldsFrom m k [] = Unit {0}
-  HoldsFrom m k (newest ∷ rest) = Stands layout m k (number (length rest)) newest × Holds m rest
+  abbrev pub CellsStandFrom : Memory → ℕ → List (List ℕ) → Type 0
+  CellsStandFrom m k [] = Unit {0}
+  CellsStandFrom m k (newest ∷ rest) = CellStands layout m k (number (length rest)) newest × CellsStand m rest
 
-  abbrev pub Held : Memory → Built → Type 0
-  Held m b = HoldsFrom m (firstUsedOf b) (b .cells)
+  abbrev pub BuildStands : Memory → Built → Type 0
+  BuildStands m b = CellsStandFrom m (firstUsedOf b) (b .cells)
 
-  pub holds-from : (m : Memory) (k : ℕ) (cells : List (List ℕ)) → Holds m cells → HoldsFrom m k cells
-  holds-from m k [] h = tt
-  holds-from m k (newest ∷ rest) h = (record { free = h .0 .free; bytes = from-all k _ _ (h .0 .bytes) }, h .1)
+  pub cells-stand-from : (m : Memory) (k : ℕ) (cells : List (List ℕ)) → CellsStand m cells → CellsStandFrom m k cells
+  cells-stand-from m k [] h = tt
+  cells-stand-from m k (newest ∷ rest) h = (record { free = h .0 .free; bytes = from-all k _ _ (h .0 .bytes) }, h .1)
 
   -- a chain that can take a character before it stands in the newest cell
-  abbrev pub Run : ℕ → ℕ → List (List ℕ) → Type 0
-  Run zero word cells = Unit {0}
-  Run (suc k) word [] = ⊥
-  Run (suc k) word (newest ∷ rest) = (word ≡ wordTo (number (length rest)) (suc k)) × (suc k ≤ 27) × (length newest ≡ 32)
+  abbrev pub InNewest : ℕ → ℕ → List (List ℕ) → Type 0
+  InNewest zero word cells = Unit {0}
+  InNewest (suc k) word [] = ⊥
+  InNewest (suc k) word (newest ∷ rest) = (word ≡ wordTo (number (length rest)) (suc k)) × (suc k ≤ 27) × (length newest ≡ 32)
 
   -- the word of a build is one of 32 bits, and goes with its cells
-  pub record Fine (b : Built) : Type 0 where
+  pub record Consistent (b : Built) : Type 0 where
     pub small : b .word < 4294967296
-    pub run : Run (roomOf b) (b .word) (b .cells)
+    pub in-newest : InNewest (roomOf b) (b .word) (b .cells)
 
   -- the node at the word of `after` has the children of Y with the word of b for the character x, and no value:
   -- it visits no more than the cells of Y and those allocated since b, and each of the latter
@@ -82,22 +83,28 @@ module _ (layout : Layout) (number : ℕ → ℕ) where
     pub child : (y : ℕ) → y < 256 → node .child y ≡ withChild (Y .child) x (b .word) y
     pub most : (c : ℕ) → occurrences c (node .cells) + occurrences c (numbers number (b .cells)) ≤ occurrences c (Y .cells) + occurrences c (numbers number (after .cells))
     pub least : (c : ℕ) → occurrences c (numbers number (after .cells)) ≤ occurrences c (node .cells) + occurrences c (numbers number (b .cells))
-    pub fine : Fine after
+    pub consistent : Consistent after
 
   -- the same of a node with its value put back
-  pub record Changed (m′ : Memory) (X : Node) (x : ℕ) (b after : Built) : Type 0 where
+  pub record NodeChanged (m′ : Memory) (X : Node) (x : ℕ) (b after : Built) : Type 0 where
     pub node : Node
     pub reads : read layout m′ (after .word) ≡ some node
     pub value : node .value ≡ X .value
     pub child : (y : ℕ) → y < 256 → node .child y ≡ withChild (X .child) x (b .word) y
     pub most : (c : ℕ) → occurrences c (node .cells) + occurrences c (numbers number (b .cells)) ≤ occurrences c (X .cells) + occurrences c (numbers number (after .cells))
     pub least : (c : ℕ) → occurrences c (numbers number (after .cells)) ≤ occurrences c (node .cells) + occurrences c (numbers number (b .cells))
-    pub fine : Fine after
+    pub consistent : Consistent after
 
   -- the tree and the table at a built word, by those of the old word w: the key has what is given, a value or none
-  pub record Grown (m m′ : Memory) (depth w : ℕ) (cs key : List ℕ) (given : Option ℕ) (b : Built) : Type 0 where
+  pub record TreeChanged (m m′ : Memory) (depth w : ℕ) (cs key : List ℕ) (given : Option ℕ) (b : Built) : Type 0 where
     pub cells : List ℕ
     pub valid : tree layout m′ depth (b .word) ≡ some cells
     pub most : (c : ℕ) → occurrences c cells ≤ occurrences c cs + occurrences c (numbers number (b .cells))
     pub least : (c : ℕ) → occurrences c (numbers number (b .cells)) ≤ occurrences c cells
     pub table : (k : List ℕ) → lookup layout m′ (b .word) k ≡ assign (lookup layout m w) key given k
+    pub consistent : Consistent b
+
+  -- the law of a rule at the key's end, which gives the key a value or none
+  abbrev pub EndLaw : Memory → Memory → (ℕ → Built) → Option ℕ → Type 0
+  EndLaw m m′ atEnd given =
+      (d w : ℕ) (cs : List ℕ) → tree layout m d w ≡ some cs → Agree m m′ cs → BuildStands m′ (atEnd w) → TreeChanged m m′ d w cs [] given (atEnd w)

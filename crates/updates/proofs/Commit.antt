@@ -18,7 +18,7 @@ use Rattle.nodes.specs.Layout.{Layout, usable, cellLimit}
 use Rattle.nodes.proofs.Pointers.{usable-low, usable-inside}
 use Rattle.staging.specs.Numbering.{numberFrom}
 use Rattle.updates.specs.Commit.{buildWrites, memoryWith}
-use Rattle.updates.proofs.Claims.{numbers, Holds}
+use Rattle.updates.proofs.Claims.{numbers, CellsStand}
 use Rattle.updates.proofs.Count.{Numbering}
 use Rattle.updates.proofs.BuildBytes.{Whole}
 
@@ -56,15 +56,15 @@ module _ (number : ℕ → ℕ) (m : Memory) where
 
   -- the allocated cells stand where the memory has them, their numbers are usable and no two of them the same
   module _ (layout : Layout) where
-    pub holds-of : (m′ : Memory) (cells : List (List ℕ)) → ((c : ℕ) → 1 ≤ occurrences c (numbers number cells) → usable layout c ≡ true)
+    pub cells-stand : (m′ : Memory) (cells : List (List ℕ)) → ((c : ℕ) → 1 ≤ occurrences c (numbers number cells) → usable layout c ≡ true)
         → ((c : ℕ) → occurrences c (numbers number cells) ≤ 1)
-        → ((c : ℕ) → 1 ≤ occurrences c (numbers number cells) → m′ c ≡ memoryWith number m cells c) → Holds layout number m′ cells
-    holds-of m′ [] free once same = tt
-    holds-of m′ (newest ∷ rest) free once same =
+        → ((c : ℕ) → 1 ≤ occurrences c (numbers number cells) → m′ c ≡ memoryWith number m cells c) → CellsStand layout number m′ cells
+    cells-stand m′ [] free once same = tt
+    cells-stand m′ (newest ∷ rest) free once same =
         let c : ℕ = number (length rest) in
         let here : 1 ≤ occurrences c (numbers number (newest ∷ rest)) = numbers-newest number newest rest in (
           record { free = free c here; bytes = same c here ∙ memoryWith-here number m newest rest c refl },
-          holds-of m′ rest
+          cells-stand m′ rest
               (λ d h. free d (omega (arith, numbers-later number newest rest d)))
               (λ d. omega (arith, once d, numbers-later number newest rest d))
               (λ d h. same d (omega (arith, numbers-later number newest rest d))

@@ -26,8 +26,8 @@ use Rattle.trees.proofs.Frame.{link-tree, footprint-in, tree-frame, lookup-fram
 use Rattle.staging.specs.NewCells.{prefixCell}
 use Rattle.updates.specs.Built.{Built, unowned, allocate}
 use Rattle.updates.specs.Build.{valueAt}
-use Rattle.updates.proofs.Claims.{numbers, Held, Fine, Grown}
-use Rattle.updates.proofs.Rooms.{unowned-fine, allocate-numbers}
+use Rattle.updates.proofs.Claims.{numbers, BuildStands, TreeChanged}
+use Rattle.updates.proofs.Rooms.{unowned-consistent, allocate-numbers}
 use Rattle.updates.proofs.Prefixes.{prefix-allocated}
 
 -- a table with the empty key assigned
@@ -78,30 +78,28 @@ module _ (layout : Layout) (small : layout .cells ≤ cellLimit) (number : ℕ �
 
   module _ (value : ℕ) (clear : value < 2147483648) where
     -- NONE or a leaf becomes a leaf
-    leaf-grown : (old : Option ℕ) → read layout m w ≡ some (childless old)
-        → Fine layout number (unowned (leafWord value) []) × Grown layout number m m′ d w cs [] (some value) (unowned (leafWord value) [])
-    leaf-grown old was =
+    leaf-ends : (old : Option ℕ) → read layout m w ≡ some (childless old)
+        → TreeChanged layout number m m′ d w cs [] (some value) (unowned (leafWord value) [])
+    leaf-ends old was =
         let node : read layout m′ (leafWord value) ≡ some (childless (some value)) =
-        read-leaf layout m′ (leafWord value) value (leaf-made layout value clear) in (
-          unowned-fine layout number (leafWord value) [] (leaf-word-small value),
-          record {
-            cells = [];
-            valid = tree-join layout m′ d (leafWord value) (childless (some value)) [] node (gather-nil _ 256 0 (λ y. under-zero (kids layout m′ d)));
-            most = λ c. omega (arith, occurrences-none c);
-            least = λ c. omega (arith, numbers-none number c);
-            table = end-table (some value) (leafWord value) (childless (some value)) node refl
-                (λ y k near. lookup-zero layout m′ k ∙ sym (lookup-zero layout m k) ∙ sym (lookup-cons layout m w y k (childless old) near was));
-          },
-        )
+        read-leaf layout m′ (leafWord value) value (leaf-made layout value clear) in
+        record {
+          cells = [];
+          valid = tree-join layout m′ d (leafWord value) (childless (some value)) [] node (gather-nil _ 256 0 (λ y. under-zero (kids layout m′ d)));
+          most = λ c. omega (arith, occurrences-none c);
+          least = λ c. omega (arith, numbers-none number c);
+          table = end-table (some value) (leafWord value) (childless (some value)) node refl
+              (λ y k near. lookup-zero layout m′ k ∙ sym (lookup-zero layout m k) ∙ sym (lookup-cons layout m w y k (childless old) near was));
+          consistent = unowned-consistent layout number (leafWord value) [] (leaf-word-small value);
+        }
 
     -- a new prefix cell over the chain, sparse or split of a word u, whose tree is part of the old one
-    prefix-grown : (u : ℕ) (es : List ℕ) (Z : Node) → tree layout m d u ≡ some es → ((c : ℕ) → occurrences c es ≤ occurrences c cs)
+    prefix-ends : (u : ℕ) (es : List ℕ) (Z : Node) → tree layout m d u ≡ some es → ((c : ℕ) → occurrences c es ≤ occurrences c cs)
         → plain layout m (pointer layout u) ≡ some Z
         → ((y : ℕ) (k : List ℕ) → y < 256 → lookup layout m u (y ∷ k) ≡ lookup layout m w (y ∷ k))
-        → Held layout number m′ (allocate number 31 (prefixCell value u) [])
-        → Fine layout number (allocate number 31 (prefixCell value u) [])
-        × Grown layout number m m′ d w cs [] (some value) (allocate number 31 (prefixCell value u) [])
-    prefix-grown u es Z part less node same held =
+        → BuildStands layout number m′ (allocate number 31 (prefixCell value u) [])
+        → TreeChanged layout number m m′ d w cs [] (some value) (allocate number 31 (prefixCell value u) [])
+    prefix-ends u es Z part less node same standing =
         let c : ℕ = number 0 in
         let b : Built = allocate number 31 (prefixCell value u) [] in
         let agree-part : Agree m m′ es = agree-less m m′ cs es (λ z h. omega (arith, less z)) agree in
@@ -109,7 +107,7 @@ module _ (layout : Layout) (small : layout .cells ≤ cellLimit) (number : ℕ �
         agree-less m m′ es (Z .footprint) (footprint-in layout small m bytes d u es Z part (read-plain layout m u Z node)) agree-part in
         let f = plain-frame layout m m′ (pointer layout u) Z node read-by in
         let new = prefix-allocated layout small number m′ value u [] (f .0) clear
-        (omega (arith, plain-small layout small m u (pointer layout u) Z refl node)) (f .1) held in
+        (omega (arith, plain-small layout small m u (pointer layout u) Z refl node)) (f .1) standing in
         let q = tree-at layout m′ d u es (f .0) (tree-frame layout small m bytes m′ d u es part agree-part) (read-plain layout m′ u (f .0) (f .1)) in
         let ns : List ℕ = c ∷ f .0 .cells in
         let here : (z : ℕ) → occurrences z ns ≡ occurrences z (c ∷ []) + occurrences z (f .0 .cells) =
@@ -117,58 +115,54 @@ module _ (layout : Layout) (small : layout .cells ≤ cellLimit) (number : ℕ �
         let whole-tree : (z : ℕ) → occurrences z (ns ++ q .0) ≡ occurrences z (c ∷ []) + occurrences z es =
         λ z. omega (arith, occurrences-append z ns (q .0), here z, q .3 z) in
         let count : (z : ℕ) → occurrences z (numbers number (b .cells)) ≡ occurrences z (c ∷ []) =
-        λ z. omega (arith, allocate-numbers number z 31 (prefixCell value u) [], numbers-none number z) in (
-          new .1,
-          record {
-            cells = ns ++ q .0;
-            valid = tree-join layout m′ d (b .word) (prefixed value (c ∷ []) c (f .0)) (q .0) (new .0) (q .1);
-            most = λ z. omega (arith, whole-tree z, count z, less z);
-            least = λ z. omega (arith, whole-tree z, count z);
-            table = end-table (some value) (b .word) (prefixed value (c ∷ []) c (f .0)) (new .0) refl
-                (λ y k near.
-                sym (lookup-cons layout m′ u y k (f .0) near (read-plain layout m′ u (f .0) (f .1)))
-                ∙ lookup-frame layout small m bytes m′ (y ∷ k) d u es part agree-part ∙ same y k near);
-          },
-        )
+        λ z. omega (arith, allocate-numbers number z 31 (prefixCell value u) [], numbers-none number z) in
+        record {
+          cells = ns ++ q .0;
+          valid = tree-join layout m′ d (b .word) (prefixed value (c ∷ []) c (f .0)) (q .0) (new .0) (q .1);
+          most = λ z. omega (arith, whole-tree z, count z, less z);
+          least = λ z. omega (arith, whole-tree z, count z);
+          table = end-table (some value) (b .word) (prefixed value (c ∷ []) c (f .0)) (new .0) refl
+              (λ y k near.
+              sym (lookup-cons layout m′ u y k (f .0) near (read-plain layout m′ u (f .0) (f .1)))
+              ∙ lookup-frame layout small m bytes m′ (y ∷ k) d u es part agree-part ∙ same y k near);
+          consistent = new .1;
+        }
 
     -- a chain, sparse or split gets a new prefix cell
-    plain-grown : (p : Pointer) → pointer layout w ≡ p → ((X : Node) → readAt layout m p ≡ some X → plain layout m p ≡ some X)
-        → Held layout number m′ (allocate number 31 (prefixCell value w) [])
-        → Fine layout number (allocate number 31 (prefixCell value w) [])
-        × Grown layout number m m′ d w cs [] (some value) (allocate number 31 (prefixCell value w) [])
-    plain-grown p named is held =
+    plain-ends : (p : Pointer) → pointer layout w ≡ p → ((X : Node) → readAt layout m p ≡ some X → plain layout m p ≡ some X)
+        → BuildStands layout number m′ (allocate number 31 (prefixCell value w) [])
+        → TreeChanged layout number m m′ d w cs [] (some value) (allocate number 31 (prefixCell value w) [])
+    plain-ends p named is standing =
         let q = tree-cut layout m d w cs found in
         let node : plain layout m (pointer layout w) ≡ some (q .0) = ap (plain layout m) named ∙ is (q .0) (sym (read-is layout m w p named) ∙ q .2) in
-        prefix-grown w cs (q .0) found (λ c. omega arith) node (λ y k near. refl) held
+        prefix-ends w cs (q .0) found (λ c. omega arith) node (λ y k near. refl) standing
 
     -- a prefix is replaced by a new one to the same linked node
-    linked-grown : (c : ℕ) → pointer layout w ≡ prefix c → Held layout number m′ (allocate number 31 (prefixCell value (prefixLink c (m c))) [])
-        → Fine layout number (allocate number 31 (prefixCell value (prefixLink c (m c))) [])
-        × Grown layout number m m′ d w cs [] (some value) (allocate number 31 (prefixCell value (prefixLink c (m c))) [])
-    linked-grown c named held =
+    linked-ends : (c : ℕ) → pointer layout w ≡ prefix c → BuildStands layout number m′ (allocate number 31 (prefixCell value (prefixLink c (m c))) [])
+        → TreeChanged layout number m m′ d w cs [] (some value) (allocate number 31 (prefixCell value (prefixLink c (m c))) [])
+    linked-ends c named standing =
         let q = tree-cut layout m d w cs found in
         let r = read-prefix layout m w (q .0) (q .2) c named in
         let l = link-tree layout m d w c cs named found in
         let linked : read layout m (prefixLink c (m c)) ≡ some (r .0) = read-plain layout m (prefixLink c (m c)) (r .0) (r .2) in
-        prefix-grown (prefixLink c (m c)) (l .0) (r .0) (l .1)
+        prefix-ends (prefixLink c (m c)) (l .0) (r .0) (l .1)
         (λ z. omega (arith, occurrences-later z c (l .0), ap (occurrences z) (l .2))) (r .2)
         (λ y k near.
         lookup-cons layout m (prefixLink c (m c)) y k (r .0) near linked ∙ ap (λ (N : Node). lookup layout m (N .child y) k) (r .3)
-        ∙ sym (lookup-cons layout m w y k (q .0) near (q .2))) held
+        ∙ sym (lookup-cons layout m w y k (q .0) near (q .2))) standing
 
-    value-grown : (p : Pointer) → pointer layout w ≡ p → Held layout number m′ (valueAt layout number m value p w)
-        → Fine layout number (valueAt layout number m value p w) × Grown layout number m m′ d w cs [] (some value) (valueAt layout number m value p w)
+    value-ends : (p : Pointer) → pointer layout w ≡ p → BuildStands layout number m′ (valueAt layout number m value p w)
+        → TreeChanged layout number m m′ d w cs [] (some value) (valueAt layout number m value p w)
     unfolding valueAt readAt
-    value-grown nothing named held = leaf-grown none (read-is layout m w nothing named)
-    value-grown (leaf v) named held = leaf-grown (some v) (read-is layout m w (leaf v) named)
-    value-grown (chain c k) named held = plain-grown (chain c k) named (λ X e. e) held
-    value-grown (split c) named held = plain-grown (split c) named (λ X e. e) held
-    value-grown (sparse c) named held = plain-grown (sparse c) named (λ X e. e) held
-    value-grown (prefix c) named held = linked-grown c named held
-    value-grown invalid named held =
+    value-ends nothing named standing = leaf-ends none (read-is layout m w nothing named)
+    value-ends (leaf v) named standing = leaf-ends (some v) (read-is layout m w (leaf v) named)
+    value-ends (chain c k) named standing = plain-ends (chain c k) named (λ X e. e) standing
+    value-ends (split c) named standing = plain-ends (split c) named (λ X e. e) standing
+    value-ends (sparse c) named standing = plain-ends (sparse c) named (λ X e. e) standing
+    value-ends (prefix c) named standing = linked-ends c named standing
+    value-ends invalid named standing =
         let q = tree-cut layout m d w cs found in never (sym (read-is layout m w invalid named) ∙ q .2)
 
-    pub end-grown : Held layout number m′ (valueAt layout number m value (pointer layout w) w)
-        → Fine layout number (valueAt layout number m value (pointer layout w) w)
-        × Grown layout number m m′ d w cs [] (some value) (valueAt layout number m value (pointer layout w) w)
-    end-grown = value-grown (pointer layout w) refl
+    pub value-at-end : BuildStands layout number m′ (valueAt layout number m value (pointer layout w) w)
+        → TreeChanged layout number m m′ d w cs [] (some value) (valueAt layout number m value (pointer layout w) w)
+    value-at-end = value-ends (pointer layout w) refl

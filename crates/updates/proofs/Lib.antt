@@ -17,10 +17,10 @@ pub mod SplitCopied
 pub mod SparseCells
 pub mod SparseSet
 pub mod SetChild
-pub mod Grow
+pub mod TreeChange
 pub mod Aside
 pub mod KeyEnd
-pub mod Law
+pub mod PathLaw
 pub mod Taken
 pub mod ChangeLaw
 pub mod StagedCell

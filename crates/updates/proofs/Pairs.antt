@@ -24,8 +24,8 @@ use Rattle.nodes.proofs.Frame.{sparse-join}
 use Rattle.staging.specs.NewCells.{blank, pairCell, sparsePair}
 use Rattle.updates.specs.Built.{Built, allocate}
 use Rattle.updates.specs.SetChild.{withChild}
-use Rattle.updates.proofs.Claims.{Stands, Held, Fine, Placed}
-use Rattle.updates.proofs.Rooms.{allocate-numbers, allocate-names, allocate-fine, allocate-whole}
+use Rattle.updates.proofs.Claims.{CellStands, BuildStands, Consistent, Placed}
+use Rattle.updates.proofs.Rooms.{allocate-numbers, allocate-names, allocate-consistent, allocate-whole}
 
 -- the parts of a cell of two children
 pair-digits : (a u b v : ℕ) → sparseDigits (pairCell a u b v) ≡ 0 ∷ 1 ∷ []
@@ -90,12 +90,12 @@ module _ (layout : Layout) (small : layout .cells ≤ cellLimit) (number : ℕ �
   -- a sparse cell just allocated whose children are those of Y and the new one
   pub sparse-allocated : (Y : Node) (x : ℕ) (b : Built) (bytes : List ℕ) → validSparse bytes ≡ true
       → ((y : ℕ) → sparseChild bytes y ≡ withChild (Y .child) x (b .word) y)
-      → Held layout number m′ (allocate number 30 bytes (b .cells)) → Placed layout number m′ Y x b (allocate number 30 bytes (b .cells))
+      → BuildStands layout number m′ (allocate number 30 bytes (b .cells)) → Placed layout number m′ Y x b (allocate number 30 bytes (b .cells))
   unfolding byKind
-  sparse-allocated Y x b bytes valid child held =
+  sparse-allocated Y x b bytes valid child standing =
       let c : ℕ = number (length (b .cells)) in
-      let stands : Stands layout m′ 0 (number (length (b .cells))) bytes =
-      allocate-whole layout number m′ 30 bytes (b .cells) (omega arith) (omega arith) held in
+      let stands : CellStands layout m′ 0 (number (length (b .cells))) bytes =
+      allocate-whole layout number m′ 30 bytes (b .cells) (omega arith) (omega arith) standing in
       let here : m′ c ≡ bytes = stands .bytes in
       record {
         node = sparseNode (m′ c) c;
@@ -105,27 +105,27 @@ module _ (layout : Layout) (small : layout .cells ≤ cellLimit) (number : ℕ �
         child = λ y _. ap (λ s. sparseChild s y) here ∙ child y;
         most = λ z. omega (arith, allocate-numbers number z 30 bytes (b .cells));
         least = λ z. omega (arith, allocate-numbers number z 30 bytes (b .cells));
-        fine = allocate-fine layout small number (b .cells) (stands .free) 30 bytes (omega arith) (omega arith);
+        consistent = allocate-consistent layout small number (b .cells) (stands .free) 30 bytes (omega arith) (omega arith);
       }
 
   -- the new child beside the one child of a chain
-  pub pair-placed : (Y : Node) (x a u : ℕ) (b : Built) → b .word ≢ 0 → Fine layout number b → x ≢ a → u ≢ 0 → u < 4294967296
+  pub pair-placed : (Y : Node) (x a u : ℕ) (b : Built) → b .word ≢ 0 → Consistent layout number b → x ≢ a → u ≢ 0 → u < 4294967296
       → ((y : ℕ) → Y .child y ≡ oneChild a u y)
-      → Held layout number m′ (allocate number 30 (sparsePair x (b .word) a u) (b .cells))
+      → BuildStands layout number m′ (allocate number 30 (sparsePair x (b .word) a u) (b .cells))
       → Placed layout number m′ Y x b (allocate number 30 (sparsePair x (b .word) a u) (b .cells))
   unfolding sparsePair
-  pair-placed Y x a u b nonzero fine different u-nonzero u-small child held = elim (decLt x a) [
+  pair-placed Y x a u b nonzero consistent different u-nonzero u-small child standing = elim (decLt x a) [
     | yes first ↦
         let is : sparsePair x (b .word) a u ≡ pairCell x (b .word) a u = rw (lt-ltb x a first) in
         sparse-allocated Y x b (sparsePair x (b .word) a u)
-        (ap validSparse is ∙ pair-valid x (b .word) a u first nonzero u-nonzero (fine .small) u-small)
-        (λ y. ap (λ s. sparseChild s y) is ∙ pair-child x (b .word) a u first nonzero u-nonzero (fine .small) u-small y
-        ∙ ap (cond (eqb y x) (b .word)) (sym (child y))) held
+        (ap validSparse is ∙ pair-valid x (b .word) a u first nonzero u-nonzero (consistent .small) u-small)
+        (λ y. ap (λ s. sparseChild s y) is ∙ pair-child x (b .word) a u first nonzero u-nonzero (consistent .small) u-small y
+        ∙ ap (cond (eqb y x) (b .word)) (sym (child y))) standing
     | no later ↦
         let is : sparsePair x (b .word) a u ≡ pairCell a u x (b .word) = rw (le-ltb x a (omega arith)) in
         let rise : a < x = omega arith in
         sparse-allocated Y x b (sparsePair x (b .word) a u)
-        (ap validSparse is ∙ pair-valid a u x (b .word) rise u-nonzero nonzero u-small (fine .small))
-        (λ y. ap (λ s. sparseChild s y) is ∙ pair-child a u x (b .word) rise u-nonzero nonzero u-small (fine .small) y
-        ∙ cond-swap y x a (b .word) u different ∙ ap (cond (eqb y x) (b .word)) (sym (child y))) held
+        (ap validSparse is ∙ pair-valid a u x (b .word) rise u-nonzero nonzero u-small (consistent .small))
+        (λ y. ap (λ s. sparseChild s y) is ∙ pair-child a u x (b .word) rise u-nonzero nonzero u-small (consistent .small) y
+        ∙ cond-swap y x a (b .word) u different ∙ ap (cond (eqb y x) (b .word)) (sym (child y))) standing
   ]

@@ -23,8 +23,8 @@ use Rattle.nodes.proofs.Frame.{prefix-join, read-is, plain-read}
 use Rattle.staging.specs.NewCells.{blank, prefixCell}
 use Rattle.updates.specs.Built.{Built, allocate}
 use Rattle.updates.specs.Build.{putBack}
-use Rattle.updates.proofs.Claims.{numbers, Stands, Held, Fine, Placed, Changed}
-use Rattle.updates.proofs.Rooms.{allocate-numbers, allocate-names, allocate-fine, allocate-before, allocate-whole}
+use Rattle.updates.proofs.Claims.{numbers, CellStands, BuildStands, Consistent, Placed, NodeChanged}
+use Rattle.updates.proofs.Rooms.{allocate-numbers, allocate-names, allocate-consistent, allocate-before, allocate-whole}
 
 -- a new prefix cell
 pub prefix-cell-value : (v w : ℕ) → v < 4294967296 → prefixValue (prefixCell v w) ≡ v
@@ -55,23 +55,23 @@ prefix-reads layout m′ c v w linked clear small here reads =
 module _ (layout : Layout) (small : layout .cells ≤ cellLimit) (number : ℕ → ℕ) (m′ : Memory) where
   -- the same of a prefix cell just allocated
   pub prefix-allocated : (v w : ℕ) (cells : List (List ℕ)) (linked : Node) → v < 2147483648 → w < 4294967296
-      → plain layout m′ (pointer layout w) ≡ some linked → Held layout number m′ (allocate number 31 (prefixCell v w) cells)
+      → plain layout m′ (pointer layout w) ≡ some linked → BuildStands layout number m′ (allocate number 31 (prefixCell v w) cells)
       → (read layout m′ (allocate number 31 (prefixCell v w) cells .word) ≡ some (prefixed v (number (length cells) ∷ []) (number (length cells)) linked))
-      × Fine layout number (allocate number 31 (prefixCell v w) cells)
+      × Consistent layout number (allocate number 31 (prefixCell v w) cells)
   unfolding byKind
-  prefix-allocated v w cells linked clear word-small reads held =
+  prefix-allocated v w cells linked clear word-small reads standing =
       let c : ℕ = number (length cells) in
-      let stands : Stands layout m′ 0 (number (length cells)) (prefixCell v w) =
-      allocate-whole layout number m′ 31 (prefixCell v w) cells (omega arith) (omega arith) held in (
+      let stands : CellStands layout m′ 0 (number (length cells)) (prefixCell v w) =
+      allocate-whole layout number m′ 31 (prefixCell v w) cells (omega arith) (omega arith) standing in (
         read-is layout m′ (allocate number 31 (prefixCell v w) cells .word) (prefix c)
             (allocate-names layout small number cells (stands .free) 31 (prefixCell v w) (omega arith))
             ∙ prefix-reads layout m′ c v w linked clear word-small (stands .bytes) reads,
-        allocate-fine layout small number cells (stands .free) 31 (prefixCell v w) (omega arith) (omega arith),
+        allocate-consistent layout small number cells (stands .free) 31 (prefixCell v w) (omega arith) (omega arith),
       )
 
   -- a node with no value, after its child is set
   none-changed : (X Y : Node) (x : ℕ) (b r : Built) → X .value ≡ none → ((y : ℕ) → X .child y ≡ Y .child y)
-      → ((c : ℕ) → occurrences c (Y .cells) ≤ occurrences c (X .cells)) → Placed layout number m′ Y x b r → Changed layout number m′ X x b r
+      → ((c : ℕ) → occurrences c (Y .cells) ≤ occurrences c (X .cells)) → Placed layout number m′ Y x b r → NodeChanged layout number m′ X x b r
   none-changed X Y x b r had children visits p =
       record {
         node = p .node;
@@ -80,15 +80,15 @@ module _ (layout : Layout) (small : layout .cells ≤ cellLimit) (number : ℕ �
         child = λ y near. p .child y near ∙ ap (cond (eqb y x) (b .word)) (sym (children y));
         most = λ c. omega (arith, p .most c, visits c);
         least = p .least;
-        fine = p .fine;
+        consistent = p .consistent;
       }
 
   -- a value put back over it
   over-changed : (v : ℕ) → v < 2147483648 → (X Y : Node) (x : ℕ) (b r : Built) → X .value ≡ some v → ((y : ℕ) → X .child y ≡ Y .child y)
-      → ((c : ℕ) → occurrences c (Y .cells) ≤ occurrences c (X .cells)) → Held layout number m′ (allocate number 31 (prefixCell v (r .word)) (r .cells))
-      → Placed layout number m′ Y x b r → Changed layout number m′ X x b (allocate number 31 (prefixCell v (r .word)) (r .cells))
-  over-changed v clear X Y x b r had children visits held p =
-      let q = prefix-allocated v (r .word) (r .cells) (p .node) clear (p .fine .small) (p .reads) held in
+      → ((c : ℕ) → occurrences c (Y .cells) ≤ occurrences c (X .cells)) → BuildStands layout number m′ (allocate number 31 (prefixCell v (r .word)) (r .cells))
+      → Placed layout number m′ Y x b r → NodeChanged layout number m′ X x b (allocate number 31 (prefixCell v (r .word)) (r .cells))
+  over-changed v clear X Y x b r had children visits standing p =
+      let q = prefix-allocated v (r .word) (r .cells) (p .node) clear (p .consistent .small) (p .reads) standing in
       let here : (c : ℕ) → occurrences c (number (length (r .cells)) ∷ p .node .cells)
       ≡ occurrences c (number (length (r .cells)) ∷ []) + occurrences c (p .node .cells)
       = λ c. occurrences-append c (number (length (r .cells)) ∷ []) (p .node .cells) in
@@ -102,21 +102,21 @@ module _ (layout : Layout) (small : layout .cells ≤ cellLimit) (number : ℕ �
         child = λ y near. p .child y near ∙ ap (cond (eqb y x) (b .word)) (sym (children y));
         most = λ c. omega (arith, p .most c, visits c, here c, more c);
         least = λ c. omega (arith, p .least c, here c, more c);
-        fine = q .1;
+        consistent = q .1;
       }
 
   -- a value put back over a node that was placed
   pub putBack-changed : (value : Option ℕ) → ((v : ℕ) → value ≡ some v → v < 2147483648) → (X Y : Node) (x : ℕ) (b r : Built)
       → X .value ≡ value → ((y : ℕ) → X .child y ≡ Y .child y) → ((c : ℕ) → occurrences c (Y .cells) ≤ occurrences c (X .cells))
-      → Held layout number m′ (putBack layout number value r) → (Held layout number m′ r → Placed layout number m′ Y x b r)
-      → Changed layout number m′ X x b (putBack layout number value r)
+      → BuildStands layout number m′ (putBack layout number value r) → (BuildStands layout number m′ r → Placed layout number m′ Y x b r)
+      → NodeChanged layout number m′ X x b (putBack layout number value r)
   unfolding putBack
-  putBack-changed none clear X Y x b r had children visits held placed = none-changed X Y x b r had children visits (placed held)
-  putBack-changed (some v) clear X Y x b r had children visits held placed =
-      over-changed v (clear v refl) X Y x b r had children visits held
-      (placed (allocate-before layout number m′ 31 (prefixCell v (r .word)) r held))
+  putBack-changed none clear X Y x b r had children visits standing placed = none-changed X Y x b r had children visits (placed standing)
+  putBack-changed (some v) clear X Y x b r had children visits standing placed =
+      over-changed v (clear v refl) X Y x b r had children visits standing
+      (placed (allocate-before layout number m′ 31 (prefixCell v (r .word)) r standing))
 
-  pub putBack-held : (value : Option ℕ) (r : Built) → Held layout number m′ (putBack layout number value r) → Held layout number m′ r
+  pub putBack-below-stands : (value : Option ℕ) (r : Built) → BuildStands layout number m′ (putBack layout number value r) → BuildStands layout number m′ r
   unfolding putBack
-  putBack-held none r held = held
-  putBack-held (some v) r held = allocate-before layout number m′ 31 (prefixCell v (r .word)) r held
+  putBack-below-stands none r standing = standing
+  putBack-below-stands (some v) r standing = allocate-before layout number m′ 31 (prefixCell v (r .word)) r standing

@@ -15,7 +15,7 @@ use Rattle.nodes.specs.Layout.{Layout, usable, cellLimit}
 use Rattle.nodes.specs.Pointer.{pointer, byKind, wordTo}
 use Rattle.nodes.proofs.Pointers.{usable-inside, made}
 use Rattle.updates.specs.Built.{Built, unowned, allocate, room, roomOf, firstUsed, firstUsedOf}
-use Rattle.updates.proofs.Claims.{numbers, numbers-more, Stands, Held, holds-from, Run, Fine}
+use Rattle.updates.proofs.Claims.{numbers, numbers-more, CellStands, BuildStands, cells-stand-from, InNewest, Consistent}
 
 -- a word whose cell this call did not allocate has no room
 pub room-unowned : (word : ℕ) → room false word ≡ 0
@@ -87,10 +87,10 @@ first-chain own word k has = first-other own word (no-head has) ∙ has
     no-head e kind = unfold room in full (own && ltb word 2147483648) kind e
 
 -- a word whose cell this call did not allocate: nothing is written before it
-pub unowned-fine : (layout : Layout) (number : ℕ → ℕ) (word : ℕ) (cells : List (List ℕ)) → word < 4294967296
-    → Fine layout number (unowned word cells)
-unowned-fine layout number word cells small =
-    record { small = small; run = subst (λ k. Run layout number k word cells) (sym (room-unowned word)) tt }
+pub unowned-consistent : (layout : Layout) (number : ℕ → ℕ) (word : ℕ) (cells : List (List ℕ)) → word < 4294967296
+    → Consistent layout number (unowned word cells)
+unowned-consistent layout number word cells small =
+    record { small = small; in-newest = subst (λ k. InNewest layout number k word cells) (sym (room-unowned word)) tt }
 
 -- the room of a node of another kind than a chain in a cell just allocated
 pub allocate-room : (number : ℕ → ℕ) (kind : ℕ) (bytes : List ℕ) (cells : List (List ℕ)) → 28 ≤ kind → kind < 32
@@ -139,46 +139,46 @@ module _ (layout : Layout) (small : layout .cells ≤ cellLimit) (number : ℕ �
   unfolding allocate
   allocate-small kind bytes is = omega (arith, usable-inside layout (number (length cells)) free)
 
-  allocate-run : (kind : ℕ) (bytes : List ℕ) → kind < 28 → length bytes ≡ 32
-      → Run layout number kind (allocate number kind bytes cells .word) (allocate number kind bytes cells .cells)
+  allocate-in-newest : (kind : ℕ) (bytes : List ℕ) → kind < 28 → length bytes ≡ 32
+      → InNewest layout number kind (allocate number kind bytes cells .word) (allocate number kind bytes cells .cells)
   unfolding allocate
-  allocate-run zero bytes chain whole = tt
-  allocate-run (suc kind) bytes chain whole = (refl, omega arith, whole)
+  allocate-in-newest zero bytes chain whole = tt
+  allocate-in-newest (suc kind) bytes chain whole = (refl, omega arith, whole)
 
-  fine-as : (kind k : ℕ) (bytes : List ℕ) → kind < 32 → roomOf (allocate number kind bytes cells) ≡ k
-      → Run layout number k (allocate number kind bytes cells .word) (allocate number kind bytes cells .cells)
-      → Fine layout number (allocate number kind bytes cells)
-  fine-as kind k bytes is has run =
+  consistent-as : (kind k : ℕ) (bytes : List ℕ) → kind < 32 → roomOf (allocate number kind bytes cells) ≡ k
+      → InNewest layout number k (allocate number kind bytes cells .word) (allocate number kind bytes cells .cells)
+      → Consistent layout number (allocate number kind bytes cells)
+  consistent-as kind k bytes is has in-newest =
       record {
         small = allocate-small kind bytes is;
-        run = subst (λ j. Run layout number j (allocate number kind bytes cells .word) (allocate number kind bytes cells .cells)) (sym has) run;
+        in-newest = subst (λ j. InNewest layout number j (allocate number kind bytes cells .word) (allocate number kind bytes cells .cells)) (sym has) in-newest;
       }
 
-  pub allocate-fine : (kind : ℕ) (bytes : List ℕ) → 28 ≤ kind → kind < 32 → Fine layout number (allocate number kind bytes cells)
-  allocate-fine kind bytes other is = fine-as kind 0 bytes is (allocate-room number kind bytes cells other is) tt
+  pub allocate-consistent : (kind : ℕ) (bytes : List ℕ) → 28 ≤ kind → kind < 32 → Consistent layout number (allocate number kind bytes cells)
+  allocate-consistent kind bytes other is = consistent-as kind 0 bytes is (allocate-room number kind bytes cells other is) tt
 
-  pub allocate-fine-chain : (kind : ℕ) (bytes : List ℕ) → kind < 28 → length bytes ≡ 32 → Fine layout number (allocate number kind bytes cells)
-  allocate-fine-chain kind bytes chain whole =
-      fine-as kind kind bytes (omega arith) (allocate-room-chain kind bytes chain) (allocate-run kind bytes chain whole)
+  pub allocate-consistent-chain : (kind : ℕ) (bytes : List ℕ) → kind < 28 → length bytes ≡ 32 → Consistent layout number (allocate number kind bytes cells)
+  allocate-consistent-chain kind bytes chain whole =
+      consistent-as kind kind bytes (omega arith) (allocate-room-chain kind bytes chain) (allocate-in-newest kind bytes chain whole)
 
 module _ (layout : Layout) (number : ℕ → ℕ) (m′ : Memory) where
   -- where an allocated cell stands its number is usable, and the cells allocated before stand too
-  pub allocate-free : (kind : ℕ) (bytes : List ℕ) (cells : List (List ℕ)) → Held layout number m′ (allocate number kind bytes cells)
+  pub allocate-free : (kind : ℕ) (bytes : List ℕ) (cells : List (List ℕ)) → BuildStands layout number m′ (allocate number kind bytes cells)
       → usable layout (number (length cells)) ≡ true
   unfolding allocate
-  allocate-free kind bytes cells held = held .0 .free
+  allocate-free kind bytes cells standing = standing .0 .free
 
-  pub allocate-before : (kind : ℕ) (bytes : List ℕ) (b : Built) → Held layout number m′ (allocate number kind bytes (b .cells)) → Held layout number m′ b
+  pub allocate-before : (kind : ℕ) (bytes : List ℕ) (b : Built) → BuildStands layout number m′ (allocate number kind bytes (b .cells)) → BuildStands layout number m′ b
   unfolding allocate
-  allocate-before kind bytes b held = holds-from layout number m′ (firstUsedOf b) (b .cells) (held .1)
+  allocate-before kind bytes b standing = cells-stand-from layout number m′ (firstUsedOf b) (b .cells) (standing .1)
 
-  pub allocate-stands : (kind : ℕ) (bytes : List ℕ) (cells : List (List ℕ)) → Held layout number m′ (allocate number kind bytes cells)
-      → Stands layout m′ (firstUsedOf (allocate number kind bytes cells)) (number (length cells)) bytes
+  pub allocate-stands : (kind : ℕ) (bytes : List ℕ) (cells : List (List ℕ)) → BuildStands layout number m′ (allocate number kind bytes cells)
+      → CellStands layout m′ (firstUsedOf (allocate number kind bytes cells)) (number (length cells)) bytes
   unfolding allocate
-  allocate-stands kind bytes cells held = held .0
+  allocate-stands kind bytes cells standing = standing .0
 
   -- a cell of another kind than a chain or split stands as a whole
   pub allocate-whole : (kind : ℕ) (bytes : List ℕ) (cells : List (List ℕ)) → 28 < kind → kind < 32
-      → Held layout number m′ (allocate number kind bytes cells) → Stands layout m′ 0 (number (length cells)) bytes
-  allocate-whole kind bytes cells other is held =
-      subst (λ k. Stands layout m′ k (number (length cells)) bytes) (allocate-first number kind bytes cells other is) (allocate-stands kind bytes cells held)
+      → BuildStands layout number m′ (allocate number kind bytes cells) → CellStands layout m′ 0 (number (length cells)) bytes
+  allocate-whole kind bytes cells other is standing =
+      subst (λ k. CellStands layout m′ k (number (length cells)) bytes) (allocate-first number kind bytes cells other is) (allocate-stands kind bytes cells standing)

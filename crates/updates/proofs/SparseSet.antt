@@ -20,11 +20,11 @@ use Rattle.staging.specs.NewCells.{replacedCell, appendedCell}
 use Rattle.updates.specs.Built.{Built, allocate}
 use Rattle.updates.specs.SplitBuild.{splitOf}
 use Rattle.updates.specs.SetChild.{withChild, sparseSet}
-use Rattle.updates.proofs.Claims.{Held, Fine, Placed}
+use Rattle.updates.proofs.Claims.{BuildStands, Consistent, Placed}
 use Rattle.updates.proofs.Rooms.{allocate-before}
 use Rattle.updates.proofs.Pairs.{sparse-allocated}
 use Rattle.staging.proofs.TableWords.{sparseChild-bounded}
-use Rattle.updates.proofs.SplitOf.{splitOf-held, splitOf-with}
+use Rattle.updates.proofs.SplitOf.{splitOf-below-stands, splitOf-with}
 use Rattle.nodes.proofs.SparseChildren.{Sparse, sparse-parts, sparse-valid, position-first}
 use Rattle.updates.proofs.SparseCells.{replaced-sparse, replaced-child, appended-sparse, appended-child}
 
@@ -45,58 +45,58 @@ module _ (number : ℕ → ℕ) (bytes : List ℕ) (x : ℕ) (b : Built) where
 
 module _ (layout : Layout) (small : layout .cells ≤ cellLimit) (number : ℕ → ℕ) (m m′ : Memory)
     (bytes : (c : ℕ) → IsBytes (m c)) (whole : (c : ℕ) → length (m c) ≡ 32) where
-  module _ (c : ℕ) (valid : validSparse (m c) ≡ true) (x : ℕ) (character : x < 256) (b : Built) (nonzero : b .word ≢ 0) (fine : Fine layout number b) where
+  module _ (c : ℕ) (valid : validSparse (m c) ≡ true) (x : ℕ) (character : x < 256) (b : Built) (nonzero : b .word ≢ 0) (consistent : Consistent layout number b) where
     abbrev Sets : Built → Type 0
-    Sets after = Held layout number m′ after → Placed layout number m′ (sparseNode (m c) c) x b after
+    Sets after = BuildStands layout number m′ after → Placed layout number m′ (sparseNode (m c) c) x b after
 
     cell : Sparse (m c) (sparseDigits (m c))
     cell = sparse-parts (m c) valid
 
     replaced-placed : position (m c) x < sparseCount (m c) → Sets (replaced number (m c) x b)
-    replaced-placed inside held =
+    replaced-placed inside standing =
         sparse-allocated layout small number m′ (sparseNode (m c) c) x b (replacedCell (m c) (position (m c) x) (b .word))
-        (sparse-valid _ _ (replaced-sparse (m c) (whole c) cell (b .word) nonzero (fine .small) (position (m c) x) inside))
-        (replaced-child (m c) (whole c) cell (b .word) nonzero (fine .small) (position (m c) x) inside x refl) held
+        (sparse-valid _ _ (replaced-sparse (m c) (whole c) cell (b .word) nonzero (consistent .small) (position (m c) x) inside))
+        (replaced-child (m c) (whole c) cell (b .word) nonzero (consistent .small) (position (m c) x) inside x refl) standing
 
     appended-placed : sparseCount (m c) ≤ position (m c) x → sparseCount (m c) < 6 → Sets (appended number (m c) x b)
-    appended-placed lacks room held =
+    appended-placed lacks room standing =
         sparse-allocated layout small number m′ (sparseNode (m c) c) x b (appendedCell (m c) x (b .word))
-        (sparse-valid _ _ (appended-sparse (m c) (whole c) cell (b .word) nonzero (fine .small) x room new))
-        (appended-child (m c) (whole c) cell (b .word) nonzero (fine .small) x room new) held
+        (sparse-valid _ _ (appended-sparse (m c) (whole c) cell (b .word) nonzero (consistent .small) x room new))
+        (appended-child (m c) (whole c) cell (b .word) nonzero (consistent .small) x room new) standing
       where
         new : (r : ℕ) → r < sparseCount (m c) → sparseCharacter (m c) r ≢ x
         new r near = position-first (m c) x (sparseCount (m c)) 0 r (omega arith) (omega arith) (omega (arith, lacks))
 
     divided-placed : Sets (divided number (m c) x b)
-    divided-placed held =
-        splitOf-with layout small number m′ (sparseNode (m c) c) x b (sparseChild-bounded (m c) (bytes c)) character nonzero fine held
+    divided-placed standing =
+        splitOf-with layout small number m′ (sparseNode (m c) c) x b (sparseChild-bounded (m c) (bytes c)) character nonzero consistent standing
 
     set-placed : Sets (sparseSet number (m c) x b)
     unfolding sparseSet
-    set-placed held = go (ltb (position (m c) x) (sparseCount (m c))) refl held
+    set-placed standing = go (ltb (position (m c) x) (sparseCount (m c))) refl standing
       where
         more : (t : Bool) → ltb (sparseCount (m c)) 6 ≡ t → sparseCount (m c) ≤ position (m c) x → Sets (cond t (appended number (m c) x b) (divided number (m c) x b))
-        more true e lacks held = appended-placed lacks (ltb-true (sparseCount (m c)) 6 e) held
-        more false e lacks held = divided-placed held
+        more true e lacks standing = appended-placed lacks (ltb-true (sparseCount (m c)) 6 e) standing
+        more false e lacks standing = divided-placed standing
 
         go : (t : Bool) → ltb (position (m c) x) (sparseCount (m c)) ≡ t
             → Sets (cond t (replaced number (m c) x b) (cond (ltb (sparseCount (m c)) 6) (appended number (m c) x b) (divided number (m c) x b)))
-        go true e held = replaced-placed (ltb-true (position (m c) x) (sparseCount (m c)) e) held
-        go false e held = more (ltb (sparseCount (m c)) 6) refl (ltb-false (position (m c) x) (sparseCount (m c)) e) held
+        go true e standing = replaced-placed (ltb-true (position (m c) x) (sparseCount (m c)) e) standing
+        go false e standing = more (ltb (sparseCount (m c)) 6) refl (ltb-false (position (m c) x) (sparseCount (m c)) e) standing
 
   -- the node with the child set has the children of before and the new one
-  pub sparse-placed : (c : ℕ) (Y : Node) → plain layout m (sparse c) ≡ some Y → (x : ℕ) → x < 256 → (b : Built) → b .word ≢ 0 → Fine layout number b
-      → Held layout number m′ (sparseSet number (m c) x b) → Placed layout number m′ Y x b (sparseSet number (m c) x b)
-  sparse-placed c Y reads x character b nonzero fine held =
+  pub sparse-placed : (c : ℕ) (Y : Node) → plain layout m (sparse c) ≡ some Y → (x : ℕ) → x < 256 → (b : Built) → b .word ≢ 0 → Consistent layout number b
+      → BuildStands layout number m′ (sparseSet number (m c) x b) → Placed layout number m′ Y x b (sparseSet number (m c) x b)
+  sparse-placed c Y reads x character b nonzero consistent standing =
       let cut = sparse-cut layout m c Y reads in
-      subst (λ (Z : Node). Placed layout number m′ Z x b (sparseSet number (m c) x b)) (cut .1) (set-placed c (cut .0) x character b nonzero fine held)
+      subst (λ (Z : Node). Placed layout number m′ Z x b (sparseSet number (m c) x b)) (cut .1) (set-placed c (cut .0) x character b nonzero consistent standing)
 
   -- the cells of the child stand where those of the node do
-  pub sparse-held : (c x : ℕ) (b : Built) → Held layout number m′ (sparseSet number (m c) x b) → Held layout number m′ b
+  pub sparse-below-stands : (c x : ℕ) (b : Built) → BuildStands layout number m′ (sparseSet number (m c) x b) → BuildStands layout number m′ b
   unfolding sparseSet
-  sparse-held c x b held = go (ltb (position (m c) x) (sparseCount (m c))) (ltb (sparseCount (m c)) 6) held
+  sparse-below-stands c x b standing = go (ltb (position (m c) x) (sparseCount (m c))) (ltb (sparseCount (m c)) 6) standing
     where
-      go : (t u : Bool) → Held layout number m′ (cond t (replaced number (m c) x b) (cond u (appended number (m c) x b) (divided number (m c) x b))) → Held layout number m′ b
-      go true u held = allocate-before layout number m′ 0x1E (replacedCell (m c) (position (m c) x) (b .word)) b held
-      go false true held = allocate-before layout number m′ 0x1E (appendedCell (m c) x (b .word)) b held
-      go false false held = splitOf-held layout number m′ (withChild (sparseChild (m c)) x (b .word)) b held
+      go : (t u : Bool) → BuildStands layout number m′ (cond t (replaced number (m c) x b) (cond u (appended number (m c) x b) (divided number (m c) x b))) → BuildStands layout number m′ b
+      go true u standing = allocate-before layout number m′ 0x1E (replacedCell (m c) (position (m c) x) (b .word)) b standing
+      go false true standing = allocate-before layout number m′ 0x1E (appendedCell (m c) x (b .word)) b standing
+      go false false standing = splitOf-below-stands layout number m′ (withChild (sparseChild (m c)) x (b .word)) b standing

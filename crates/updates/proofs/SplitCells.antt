@@ -21,8 +21,8 @@ use Rattle.nodes.proofs.Pointers.{usable-low, usable-inside, made-split}
 use Rattle.nodes.proofs.Frame.{below-split, end-join, mid-join, head-is, split-join}
 use Rattle.updates.specs.Built.{Built, allocate}
 use Rattle.updates.specs.SetChild.{withChild}
-use Rattle.updates.proofs.Claims.{from-at, Stands, Holds, Held, numbers, Placed}
-use Rattle.updates.proofs.Rooms.{allocate-numbers, allocate-first-head, allocate-names, allocate-fine, allocate-free, allocate-stands}
+use Rattle.updates.proofs.Claims.{from-at, CellStands, CellsStand, BuildStands, numbers, Placed}
+use Rattle.updates.proofs.Rooms.{allocate-numbers, allocate-first-head, allocate-names, allocate-consistent, allocate-free, allocate-stands}
 
 -- the word of kind 1C to a usable cell
 module _ (layout : Layout) (c : ℕ) (free : usable layout c ≡ true) where
@@ -47,21 +47,21 @@ module _ (layout : Layout) (c : ℕ) (free : usable layout c ≡ true) where
 
 -- the cells allocated before the newest
 module _ (layout : Layout) (number : ℕ → ℕ) (m′ : Memory) where
-  pub allocate-older : (kind : ℕ) (bytes : List ℕ) (cells : List (List ℕ)) → Held layout number m′ (allocate number kind bytes cells)
-      → Holds layout number m′ cells
+  pub allocate-older : (kind : ℕ) (bytes : List ℕ) (cells : List (List ℕ)) → BuildStands layout number m′ (allocate number kind bytes cells)
+      → CellsStand layout number m′ cells
   unfolding allocate
-  allocate-older kind bytes cells held = held .1
+  allocate-older kind bytes cells standing = standing .1
 
 module _ (layout : Layout) (small : layout .cells ≤ cellLimit) (number : ℕ → ℕ) (m′ : Memory) where
   -- a head just allocated
-  module _ (bytes : List ℕ) (cells : List (List ℕ)) (held : Held layout number m′ (allocate number 0x1C bytes cells)) where
+  module _ (bytes : List ℕ) (cells : List (List ℕ)) (standing : BuildStands layout number m′ (allocate number 0x1C bytes cells)) where
     head-free : usable layout (number (length cells)) ≡ true
-    head-free = allocate-free layout number m′ 0x1C bytes cells held
+    head-free = allocate-free layout number m′ 0x1C bytes cells standing
 
-    head-stands : Stands layout m′ 16 (number (length cells)) bytes
+    head-stands : CellStands layout m′ 16 (number (length cells)) bytes
     head-stands =
-        subst (λ (k : ℕ). Stands layout m′ k (number (length cells)) bytes) (allocate-first-head layout small number cells head-free bytes)
-        (allocate-stands layout number m′ 0x1C bytes cells held)
+        subst (λ (k : ℕ). CellStands layout m′ k (number (length cells)) bytes) (allocate-first-head layout small number cells head-free bytes)
+        (allocate-stands layout number m′ 0x1C bytes cells standing)
 
     -- its words are those of the bytes, whatever stands before them
     head-same : (i : ℕ) → i < 4 → headWord (m′ (number (length cells))) i ≡ headWord bytes i
@@ -106,5 +106,5 @@ module _ (layout : Layout) (small : layout .cells ≤ cellLimit) (number : ℕ �
           child = λ y character. head-child y character ∙ children y character;
           most = λ c. omega (arith, occurrences-append c (number (length cells) ∷ []) below, allocate-numbers number c 0x1C bytes cells, most c);
           least = λ c. omega (arith, occurrences-append c (number (length cells) ∷ []) below, allocate-numbers number c 0x1C bytes cells, least c);
-          fine = allocate-fine layout small number cells head-free 0x1C bytes (omega arith) (omega arith);
+          consistent = allocate-consistent layout small number cells head-free 0x1C bytes (omega arith) (omega arith);
         }

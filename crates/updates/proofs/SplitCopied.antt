@@ -27,7 +27,7 @@ use Rattle.staging.specs.NewCells.{tableCopy, headCopy}
 use Rattle.updates.specs.Built.{Built, allocate}
 use Rattle.updates.specs.SplitBuild.{splitCopied}
 use Rattle.updates.specs.SetChild.{withChild}
-use Rattle.updates.proofs.Claims.{Stands, Holds, Held, holds-from, numbers-more, Fine, Placed}
+use Rattle.updates.proofs.Claims.{CellStands, CellsStand, BuildStands, cells-stand-from, numbers-more, Consistent, Placed}
 use Rattle.staging.proofs.CellBytes.{headCopy-cell}
 use Rattle.nodes.proofs.WordRows.{some-word-is}
 use Rattle.staging.proofs.TableWords.{table-set, head-set, headCopy-word, tableCopy-length, tableCopy-word, bits-same}
@@ -143,9 +143,9 @@ module _ (layout : Layout) (m : Memory) where
 
 -- the cells allocated before stand where those of the copy do
 module _ (layout : Layout) (number : ℕ → ℕ) (m m′ : Memory) where
-  pub split-held : (c x : ℕ) (b : Built) → Held layout number m′ (splitCopied number m c x b) → Held layout number m′ b
+  pub split-below-stands : (c x : ℕ) (b : Built) → BuildStands layout number m′ (splitCopied number m c x b) → BuildStands layout number m′ b
   unfolding splitCopied allocate
-  split-held c x b held = holds-from layout number m′ _ (b .cells) (held .1 .1 .1)
+  split-below-stands c x b standing = cells-stand-from layout number m′ _ (b .cells) (standing .1 .1 .1)
 
 module _ (layout : Layout) (small : layout .cells ≤ cellLimit) (number : ℕ → ℕ) (m m′ : Memory)
     (bytes : (c : ℕ) → IsBytes (m c)) (whole : (c : ℕ) → length (m c) ≡ 32) where
@@ -161,7 +161,7 @@ module _ (layout : Layout) (small : layout .cells ≤ cellLimit) (number : ℕ �
 
   -- a mid or end copied that stands, with a pointer set in it
   module _ (w p v : ℕ) (inside : p < 8) (other : v ≢ 0) (bounded : v < 4294967296) (d : ℕ)
-      (stands : Stands layout m′ 0 d (withWord (tableCopy m w) (4 * p) v)) where
+      (stands : CellStands layout m′ 0 d (withWord (tableCopy m w) (4 * p) v)) where
     copy-words : (q : ℕ) → q < 8 → tableWord (m′ d) q ≡ cond (eqb q p) v (wordBelow m w q)
     copy-words q near = ap (λ l. tableWord l q) (stands .bytes) ∙ table-copied w p v q inside bounded
 
@@ -193,10 +193,10 @@ module _ (layout : Layout) (small : layout .cells ≤ cellLimit) (number : ℕ �
 
   -- the end, the mid and the head of the copy
   module _ (c : ℕ) (Y : Node) (reads : plain layout m (split c) ≡ some Y) (agree : Agree m m′ (Y .cells))
-      (x : ℕ) (character : x < 256) (b : Built) (nonzero : b .word ≢ 0) (fine : Fine layout number b) where
-    pub split-placed : Held layout number m′ (splitCopied number m c x b) → Placed layout number m′ Y x b (splitCopied number m c x b)
+      (x : ℕ) (character : x < 256) (b : Built) (nonzero : b .word ≢ 0) (consistent : Consistent layout number b) where
+    pub split-placed : BuildStands layout number m′ (splitCopied number m c x b) → Placed layout number m′ Y x b (splitCopied number m c x b)
     unfolding splitCopied
-    split-placed held =
+    split-placed standing =
         let mid : ℕ = headWord (m c) (x / 64) in
         let end : ℕ = wordBelow m mid (x / 8 % 8) in
         let newEnd : List ℕ = withWord (tableCopy m end) (4 * (x % 8)) (b .word) in
@@ -206,9 +206,9 @@ module _ (layout : Layout) (small : layout .cells ≤ cellLimit) (number : ℕ �
         let withMid : List (List ℕ) = newMid ∷ withEnd in
         let d : ℕ = number (length withEnd) in
         let newHead : List ℕ = withWord (headCopy (m c)) (0x10 + 4 * (x / 64)) (wordTo d 0x1C) in
-        let older : Holds layout number m′ withMid = allocate-older layout number m′ 0x1C newHead withMid held in
-        let mid-stands : Stands layout m′ 0 d newMid = older .0 in
-        let end-stands : Stands layout m′ 0 e newEnd = older .1 .0 in
+        let older : CellsStand layout number m′ withMid = allocate-older layout number m′ 0x1C newHead withMid standing in
+        let mid-stands : CellStands layout m′ 0 d newMid = older .0 in
+        let end-stands : CellStands layout m′ 0 e newEnd = older .1 .0 in
         let e-other : wordTo e 0x1C ≢ 0 = made-nonzero layout e (end-stands .free) in
         let e-bounded : wordTo e 0x1C < 4294967296 = made-bounded layout e (end-stands .free) small in
         let d-other : wordTo d 0x1C ≢ 0 = made-nonzero layout d (mid-stands .free) in
@@ -221,18 +221,18 @@ module _ (layout : Layout) (small : layout .cells ≤ cellLimit) (number : ℕ �
         let alike-mid : Agree m m′ (at .0) = agree-less m m′ (c ∷ cs) (at .0) (λ z h. omega (arith, at .2 z, occurrences-later z c cs)) alike in
         let M =
         copied-mid mid (x / 8 % 8) (wordTo e 0x1C) (omega arith) e-other e-bounded d mid-stands (at .0) (e ∷ []) (at .1) alike-mid
-        (copied-end end (x % 8) (b .word) (omega arith) nonzero (fine .small) e end-stands) in
+        (copied-end end (x % 8) (b .word) (omega arith) nonzero (consistent .small) e end-stands) in
         let heads : (i : ℕ) → i < 4 → headWord newHead i ≡ cond (eqb i (x / 64)) (wordTo d 0x1C) (headWord (m c) i) =
         λ i near. head-copied c (x / 64) (wordTo d 0x1C) i (omega arith) near d-bounded in
         let H =
         gather-replaced m m′ (midCells layout m) (midCells layout m′) (mid-frame layout m m′) (headWord (m c)) (headWord newHead) 4 (x / 64) (wordTo d 0x1C)
         (at .0) (d ∷ M .0) cs (omega arith) d-other (at .1) (M .1) heads found (agree-tail m m′ c cs alike) in
-        head-placed layout small number m′ newHead withMid held Y x b (H .0)
+        head-placed layout small number m′ newHead withMid standing Y x b (H .0)
         (some-replaced (headWord (m c)) (headWord newHead) 4 (x / 64) (wordTo d 0x1C) (omega arith) d-other heads) (H .1)
         (λ y near.
         copied-children layout m m′ c cs (p .2) alike x (b .word) (wordTo d 0x1C) (wordTo e 0x1C) (headWord newHead) heads
         (copy-below mid (x / 8 % 8) (wordTo e 0x1C) (omega arith) e-other e-bounded d mid-stands)
-        (copy-below end (x % 8) (b .word) (omega arith) nonzero (fine .small) e end-stands) y near
+        (copy-below end (x % 8) (b .word) (omega arith) nonzero (consistent .small) e end-stands) y near
         ∙ ap (λ (Z : Node). withChild (Z .child) x (b .word) y) (p .3))
         (λ z. omega (
           arith,

@@ -20,7 +20,7 @@ use Rattle.nodes.specs.Split.{tableWord, validTable, gather, under}
 use Rattle.nodes.proofs.Gather.{gather-join, gather-same, under-zero, under-word}
 use Rattle.staging.specs.NewCells.{blank, withWords}
 use Rattle.updates.specs.SplitBuild.{Row, tableRow, rows}
-use Rattle.updates.proofs.Claims.{Holds, numbers, numbers-more}
+use Rattle.updates.proofs.Claims.{CellsStand, numbers, numbers-more}
 use Rattle.nodes.proofs.WordRows.{some-word-is, some-word-at, some-word-not}
 use Rattle.staging.proofs.TableWords.{cond-bounded, table-words}
 use Rattle.updates.proofs.SplitCells.{made-nonzero, made-bounded}
@@ -33,7 +33,7 @@ tableRowIf number words cells t =
 
 module _ (number : ℕ → ℕ) where
   -- a word made, what is found under it, and the cells allocated for it
-  pub record Made (found : ℕ → Option (List ℕ)) (Good : ℕ → Type 0) (word : ℕ) (before after : List (List ℕ)) : Type 0 where
+  pub record WordMade (found : ℕ → Option (List ℕ)) (Good : ℕ → Type 0) (word : ℕ) (before after : List (List ℕ)) : Type 0 where
     pub cells : List ℕ
     pub finds : under found word ≡ some cells
     pub count : (c : ℕ) → occurrences c cells + occurrences c (numbers number before) ≡ occurrences c (numbers number after)
@@ -41,7 +41,7 @@ module _ (number : ℕ → ℕ) where
     pub good : Good word
 
   -- the same of words made side by side
-  pub record RowMade (found : ℕ → Option (List ℕ)) (Good : ℕ → ℕ → Type 0) (many from : ℕ) (before : List (List ℕ)) (row : Row) : Type 0 where
+  pub record WordsMade (found : ℕ → Option (List ℕ)) (Good : ℕ → ℕ → Type 0) (many from : ℕ) (before : List (List ℕ)) (row : Row) : Type 0 where
     pub cells : List ℕ
     pub finds : gather (λ i. under found (row .words i)) many from ≡ some cells
     pub count : (c : ℕ) → occurrences c cells + occurrences c (numbers number before) ≡ occurrences c (numbers number (row .cells))
@@ -50,30 +50,30 @@ module _ (number : ℕ → ℕ) where
 
 module _ (layout : Layout) (number : ℕ → ℕ) (m′ : Memory) where
   -- the cells allocated before some rows stand where those after them do
-  pub table-holds : (words : ℕ → ℕ) (cells : List (List ℕ)) → Holds layout number m′ (tableRow number words cells .cells) → Holds layout number m′ cells
+  pub table-below-stands : (words : ℕ → ℕ) (cells : List (List ℕ)) → CellsStand layout number m′ (tableRow number words cells .cells) → CellsStand layout number m′ cells
   unfolding tableRow
-  table-holds words cells = go (someWord words 8 0)
+  table-below-stands words cells = go (someWord words 8 0)
     where
-      go : (t : Bool) → Holds layout number m′ (tableRowIf number words cells t .cells) → Holds layout number m′ cells
-      go true held = held .1
-      go false held = held
+      go : (t : Bool) → CellsStand layout number m′ (tableRowIf number words cells t .cells) → CellsStand layout number m′ cells
+      go true standing = standing .1
+      go false standing = standing
 
-  pub rows-holds : (make : ℕ → List (List ℕ) → Row)
-      → ((i : ℕ) (cells : List (List ℕ)) → Holds layout number m′ (make i cells .cells) → Holds layout number m′ cells)
-      → (count i : ℕ) (cells : List (List ℕ)) → Holds layout number m′ (rows make count i cells .cells) → Holds layout number m′ cells
+  pub rows-below-stands : (make : ℕ → List (List ℕ) → Row)
+      → ((i : ℕ) (cells : List (List ℕ)) → CellsStand layout number m′ (make i cells .cells) → CellsStand layout number m′ cells)
+      → (count i : ℕ) (cells : List (List ℕ)) → CellsStand layout number m′ (rows make count i cells .cells) → CellsStand layout number m′ cells
   unfolding rows
-  rows-holds make each zero i cells held = held
-  rows-holds make each (suc count) i cells held = each i cells (rows-holds make each count (i + 1) (make i cells .cells) held)
+  rows-below-stands make each zero i cells standing = standing
+  rows-below-stands make each (suc count) i cells standing = each i cells (rows-below-stands make each count (i + 1) (make i cells .cells) standing)
 
   -- rows made one after the other, by the law of one of them
   module _ (found : ℕ → Option (List ℕ)) (Good : ℕ → ℕ → Type 0) (make : ℕ → List (List ℕ) → Row)
-      (holds : (i : ℕ) (cells : List (List ℕ)) → Holds layout number m′ (make i cells .cells) → Holds layout number m′ cells)
-      (law : (i : ℕ) (cells : List (List ℕ)) → Holds layout number m′ (make i cells .cells)
-      → Made number found (Good i) (make i cells .words 0) cells (make i cells .cells)) where
-    pub rows-made : (count i : ℕ) (cells : List (List ℕ)) → Holds layout number m′ (rows make count i cells .cells)
-        → RowMade number found Good count i cells (rows make count i cells)
+      (below-stands : (i : ℕ) (cells : List (List ℕ)) → CellsStand layout number m′ (make i cells .cells) → CellsStand layout number m′ cells)
+      (law : (i : ℕ) (cells : List (List ℕ)) → CellsStand layout number m′ (make i cells .cells)
+      → WordMade number found (Good i) (make i cells .words 0) cells (make i cells .cells)) where
+    pub rows-made : (count i : ℕ) (cells : List (List ℕ)) → CellsStand layout number m′ (rows make count i cells .cells)
+        → WordsMade number found Good count i cells (rows make count i cells)
     unfolding rows gather
-    rows-made zero i cells held =
+    rows-made zero i cells standing =
         record {
           cells = [];
           finds = refl;
@@ -81,10 +81,10 @@ module _ (layout : Layout) (number : ℕ → ℕ) (m′ : Memory) where
           bounded = λ j. omega arith;
           good = λ j low high. absurd (omega arith);
         }
-    rows-made (suc count) i cells held =
+    rows-made (suc count) i cells standing =
         let later : Row = rows make count (i + 1) (make i cells .cells) in
-        let R = rows-made count (i + 1) (make i cells .cells) held in
-        let O = law i cells (rows-holds make holds count (i + 1) (make i cells .cells) held) in
+        let R = rows-made count (i + 1) (make i cells .cells) standing in
+        let O = law i cells (rows-below-stands make below-stands count (i + 1) (make i cells .cells) standing) in
         let words : ℕ → ℕ = λ j. cond (eqb j i) (make i cells .words 0) (later .words j) in
         record {
           cells = O .cells ++ R .cells;
@@ -108,30 +108,30 @@ module _ (layout : Layout) (small : layout .cells ≤ cellLimit) (number : ℕ �
       (empty : ((k : ℕ) → k < 8 → words k ≡ 0) → (below ≡ []) × Good 0)
       (full : (d : ℕ) → usable layout d ≡ true → validTable (m′ d) ≡ true → ((k : ℕ) → k < 8 → tableWord (m′ d) k ≡ words k)
       → (found (wordTo d 0x1C) ≡ some (d ∷ below)) × Good (wordTo d 0x1C)) where
-    pub table-made : Holds layout number m′ (tableRow number words cells .cells)
-        → Made number found Good (tableRow number words cells .words 0) before (tableRow number words cells .cells)
+    pub table-made : CellsStand layout number m′ (tableRow number words cells .cells)
+        → WordMade number found Good (tableRow number words cells .words 0) before (tableRow number words cells .cells)
     unfolding tableRow
     table-made = go (someWord words 8 0) refl
       where
-        go : (t : Bool) → someWord words 8 0 ≡ t → Holds layout number m′ (tableRowIf number words cells t .cells)
-            → Made number found Good (tableRowIf number words cells t .words 0) before (tableRowIf number words cells t .cells)
-        go true e held =
+        go : (t : Bool) → someWord words 8 0 ≡ t → CellsStand layout number m′ (tableRowIf number words cells t .cells)
+            → WordMade number found Good (tableRowIf number words cells t .words 0) before (tableRowIf number words cells t .cells)
+        go true e standing =
             let d : ℕ = number (length cells) in
             let q = some-word-at words 8 0 e in
             let same : (k : ℕ) → k < 8 → tableWord (m′ d) k ≡ words k =
-            λ k inside. ap (λ l. tableWord l k) (held .0 .bytes) ∙ table-words words k inside (bounded k) in
+            λ k inside. ap (λ l. tableWord l k) (standing .0 .bytes) ∙ table-words words k inside (bounded k) in
             let near : q .0 < 8 = omega (arith, q .2) in
             let valid : validTable (m′ d) ≡ true =
             some-word-is (tableWord (m′ d)) 8 0 (q .0) (omega arith) (omega arith) (λ z. q .3 (sym (same (q .0) near) ∙ z)) in
-            let r = full d (held .0 .free) valid same in
+            let r = full d (standing .0 .free) valid same in
             record {
               cells = d ∷ below;
-              finds = under-word found (wordTo d 0x1C) (made-nonzero layout d (held .0 .free)) ∙ r .0;
+              finds = under-word found (wordTo d 0x1C) (made-nonzero layout d (standing .0 .free)) ∙ r .0;
               count = λ c. omega (arith, occurrences-append c (d ∷ []) below, count c, numbers-more number c (withWords words 8 0 blank) cells);
-              bounded = made-bounded layout d (held .0 .free) small;
+              bounded = made-bounded layout d (standing .0 .free) small;
               good = r .1;
             }
-        go false e held =
+        go false e standing =
             let r = empty (λ k inside. some-word-not words 8 0 e k (omega arith) (omega arith)) in
             record {
               cells = [];

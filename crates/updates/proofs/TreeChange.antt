@@ -21,7 +21,7 @@ use Rattle.trees.specs.Lookup.{Table, lookup, sameKey, assign}
 use Rattle.trees.proofs.Tree.{tree-at, tree-join, tree-zero, under-tree, tree-below, lookup-nil, lookup-cons, lookup-other}
 use Rattle.trees.proofs.Frame.{tree-frame, lookup-frame}
 use Rattle.updates.specs.Built.{Built}
-use Rattle.updates.proofs.Claims.{Changed, Grown}
+use Rattle.updates.proofs.Claims.{NodeChanged, TreeChanged}
 
 -- a table with a key assigned, at the empty key, behind the key's first character and behind any other
 module _ (table : Table) (x : ℕ) (key : List ℕ) (given : Option ℕ) where
@@ -43,8 +43,8 @@ module _ (layout : Layout) (small : layout .cells ≤ cellLimit) (number : ℕ �
   module _ (d w : ℕ) (cs : List ℕ) (found : tree layout m (suc d) w ≡ some cs) (agree : Agree m m′ cs)
       (X : Node) (node : read layout m w ≡ some X) (x : ℕ) (near : x < 256)
       (a : List ℕ) (child-found : tree layout m d (X .child x) ≡ some a) (key : List ℕ) (given : Option ℕ)
-      (b after : Built) (changed : Changed layout number m′ X x b after)
-      (below : Grown layout number m m′ d (X .child x) a key given b) where
+      (b after : Built) (changed : NodeChanged layout number m′ X x b after)
+      (below : TreeChanged layout number m m′ d (X .child x) a key given b) where
     -- what is found under a word is its tree, NONE's too
     under-any : (u : ℕ) {es : List ℕ} → tree layout m′ d u ≡ some es → under (tree layout m′ d) u ≡ some es
     under-any u e = elim (ℕ-discrete u 0) [
@@ -92,8 +92,8 @@ module _ (layout : Layout) (small : layout .cells ≤ cellLimit) (number : ℕ �
       ]
     ]
 
-    pub grow : Grown layout number m m′ (suc d) w cs (x ∷ key) given after
-    grow =
+    pub change-tree : TreeChanged layout number m m′ (suc d) w cs (x ∷ key) given after
+    change-tree =
         let N : Node = changed .node in
         let q = tree-at layout m (suc d) w cs X found node in
         let ds : List ℕ = q .0 in
@@ -115,4 +115,5 @@ module _ (layout : Layout) (small : layout .cells ≤ cellLimit) (number : ℕ �
           most = λ c. omega (arith, occurrences-append c (N .cells) (r .0), r .2 c, changed .most c, below .most c, q .3 c, ap (occurrences c) same);
           least = λ c. omega (arith, occurrences-append c (N .cells) (r .0), r .2 c, changed .least c, below .least c, old .2 c);
           table = assigned;
+          consistent = changed .consistent;
         }

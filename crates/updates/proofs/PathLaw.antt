@@ -27,9 +27,9 @@ use Rattle.updates.specs.Built.{Built}
 use Rattle.updates.specs.SetChild.{setChild}
 use Rattle.updates.specs.Build.{wordAside, putBack, childOf, pathCopy}
 use Rattle.updates.specs.Staged.{nodeCopy}
-use Rattle.updates.proofs.Claims.{Held, Fine, Placed, Grown}
-use Rattle.updates.proofs.Aside.{child-of, aside, node-held, bare-placed, node-changed}
-use Rattle.updates.proofs.Grow.{grow}
+use Rattle.updates.proofs.Claims.{BuildStands, Placed, TreeChanged, EndLaw}
+use Rattle.updates.proofs.Aside.{child-of, aside, node-below-stands, bare-placed, node-changed}
+use Rattle.updates.proofs.TreeChange.{change-tree}
 
 -- a root has no value, and a chain, sparse or split is one
 root-value : (layout : Layout) (m : Memory) (p : Pointer) → isRoot p ≡ true → pointerValue m p ≡ none
@@ -58,20 +58,20 @@ Rooted layout b = isRoot (pointer layout (b .word)) ≡ true
 
 -- a placed node is a root where no value is put back over it
 bare-root : (layout : Layout) (number : ℕ → ℕ) (m′ : Memory) (value : Option ℕ) → value ≡ none → (Y : Node) (x : ℕ) (b r : Built)
-    → Held layout number m′ (putBack layout number value r) → (Held layout number m′ r → Placed layout number m′ Y x b r)
+    → BuildStands layout number m′ (putBack layout number value r) → (BuildStands layout number m′ r → Placed layout number m′ Y x b r)
     → Rooted layout (putBack layout number value r)
 unfolding putBack
-bare-root layout number m′ none bare Y x b r held placed =
-    let p = placed held in plain-root layout m′ (pointer layout (r .word)) (p .node) (p .reads)
-bare-root layout number m′ (some v) bare Y x b r held placed = never (sym bare)
+bare-root layout number m′ none bare Y x b r standing placed =
+    let p = placed standing in plain-root layout m′ (pointer layout (r .word)) (p .node) (p .reads)
+bare-root layout number m′ (some v) bare Y x b r standing placed = never (sym bare)
 
 -- where a value is assigned, the word of a build is not NONE
 assigned-nonzero : (layout : Layout) (number : ℕ → ℕ) (m m′ : Memory) (d w : ℕ) (cs key : List ℕ) (given : Option ℕ) (b : Built)
-    → Grown layout number m m′ d w cs key given b → given ≢ none → b .word ≢ 0
+    → TreeChanged layout number m m′ d w cs key given b → given ≢ none → b .word ≢ 0
 unfolding assign
-assigned-nonzero layout number m m′ d w cs key given b grown a-value zero-word =
+assigned-nonzero layout number m m′ d w cs key given b tree-changed a-value zero-word =
     let own : assign (lookup layout m w) key given key ≡ given = rw (same-key-refl key) in
-    a-value (sym own ∙ sym (grown .table key) ∙ ap (λ u. lookup layout m′ u key) zero-word ∙ lookup-zero layout m′ key)
+    a-value (sym own ∙ sym (tree-changed .table key) ∙ ap (λ u. lookup layout m′ u key) zero-word ∙ lookup-zero layout m′ key)
 
 -- one character down: the node of a tree, and the tree below its child
 record Descent (layout : Layout) (m m′ : Memory) (d w x : ℕ) : Type 0 where
@@ -103,43 +103,40 @@ module _ (layout : Layout) (small : layout .cells ≤ cellLimit) (number : ℕ �
     (bytes : (c : ℕ) → IsBytes (m c)) (whole : (c : ℕ) → length (m c) ≡ 32) where
   -- the path of a key copied, by the law of the rule at its end: what the rule assigns to the key, a value or none
   module _ (atEnd : ℕ → Built) (assigned : Option ℕ) (a-value : assigned ≢ none)
-      (ends : (d w : ℕ) (cs : List ℕ) → tree layout m d w ≡ some cs → Agree m m′ cs → Held layout number m′ (atEnd w)
-      → Fine layout number (atEnd w) × Grown layout number m m′ d w cs [] assigned (atEnd w)) where
-    pub law : (key : List ℕ) → IsBytes key → (d w : ℕ) (cs : List ℕ) → length key ≤ d → tree layout m d w ≡ some cs → Agree m m′ cs
-        → Held layout number m′ (pathCopy layout number m atEnd w key)
-        → Fine layout number (pathCopy layout number m atEnd w key) × Grown layout number m m′ d w cs key assigned (pathCopy layout number m atEnd w key)
+      (ends : EndLaw layout number m m′ atEnd assigned) where
+    pub path-law : (key : List ℕ) → IsBytes key → (d w : ℕ) (cs : List ℕ) → length key ≤ d → tree layout m d w ≡ some cs → Agree m m′ cs
+        → BuildStands layout number m′ (pathCopy layout number m atEnd w key)
+        → TreeChanged layout number m m′ d w cs key assigned (pathCopy layout number m atEnd w key)
     unfolding pathCopy
-    law [] is-bytes d w cs fits found agree held = ends d w cs found agree held
-    law (x ∷ key) is-bytes zero w cs fits found agree held = absurd (omega arith)
-    law (x ∷ key) is-bytes (suc d) w cs fits found agree held =
+    path-law [] is-bytes d w cs fits found agree standing = ends d w cs found agree standing
+    path-law (x ∷ key) is-bytes zero w cs fits found agree standing = absurd (omega arith)
+    path-law (x ∷ key) is-bytes (suc d) w cs fits found agree standing =
         let near : x < 256 = is-bytes .below 0 in
         let u : ℕ = childOf (read layout m w) x in
         let b : Built = pathCopy layout number m atEnd u key in
         let s = descend layout m m′ d w x cs near found agree in
         let later =
-        law key (bytes-tail x key is-bytes) d u (s .cells) (omega arith) (s .found) (s .agree-below) (node-held layout small number m m′ bytes whole w x b held) in
-        let nonzero : b .word ≢ 0 = assigned-nonzero layout number m m′ d u (s .cells) key assigned b (later .1) a-value in
-        let changed = node-changed layout small number m m′ bytes whole w (s .node) (s .reads) (s .agree) x near b nonzero (later .0) held in (
-          changed .fine,
-          grow layout small number m m′ bytes d w cs found agree (s .node) (s .reads) x near (s .cells) (ap (tree layout m d) (sym (s .child)) ∙ s .found)
-              key assigned b (nodeCopy layout number m w x b) changed
-              (subst (λ v. Grown layout number m m′ d v (s .cells) key assigned b) (s .child) (later .1)),
-        )
+        path-law key (bytes-tail x key is-bytes) d u (s .cells) (omega arith) (s .found) (s .agree-below) (node-below-stands layout small number m m′ bytes whole w x b standing) in
+        let nonzero : b .word ≢ 0 = assigned-nonzero layout number m m′ d u (s .cells) key assigned b later a-value in
+        let changed = node-changed layout small number m m′ bytes whole w (s .node) (s .reads) (s .agree) x near b nonzero (later .consistent) standing in
+        change-tree layout small number m m′ bytes d w cs found agree (s .node) (s .reads) x near (s .cells) (ap (tree layout m d) (sym (s .child)) ∙ s .found)
+        key assigned b (nodeCopy layout number m w x b) changed
+        (subst (λ v. TreeChanged layout number m m′ d v (s .cells) key assigned b) (s .child) later)
 
     -- a key that is not empty, changed at a root, gives a root
-    pub rooted : (key : List ℕ) → IsBytes key → 1 ≤ length key → (d w : ℕ) (cs : List ℕ) → length key ≤ d → tree layout m d w ≡ some cs
-        → Agree m m′ cs → isRoot (pointer layout w) ≡ true → Held layout number m′ (pathCopy layout number m atEnd w key)
+    pub path-rooted : (key : List ℕ) → IsBytes key → 1 ≤ length key → (d w : ℕ) (cs : List ℕ) → length key ≤ d → tree layout m d w ≡ some cs
+        → Agree m m′ cs → isRoot (pointer layout w) ≡ true → BuildStands layout number m′ (pathCopy layout number m atEnd w key)
         → Rooted layout (pathCopy layout number m atEnd w key)
     unfolding pathCopy
-    rooted [] is-bytes some-key d w cs fits found agree root held = absurd (omega arith)
-    rooted (x ∷ key) is-bytes some-key zero w cs fits found agree root held = absurd (omega arith)
-    rooted (x ∷ key) is-bytes some-key (suc d) w cs fits found agree root held =
+    path-rooted [] is-bytes some-key d w cs fits found agree root standing = absurd (omega arith)
+    path-rooted (x ∷ key) is-bytes some-key zero w cs fits found agree root standing = absurd (omega arith)
+    path-rooted (x ∷ key) is-bytes some-key (suc d) w cs fits found agree root standing =
         let near : x < 256 = is-bytes .below 0 in
         let u : ℕ = childOf (read layout m w) x in
         let b : Built = pathCopy layout number m atEnd u key in
         let s = descend layout m m′ d w x cs near found agree in
         let later =
-        law key (bytes-tail x key is-bytes) d u (s .cells) (omega arith) (s .found) (s .agree-below) (node-held layout small number m m′ bytes whole w x b held) in
+        path-law key (bytes-tail x key is-bytes) d u (s .cells) (omega arith) (s .found) (s .agree-below) (node-below-stands layout small number m m′ bytes whole w x b standing) in
         bare-root layout number m′ (pointerValue m (pointer layout w)) (root-value layout m (pointer layout w) root)
-        (aside layout m w (s .node) (s .reads) .bare) x b (setChild layout number m (pointer layout (wordAside layout m (pointer layout w) w)) x b) held
-        (bare-placed layout small number m m′ bytes whole w (s .node) (s .reads) (s .agree) x near b (assigned-nonzero layout number m m′ d u (s .cells) key assigned b (later .1) a-value) (later .0))
+        (aside layout m w (s .node) (s .reads) .bare) x b (setChild layout number m (pointer layout (wordAside layout m (pointer layout w) w)) x b) standing
+        (bare-placed layout small number m m′ bytes whole w (s .node) (s .reads) (s .agree) x near b (assigned-nonzero layout number m m′ d u (s .cells) key assigned b later a-value) (later .consistent))
