@@ -9,3 +9,5 @@ pub mod ReadSteps
 pub mod GetSteps
 pub mod NextSteps
 pub mod RefusalSteps
+pub mod TrailerWrites
+pub mod After

@@ -16,6 +16,7 @@ use Rattle.cells.specs.Writes.{written}
 use Rattle.cells.specs.Occurrences.{occurrences, select}
 use Rattle.cells.proofs.Memory.{memory-length, memory-bytes}
 use Rattle.nodes.specs.Layout.{Layout, keyLimit}
+use Rattle.nodes.proofs.Usable.{not-last}
 use Rattle.trees.specs.Root.{validRoot, rootCells}
 use Rattle.trees.specs.Lookup.{lookup, update}
 use Rattle.updates.specs.Build.{cellsNeeded}
@@ -36,7 +37,7 @@ use Rattle.store.specs.Free.{free}
 use Rattle.store.specs.Insert.{noRoom, insertRefusals, numbering, blockBuild, insertWrites, insert}
 use Rattle.store.proofs.CallAnswers.{insert-answers}
 use Rattle.store.proofs.Free.{free-usable, free-once, free-reached}
-use Rattle.store.proofs.After.{After, after, slotShown, not-trailer, slot-root, old-root-kept}
+use Rattle.blocks.proofs.After.{After, after, slotShown, slot-root, old-root-kept}
 use Rattle.store.proofs.Committed.{committed-bytes, committed-cells, committed-trailer, committed-kept, committed-says}
 
 -- a new key has 1 to as many bytes as the limit, and a value fits
@@ -107,7 +108,7 @@ module _ (b key : List ℕ) (value : ℕ) (bytes : IsBytes b) (is-bytes : IsByte
       value (value-fits value (a .good-value)) key is-bytes keyLimit (rootWord (layoutOf b) b) (p .cells) (key-fits key (a .good-key)) (p .found)
       (λ c h. free-reached (layoutOf b) b c (omega (arith, h, ap (occurrences c) (p .cells-are), root-reachable (layoutOf b) b c)))
       build-enough
-      (λ c u. committed-cells b s (blockBuild b key value) build-cells build-enough c (not-trailer (layoutOf b) c u))
+      (λ c u. committed-cells b s (blockBuild b key value) build-cells build-enough c (not-last (layoutOf b) c u))
 
   pub record NewRoot : Type 0 where
     pub cells : List ℕ
