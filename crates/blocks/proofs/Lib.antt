@@ -10,3 +10,5 @@ pub mod GetSteps
 pub mod NextSteps
 pub mod RefusalSteps
 pub mod Proved
+pub mod TrailerWrites
+pub mod After

@@ -3,7 +3,7 @@ use mathlib.Core.Path.{_≡_, refl, sym, ap, _∙_, subst}
 use mathlib.Core.Logic.{_≢_}
 use mathlib.Core.Bool.{Bool, true, false}
 use mathlib.Core.List.{List}
-use Prim.Native.Nat.{ℕ, _+_, _*_, _/_, _%_, _^_, _≤_, _<_}
+use Prim.Native.Nat.{ℕ, _+_, _/_, _%_, _^_, _≤_, _<_}
 use native.Mathlib.Nat.{one-mul, div-lt-iff-lt-mul}
 use native.Mathlib.Numerals.{add-one}
 use native.Mathlib.Omega.{arith}
@@ -12,44 +12,51 @@ use lib.ListN.{length, getD}
 use lib.Pow.{pow-pos}
 use borrow.Author.Tests.{eq-eqb, ne-eqb, lt-ltb, le-ltb, lt-leb, le-leb}
 use Rattle.cells.specs.Word.{wordAt}
-use Rattle.cells.proofs.Choice.{both}
-use Rattle.nodes.specs.Layout.{Layout, cellLimit}
-use Rattle.blocks.specs.Trailer.{badSize, layoutOf, slots, validSlot, slotWord, trailerOf, trailerAt, inUse, everySlot, idleIsZero, validTrailer}
+use Rattle.cells.proofs.Choice.{absurd-bool, both}
+use Rattle.nodes.specs.Layout.{Layout, leastCells, validEdition, cellLimit}
+use Rattle.blocks.specs.Trailer.{trailerAt, zeroBytesAt, cellsAt, zeroWordAt, editionOf, badLength, badSize, layoutOf, slots, validSlot, slotBits, slotWord, inUse, everySlot, idleIsZero, zeroFrom, validTrailer}
 use Rattle.blocks.specs.Fits.{Fits}
-use Rattle.blocks.proofs.Trailer.{sized, layout-cells, slot-low, slot-high, slots-three, every-slot, TrailerParts, trailer-parts}
+use Rattle.blocks.proofs.Trailer.{sized, has-trailer, slot-low, slot-high, slots-most, every-slot, zero-byte, zero-run, TrailerParts, trailer-parts}
 
--- a size that is refused, in the order of the tests
+-- a length that is refused, in the order of the tests
+module _ (least size : ℕ) where
+  pub length-broken : size % 32 ≢ 0 → badLength least size ≡ true
+  unfolding badLength
+  length-broken n = rw (ne-eqb (size % 32) 0 n)
+
+  pub length-small : size % 32 ≡ 0 → size / 32 < least → badLength least size ≡ true
+  unfolding badLength
+  length-small e h = rw (eq-eqb (size % 32) 0 e, lt-ltb (size / 32) least h)
+
+  pub length-other : size % 32 ≡ 0 → least ≤ size / 32 → badLength least size ≡ ltb cellLimit (size / 32)
+  unfolding badLength
+  length-other e h = rw (eq-eqb (size % 32) 0 e, le-ltb (size / 32) least h)
+
+-- a size that is refused: no trailer, and else by the least number of cells that the layout asks for
 module _ (b : List ℕ) where
-  pub size-broken : length b % 32 ≢ 0 → badSize b ≡ true
-  unfolding badSize
-  size-broken n = rw (ne-eqb (length b % 32) 0 n)
+  pub size-none : badLength 1 (length b) ≡ true → badSize b ≡ true
+  size-none none = go (badSize b) refl
+    where
+      go : (t : Bool) → badSize b ≡ t → t ≡ true
+      go true e = refl
+      go false e = sym (has-trailer b e) ∙ none
 
-  pub size-small : length b % 32 ≡ 0 → length b / 32 < 4 → badSize b ≡ true
+  pub size-least : (layout : Layout) (least : ℕ) → layout ≡ layoutOf b → least ≡ leastCells layout → badSize b ≡ badLength least (length b)
   unfolding badSize
-  size-small e h = rw (eq-eqb (length b % 32) 0 e, lt-ltb (length b / 32) 4 h)
-
-  pub size-other : length b % 32 ≡ 0 → 4 ≤ length b / 32 → badSize b ≡ ltb cellLimit (length b / 32)
-  unfolding badSize
-  size-other e h = rw (eq-eqb (length b % 32) 0 e, le-ltb (length b / 32) 4 h)
+  size-least layout least e is = ap (λ (n : ℕ). badLength n (length b)) (sym (is ∙ ap (λ (l : Layout). leastCells l) e))
 
 -- a block of valid size fits the layout that it states
 pub fits : (b : List ℕ) → badSize b ≡ false → Fits (layoutOf b) (length b)
 fits b good = let s = sized b good in record { whole = s .whole; least = s .least; most = s .most }
 
 -- the layout from its two numbers
-pub layout-is : (b : List ℕ) (edition : ℕ) → edition ≡ wordAt b (trailerOf (length b / 32) + 28)
+pub layout-is : (b : List ℕ) (edition : ℕ) → edition ≡ wordAt b (editionOf (length b / 32))
     → _≡_ {A = Layout} (record { edition = edition; cells = length b / 32 }) (layoutOf b)
 unfolding layoutOf
 layout-is b edition e = ap (λ (n : ℕ). record { edition = n; cells = length b / 32 }) e
 
-pub size-facts : (b : List ℕ) → badSize b ≡ false → (length b ≡ length b / 32 * 32) × (4 ≤ length b / 32) × (length b / 32 ≤ cellLimit)
-size-facts b good =
-    let s = sized b good in
-    (omega (arith, layout-cells b, s .whole), omega (arith, layout-cells b, s .least), omega (arith, layout-cells b, s .most))
-
-pub slot-range : (layout : Layout) (slot : ℕ) → validSlot layout slot ≡ true → (1 ≤ slot) × (slot ≤ 3)
-slot-range layout slot valid =
-    (slot-low layout slot valid, subst (λ (n : ℕ). slot ≤ n) (slots-three layout) (slot-high layout slot valid))
+pub slot-range : (layout : Layout) (slot : ℕ) → validSlot layout slot ≡ true → (1 ≤ slot) × (slot ≤ 7)
+slot-range layout slot valid = (slot-low layout slot valid, omega (arith, slot-high layout slot valid, slots-most layout))
 
 -- whether a number names a slot, by two tests
 module _ (layout : Layout) (slot : ℕ) where
@@ -85,6 +92,23 @@ every-fails test count slot low high fails = go (everySlot test count) refl
     go true e = sym (every-slot test count slot e low high) ∙ fails
     go false e = refl
 
+-- the walk along a run of zero bytes
+module _ (b : List ℕ) (at : ℕ) where
+  pub zero-none : zeroFrom b at 0 ≡ true
+  unfolding zeroFrom
+  zero-none = refl
+
+  pub zero-more : (i : ℕ) → zeroFrom b at i ≡ true → getD b (at + i) 0 ≡ 0 → zeroFrom b at (i + 1) ≡ true
+  unfolding zeroFrom
+  zero-more i before here = rw add-one (both before (eq-eqb (getD b (at + i) 0) 0 here))
+
+  pub zero-fails : (count i : ℕ) → i < count → getD b (at + i) 0 ≢ 0 → zeroFrom b at count ≡ false
+  zero-fails count i below other = go (zeroFrom b at count) refl
+    where
+      go : (t : Bool) → zeroFrom b at count ≡ t → t ≡ false
+      go true e = absurd (other (zero-byte b at count e i below))
+      go false e = refl
+
 -- a number of so many bits has nothing above them
 module _ (v k : ℕ) where
   pub bits-over : v / 2 ^ k ≢ 0 → v < 2 ^ k → ⊥
@@ -97,6 +121,10 @@ module _ (v k : ℕ) where
 
 -- the tests of the trailer in their order: one that fails, and all passed but the last
 module _ (layout : Layout) (b : List ℕ) where
+  pub trailer-idle : everySlot (idleIsZero layout b) (slots layout) ≡ false → false ≡ validTrailer layout b
+  unfolding validTrailer
+  trailer-idle fails = rw fails
+
   broken : (TrailerParts layout b → ⊥) → false ≡ validTrailer layout b
   broken no-parts = go (validTrailer layout b) refl
     where
@@ -104,36 +132,30 @@ module _ (layout : Layout) (b : List ℕ) where
       go true e = absurd (no-parts (trailer-parts layout b e))
       go false e = refl
 
-  pub trailer-idle : everySlot (idleIsZero layout b) (slots layout) ≡ false → false ≡ validTrailer layout b
-  unfolding validTrailer
-  trailer-idle fails = rw fails
-
-  module _ (start count : ℕ) (at : start ≡ trailerAt layout) (all-slots : count ≡ slots layout) where
-    pub trailer-bits : getD b (start + 16) 0 / 2 ^ count ≢ 0 → false ≡ validTrailer layout b
-    trailer-bits over =
-        broken (λ p. bits-over (getD b (start + 16) 0) count over (rw (at, all-slots) (p .bits)))
-
-    pub trailer-passed : everySlot (idleIsZero layout b) (slots layout) ≡ true → getD b (start + 16) 0 / 2 ^ count ≡ 0
-        → getD b (start + 16 + 1) 0 ≡ 0 → getD b (start + 16 + 2) 0 ≡ 0 → getD b (start + 16 + 3) 0 ≡ 0
-        → (size spare : ℕ) → size ≡ wordAt b (start + 20) → size ≡ layout .cells → spare ≡ wordAt b (start + 24) → spare ≡ 0
-        → eqb (layout .edition) 1 ≡ validTrailer layout b
-    unfolding validTrailer
-    trailer-passed idle bits one two three size spare size-is same spare-is none =
-        let within : getD b (trailerAt layout + 16) 0 < 2 ^ slots layout =
-        rw (← at, ← all-slots) (bits-within (getD b (start + 16) 0) count bits) in
-        let one : getD b (trailerAt layout + 16 + 1) 0 ≡ 0 = rw (← at) one in
-        let two : getD b (trailerAt layout + 16 + 2) 0 ≡ 0 = rw (← at) two in
-        let three : getD b (trailerAt layout + 16 + 3) 0 ≡ 0 = rw (← at) three in
-        let size : wordAt b (trailerAt layout + 20) ≡ layout .cells = rw (← at) (sym size-is ∙ same) in
-        let spare : wordAt b (trailerAt layout + 24) ≡ 0 = rw (← at) (sym spare-is ∙ none) in
-        rw (idle, lt-ltb (getD b (trailerAt layout + 16) 0) (2 ^ slots layout) within, one, two, three, eq-eqb (wordAt b (trailerAt layout + 20)) (layout .cells) size, spare)
+  module _ (bits count : ℕ) (bits-are : bits ≡ slotBits layout b) (all-slots : count ≡ slots layout) where
+    pub trailer-bits : bits / 2 ^ count ≢ 0 → false ≡ validTrailer layout b
+    trailer-bits over = broken (λ p. bits-over bits count over (rw (bits-are, all-slots) (p .bits)))
 
   module _ (start : ℕ) (at : start ≡ trailerAt layout) where
-    pub trailer-gap : (k : ℕ) → 1 ≤ k → k < 4 → getD b (start + 16 + k) 0 ≢ 0 → false ≡ validTrailer layout b
-    trailer-gap k low high other = broken (λ p. other (rw at (p .gap k low high)))
+    pub trailer-gap : zeroFrom b (start + 0x11) 3 ≡ false → false ≡ validTrailer layout b
+    trailer-gap fails = broken (λ p. absurd-bool (sym (zero-run b (zeroBytesAt layout) 3 (p .gap)) ∙ rw (← at) fails))
 
-    pub trailer-size : (word : ℕ) → word ≡ wordAt b (start + 20) → word ≢ layout .cells → false ≡ validTrailer layout b
+    pub trailer-size : (word : ℕ) → word ≡ wordAt b (start + 0x14) → word ≢ layout .cells → false ≡ validTrailer layout b
     trailer-size word is other = broken (λ p. other (is ∙ rw at (p .size)))
 
-    pub trailer-spare : (word : ℕ) → word ≡ wordAt b (start + 24) → word ≢ 0 → false ≡ validTrailer layout b
-    trailer-spare word is other = broken (λ p. other (is ∙ rw at (p .spare)))
+    pub trailer-spare : zeroFrom b (start + 0x18) 4 ≡ false → false ≡ validTrailer layout b
+    trailer-spare fails = broken (λ p. absurd-bool (sym (zero-run b (zeroWordAt layout) 4 (p .spare)) ∙ rw (← at) fails))
+
+    pub trailer-passed : everySlot (idleIsZero layout b) (slots layout) ≡ true
+        → (bits count : ℕ) → bits ≡ slotBits layout b → count ≡ slots layout → bits / 2 ^ count ≡ 0
+        → zeroFrom b (start + 0x11) 3 ≡ true
+        → (size : ℕ) → size ≡ wordAt b (start + 0x14) → size ≡ layout .cells
+        → zeroFrom b (start + 0x18) 4 ≡ true
+        → (valid : Bool) → valid ≡ validEdition (layout .edition) → valid ≡ validTrailer layout b
+    unfolding validTrailer
+    trailer-passed idle bits count bits-are all-slots none-over gap size size-is same spare valid edition =
+        let within : slotBits layout b < 2 ^ slots layout = rw (← bits-are, ← all-slots) (bits-within bits count none-over) in
+        let gap : zeroFrom b (zeroBytesAt layout) 3 ≡ true = rw (← at) gap in
+        let size : wordAt b (cellsAt layout) ≡ layout .cells = rw (← at) (sym size-is ∙ same) in
+        let spare : zeroFrom b (zeroWordAt layout) 4 ≡ true = rw (← at) spare in
+        edition ∙ rw (idle, lt-ltb (slotBits layout b) (2 ^ slots layout) within, gap, eq-eqb (wordAt b (cellsAt layout)) (layout .cells) size, spare)

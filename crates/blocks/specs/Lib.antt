@@ -1,4 +1,5 @@
 pub mod Trailer
+pub mod TrailerWrites
 pub mod Sound
 pub mod Refusal
 pub mod Read

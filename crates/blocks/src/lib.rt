@@ -4,4 +4,5 @@ pub mod get;
 pub mod key;
 pub mod next;
 pub mod trailer_fields;
+pub mod trailer_writes;
 pub mod validate;

@@ -9,7 +9,7 @@ use Rattle.cells.proofs.Choice.{never}
 use Rattle.nodes.specs.Layout.{Layout}
 use Rattle.trees.specs.Lookup.{Table, emptyTable}
 use Rattle.blocks.specs.Trailer.{layoutOf, slots, validSlot, inUse}
-use Rattle.store.proofs.After.{After, slotShown}
+use Rattle.blocks.proofs.After.{After, slotShown}
 use Rattle.store.proofs.Format.{Fresh}
 use Rattle.history.specs.Ledger.{Ledger, emptyLedger}
 use Rattle.history.specs.Demand3.{Agrees}
@@ -85,8 +85,8 @@ module _ (count : ℕ) (b b′ : List ℕ) (same : slots (layoutOf b) ≡ count)
       }
 
 -- a fresh block stands beside the empty ledger
-pub beside-fresh : (b fresh : List ℕ) → Fresh b fresh → Beside (slots (layoutOf fresh)) fresh emptyLedger
-beside-fresh b fresh f =
+pub beside-fresh : (edition : ℕ) (b fresh : List ℕ) → Fresh edition b fresh → Beside (slots (layoutOf fresh)) fresh emptyLedger
+beside-fresh edition b fresh f =
     record {
       agrees = record {
         size = f .size;

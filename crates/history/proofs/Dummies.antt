@@ -13,14 +13,15 @@ use Rattle.cells.specs.Bytes.{IsBytes, zeros}
 use Rattle.cells.proofs.Choice.{never}
 use Rattle.cells.proofs.Words.{set-bytes, bytes-zeros}
 use Rattle.trees.specs.Lookup.{emptyTable, sameKey, assign, update}
-use Rattle.blocks.specs.Trailer.{badSize, layoutOf, slots, validSlot}
+use Rattle.nodes.specs.Layout.{trailerCells}
+use Rattle.blocks.specs.Trailer.{badLength, layoutOf, slots, validSlot}
 use Rattle.blocks.specs.Refusal.{overLong, badKey, badNewKey, badValue}
 use Rattle.blocks.specs.Refusal.{Changed}
 use Rattle.blocks.specs.Read.{shown}
-use Rattle.store.specs.Format.{format}
+use Rattle.store.specs.Format.{badNewSize, format}
 use Rattle.store.specs.Insert.{cellsFree, cellsToInsert, blockBuild}
 use Rattle.store.specs.Computing.{callsOpen}
-use Rattle.store.proofs.After.{slotShown}
+use Rattle.blocks.proofs.After.{slotShown}
 use Rattle.store.proofs.Format.{format-done}
 use Rattle.history.specs.Calls.{Call, inserting, snapshotting, restoring, outcome, run, answersOf}
 use Rattle.history.specs.Ledger.{emptyLedger, noteInsert, ledgerSlot, noteSnapshot, noteHeld, noteRestore, noteCall, ledgerAfter, ledgerAnswers, gotNoRoom, fedBy}
@@ -38,8 +39,8 @@ letter-bytes = set-bytes (zeros 1) 0 0x41 (bytes-zeros 1) (omega arith)
 abbrev fresh : List ℕ
 fresh = format (zeros 128) .block
 
-sized : badSize (zeros 128) ≡ false
-unfolding badSize zeros
+sized : badNewSize 1 (zeros 128) ≡ false
+unfolding trailerCells badLength zeros
 sized = refl
 
 formats : format (zeros 128) .answer ≡ 0

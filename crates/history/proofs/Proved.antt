@@ -15,7 +15,7 @@ use Rattle.history.proofs.Lists.{Ran, list-law, keys-before, key-at}
 module _ (start : List ℕ) (done : format start .answer ≡ 0) where
   -- a run from the fresh block
   fresh-ran : (calls : List Call) → KeysAreBytes calls → Ran (slots (layoutOf (format start .block))) (format start .block) emptyLedger calls
-  fresh-ran = list-law _ (format start .block) emptyLedger (beside-fresh start (format start .block) (format-law start done))
+  fresh-ran = list-law _ (format start .block) emptyLedger (beside-fresh 1 start (format start .block) (format-law start done))
 
   pub after-list : (calls : List Call) → KeysAreBytes calls → AfterList ours (format start .block) calls
   after-list calls keys = let ran = fresh-ran calls keys in record { answers = ran .answers; agrees = ran .beside .agrees }

@@ -16,7 +16,7 @@ use Rattle.blocks.specs.declared.answer.ChangeAnswer.{ChangeAnswer}
 use Rattle.blocks.specs.declared.answer.Refusal as declared
 use Rattle.blocks.proofs.Refusals.{refused-block}
 use Rattle.blocks.proofs.RefusalSteps.{refused-number, done-number}
-use Rattle.store.specs.Format.{formatted, newLayout, formatRefusals, format}
+use Rattle.store.specs.Format.{freshOf, formatRefusals, format}
 use Rattle.history.specs.Calls.{Call, ours, outcome, run, answersOf}
 use Rattle.history.specs.Encoded.{Decoded, decodeCall, following, decoded, stopped}
 use Rattle.history.specs.Running.{numbered, answered, RunOutcome, runOutcome, runOver, runCalls}
@@ -141,7 +141,7 @@ module _ (start after bytes answers : List ℕ) (answer : ChangeAnswer) (e : for
 
   unformatted : format start .answer ≢ 0 → format start .block ≡ start
   unfolding format
-  unformatted n = refused-block (formatRefusals start) start (formatted (newLayout start) (length start)) n
+  unformatted n = refused-block (formatRefusals 1 start) start (freshOf 1 start) n
 
   pub run-refused : (why : declared.Refusal) → answer ≡ ChangeAnswer.Refused why → runCalls start bytes answers ≡ runOutcome RunAnswer.BadSize after answers
   unfolding runCalls

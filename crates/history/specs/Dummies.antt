@@ -1,10 +1,9 @@
 -- Implementations that do not do what 01 asks. 01: "These dummies have to fall"; that none of them meets demand 3 is proved.
 use mathlib.Core.List.{List}
 use Prim.Native.Nat.{ℕ, _+_}
-use lib.ListN.{set}
-use Rattle.cells.specs.Word.{withWord}
 use Rattle.nodes.specs.Layout.{Layout}
-use Rattle.blocks.specs.Trailer.{layoutOf, slotAt, bitsAt}
+use Rattle.blocks.specs.Trailer.{layoutOf}
+use Rattle.blocks.specs.TrailerWrites.{withSlotWord, withSlotBits}
 use Rattle.blocks.specs.Refusal.{Changed, changedBy, Inserted}
 use Rattle.store.specs.Format.{format}
 use Rattle.store.specs.Insert.{insert}
@@ -48,7 +47,7 @@ insertsNothing = record { formatCall = format; insertCall = insertNothing; snaps
 
 -- 01: "marks that store no root": the slot is in use, with the word 0
 unfoldable pub rootlessBlock : Layout → List ℕ → ℕ → List ℕ
-rootlessBlock layout block slot = withWord (set block (bitsAt layout) (withBit layout block slot)) (slotAt layout slot) 0
+rootlessBlock layout block slot = withSlotWord layout (withSlotBits layout block (withBit layout block slot)) slot 0
 
 abbrev rootlessSnapshot : List ℕ → ℕ → Changed
 rootlessSnapshot block slot = changedBy (slotRefusals block slot) block (rootlessBlock (layoutOf block) block slot)

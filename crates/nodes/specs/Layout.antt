@@ -1,7 +1,7 @@
 -- What a block's edition and size decide. Every definition that reads or writes a layout takes it.
 use mathlib.Core.Bool.{Bool, _&&_}
-use Prim.Native.Nat.{ℕ, _+_}
-use lib.Dec.{leb, ltb}
+use Prim.Native.Nat.{ℕ, _+_, _-_}
+use lib.Dec.{leb, ltb, eqb}
 
 -- edition and number of cells, as the code's struct has them
 abbrev pub Layout : Type 0
@@ -10,6 +10,18 @@ Layout = Rattle.nodes.specs.declared.layout.Layout.Layout
 -- the cells at the end of the block that hold the trailer; 01: "Cell n-1 is the trailer"
 unfoldable pub trailerCells : Layout → ℕ
 trailerCells layout = 1
+
+-- whether a cell is one of these, the last
+unfoldable pub isTrailer : Layout → ℕ → Bool
+isTrailer layout cell = leb (layout .cells - trailerCells layout) cell && leb cell (layout .cells - 1)
+
+-- the least number of cells: cell 0, two usable ones and the trailer; 01: "n from 4 to 2,048"
+abbrev pub leastCells : Layout → ℕ
+leastCells layout = 3 + trailerCells layout
+
+-- the editions that there are; 01: "edition, 1"
+unfoldable pub validEdition : ℕ → Bool
+validEdition edition = eqb edition 1
 
 -- 01: "Cells 1 to n-2 are usable."
 unfoldable pub usable : Layout → ℕ → Bool

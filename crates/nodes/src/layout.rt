@@ -1,6 +1,7 @@
 // What a block's edition and size decide.
 ghost use mathlib.Core.Path.{_≡_};
-ghost use Rattle.nodes.specs.Layout.{trailerCells, usable, keyLimit, cellLimit};
+ghost use Prim.Native.Nat.{_<_};
+ghost use Rattle.nodes.specs.Layout.{trailerCells, isTrailer, leastCells, validEdition, usable, keyLimit, cellLimit};
 
 // The most characters that a key may have.
 pub const KEY_LIMIT: usize = 48;
@@ -33,16 +34,37 @@ pub fn trailer_cells(layout: Layout) -> usize
     1
 }
 
+// The fewest cells that a block may have.
+pub fn least_cells(layout: Layout) -> usize
+    ensures { λ r. ⌜ r ≡ leastCells layout ⌝ }
+{
+    3 + trailer_cells(layout)
+}
+
+// Whether a cell of a block is one of the trailer's.
+pub fn is_trailer(layout: Layout, cell: usize) -> bool
+    requires { ⌜ cell < layout .cells ⌝ }
+    ensures { λ r. ⌜ r ≡ isTrailer layout cell ⌝ }
+{
+    layout.cells - cell <= trailer_cells(layout)
+}
+
+// Whether there is such an edition.
+pub fn is_valid_edition(edition: u32) -> bool
+    ensures { λ r. ⌜ r ≡ validEdition edition ⌝ }
+{
+    edition == 1
+}
+
 // Whether a cell may hold a node: all but the first and the trailer's may.
 pub fn is_usable(layout: Layout, cell: usize) -> bool
     ensures { λ r. ⌜ r ≡ usable layout cell ⌝ }
 {
-    let cells = layout.cells;
     if cell < 1 {
         return false;
     }
-    if cells <= cell {
+    if layout.cells <= cell {
         return false;
     }
-    trailer_cells(layout) < cells - cell
+    !is_trailer(layout, cell)
 }

@@ -9,9 +9,9 @@ use Rattle.store.specs.Insert.{insertRefusals}
 use Rattle.store.specs.Snapshots.{slotRefusals, usedSlotRefusals}
 
 module _ (block : List ℕ) where
-  pub format-answers : Answers (formatRefusals block)
+  pub format-answers : Answers (formatRefusals 1 block)
   unfolding distinct all occurrences
-  format-answers = answers (formatRefusals block) refl
+  format-answers = answers (formatRefusals 1 block) refl
 
   pub insert-answers : (key : List ℕ) (value : ℕ) → Answers (insertRefusals block key value)
   unfolding distinct all occurrences

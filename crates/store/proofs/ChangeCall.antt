@@ -14,6 +14,7 @@ use Rattle.cells.specs.Memory.{Memory, memoryOf}
 use Rattle.cells.specs.Writes.{written}
 use Rattle.cells.specs.Occurrences.{occurrences, select}
 use Rattle.nodes.specs.Layout.{Layout, usable, keyLimit}
+use Rattle.nodes.proofs.Usable.{not-last}
 use Rattle.trees.specs.Root.{validRoot, rootCells}
 use Rattle.trees.specs.Lookup.{lookup, assign}
 use Rattle.updates.specs.Built.{Built}
@@ -28,7 +29,7 @@ use Rattle.blocks.proofs.Roots.{RootParts, root-parts, root-valid, root-cells, 
 use Rattle.store.specs.Free.{free}
 use Rattle.store.specs.Insert.{cellsFree, numbering, insertWrites}
 use Rattle.store.specs.Laid.{rootReaches, Laid}
-use Rattle.store.proofs.After.{After, after, slotShown, not-trailer, slot-root, old-root-kept}
+use Rattle.blocks.proofs.After.{After, after, slotShown, slot-root, old-root-kept}
 use Rattle.store.proofs.Committed.{committed-bytes, committed-cells, committed-trailer, committed-kept, committed-says}
 
 -- a build for a key of a sound block: it finds room, keeps the bound, and in any memory where its cells stand the key has
@@ -61,7 +62,7 @@ module _ (b key : List ℕ) (x : Built) (given : Option ℕ) (bytes : IsBytes b)
   new-root =
       let s = sized b (change .size) in
       let p = root-parts (layoutOf b) (memoryOf b) (rootWord (layoutOf b) b) (sound-parts (layoutOf b) b (change .valid) .root) in
-      let n = change .law (memoryOf (changedBlock b x)) (λ c u. committed-cells b s x (change .whole) (change .enough) c (not-trailer (layoutOf b) c u)) p in
+      let n = change .law (memoryOf (changedBlock b x)) (λ c u. committed-cells b s x (change .whole) (change .enough) c (not-last (layoutOf b) c u)) p in
       let r = n .root (change .some-key) (p .root) in
       record {
         cells = n .cells;

@@ -1,10 +1,10 @@
 -- A block after the writes of a build: the allocated cells stand at free numbers, in the trailer only the root word moves,
 -- and whatever was reachable is as it was. This holds of any build that the free cells are enough for.
-use mathlib.Core.Path.{_≡_, refl, sym, ap, _∙_, subst}
-use mathlib.Core.Logic.{_≢_, inr}
+use mathlib.Core.Path.{_≡_, sym, ap, _∙_, subst}
+use mathlib.Core.Logic.{_≢_}
 use mathlib.Core.Bool.{true}
 use mathlib.Core.List.{List, [], _∷_}
-use Prim.Native.Nat.{ℕ, _+_, _-_, _*_, _≤_, _<_}
+use Prim.Native.Nat.{ℕ, _+_, _-_, _*_, _/_, _%_, _≤_, _<_}
 use native.Mathlib.Decide.{decLe}
 use native.Mathlib.Omega.{arith}
 use lib.ListN.{length, getD}
@@ -14,26 +14,28 @@ use Rattle.cells.specs.Memory.{memoryOf}
 use Rattle.cells.specs.Writes.{written}
 use Rattle.cells.specs.Occurrences.{occurrences}
 use Rattle.cells.proofs.Words.{word-same, byte-other}
-use Rattle.cells.proofs.Memory.{memory-byte, memory-written-same, memory-written-other}
+use Rattle.cells.proofs.Choice.{absurd-bool}
+use Rattle.cells.proofs.Memory.{memory-written-same, memory-written-other}
 use Rattle.cells.proofs.CellWrites.{written-length, written-bytes, written-append}
+use Rattle.nodes.specs.Layout.{isTrailer}
+use Rattle.nodes.proofs.Usable.{trailer-some, trailer-is, not-trailer, not-last}
 use Rattle.updates.specs.Built.{Built}
 use Rattle.updates.specs.Commit.{buildWrites, memoryWith}
 use Rattle.updates.proofs.BuildBytes.{Whole}
 use Rattle.updates.proofs.Commit.{memoryWith-other, numbers-free, free-written}
-use Rattle.blocks.specs.Trailer.{trailerAt, layoutOf, rootWord, slotWord, inUse, validTrailer}
+use Rattle.blocks.specs.Trailer.{rootAt, layoutOf, rootWord, slotWord, inUse, validTrailer}
 use Rattle.blocks.specs.Sound.{reachable}
-use Rattle.blocks.proofs.Trailer.{Sized, trailer-fits, TrailerSays, root-changed}
+use Rattle.blocks.proofs.Trailer.{Sized, trailer-fits, byte-in-cell, trailer-cell, RootMoves, TrailerSays, root-changed}
 use Rattle.blocks.proofs.Roots.{SoundParts, reachable-usable}
 use Rattle.store.specs.Free.{free}
 use Rattle.store.specs.Insert.{numbering, insertWrites}
 use Rattle.store.proofs.Free.{free-usable, free-reached}
-use Rattle.store.proofs.After.{not-trailer}
 
 module _ (b : List ℕ) (s : Sized b) (x : Built) (whole : Whole (x .cells)) (enough : length (x .cells) ≤ length (free (layoutOf b) b)) where
   -- the block with the allocated cells, and then the root
-  pub committed-is : written b (insertWrites b x) ≡ withWord (written b (buildWrites (numbering b) (x .cells))) (trailerAt (layoutOf b)) (x .word)
+  pub committed-is : written b (insertWrites b x) ≡ withWord (written b (buildWrites (numbering b) (x .cells))) (rootAt (layoutOf b)) (x .word)
   unfolding insertWrites written
-  committed-is = written-append b (buildWrites (numbering b) (x .cells)) (record { at = trailerAt (layoutOf b); word = x .word } ∷ [])
+  committed-is = written-append b (buildWrites (numbering b) (x .cells)) (record { at = rootAt (layoutOf b); word = x .word } ∷ [])
 
   pub committed-length : length (written b (insertWrites b x)) ≡ length b
   committed-length = written-length b (insertWrites b x)
@@ -51,13 +53,17 @@ module _ (b : List ℕ) (s : Sized b) (x : Built) (whole : Whole (x .cells)) (en
       memoryWith-other (numbering b) (memoryOf b) (x .cells) c
       (omega (arith, e, numbers-free (layoutOf b) (free (layoutOf b) b) (x .cells) enough c))
 
-  trailer-not-free : occurrences (layoutOf b .cells - 1) (free (layoutOf b) b) ≡ 0
-  trailer-not-free = elim (decLe 1 (occurrences (layoutOf b .cells - 1) (free (layoutOf b) b))) [
-    | yes h ↦ absurd (not-trailer (layoutOf b) (layoutOf b .cells - 1) (free-usable (layoutOf b) b (layoutOf b .cells - 1) h) refl)
+  -- a trailer cell is not free
+  trailer-not-free : (c : ℕ) → isTrailer (layoutOf b) c ≡ true → occurrences c (free (layoutOf b) b) ≡ 0
+  trailer-not-free c is = elim (decLe 1 (occurrences c (free (layoutOf b) b))) [
+    | yes h ↦ absurd-bool (sym is ∙ not-trailer (layoutOf b) c (free-usable (layoutOf b) b c h))
     | no h ↦ omega arith
   ]
 
-  root-at : trailerAt (layoutOf b) ≡ (layoutOf b .cells - 1) * 32 + 0
+  last-trailer : isTrailer (layoutOf b) (layoutOf b .cells - 1) ≡ true
+  last-trailer = trailer-is (layoutOf b) (layoutOf b .cells - 1) (omega (arith, trailer-some (layoutOf b))) (omega arith)
+
+  root-at : rootAt (layoutOf b) ≡ (layoutOf b .cells - 1) * 32 + 0
   root-at = omega arith
 
   pub committed-cells : (c : ℕ) → c ≢ layoutOf b .cells - 1 → memoryOf (written b (insertWrites b x)) c ≡ memoryWith (numbering b) (memoryOf b) (x .cells) c
@@ -74,29 +80,30 @@ module _ (b : List ℕ) (s : Sized b) (x : Built) (whole : Whole (x .cells)) (en
       ∙ ap (λ (at : ℕ). memoryOf (withWord (written b (buildWrites (numbering b) (x .cells))) at (x .word)) (layoutOf b .cells - 1)) root-at
       ∙ memory-written-same (written b (buildWrites (numbering b) (x .cells))) (layoutOf b .cells - 1) 0 (x .word)
       (omega (arith, trailer-fits b s, written-length b (buildWrites (numbering b) (x .cells)))) (omega arith)
-      ∙ ap (λ (l : List ℕ). withWord l 0 (x .word)) (celled-cell (layoutOf b .cells - 1) ∙ not-taken (layoutOf b .cells - 1) trailer-not-free)
+      ∙ ap (λ (l : List ℕ). withWord l 0 (x .word)) (celled-cell (layoutOf b .cells - 1) ∙ not-taken (layoutOf b .cells - 1) (trailer-not-free (layoutOf b .cells - 1) last-trailer))
 
   pub committed-kept : SoundParts (layoutOf b) b → (c : ℕ) → 1 ≤ occurrences c (reachable (layoutOf b) b) → memoryOf (written b (insertWrites b x)) c ≡ memoryOf b c
   committed-kept p c h =
-      committed-cells c (not-trailer (layoutOf b) c (reachable-usable (layoutOf b) b p c h)) ∙ not-taken c (free-reached (layoutOf b) b c h)
+      committed-cells c (not-last (layoutOf b) c (reachable-usable (layoutOf b) b p c h)) ∙ not-taken c (free-reached (layoutOf b) b c h)
 
-  trailer-byte-kept : (k : ℕ) → 4 ≤ k → k < 32
-      → getD (written b (insertWrites b x)) (trailerAt (layoutOf b) + k) 0 ≡ getD b (trailerAt (layoutOf b) + k) 0
-  trailer-byte-kept k low high =
-      sym (memory-byte (written b (insertWrites b x)) (layoutOf b .cells - 1) k high)
-      ∙ ap (λ (l : List ℕ). getD l k 0) committed-trailer
-      ∙ byte-other (memoryOf b (layoutOf b .cells - 1)) 0 (x .word) k (inr (omega arith))
-      ∙ memory-byte b (layoutOf b .cells - 1) k high
+  trailer-byte-kept : RootMoves (layoutOf b) b (written b (insertWrites b x))
+  trailer-byte-kept i low high far =
+      ap (λ (l : List ℕ). getD l i 0) committed-is
+      ∙ byte-other (written b (buildWrites (numbering b) (x .cells))) (rootAt (layoutOf b)) (x .word) i far
+      ∙ byte-in-cell (written b (buildWrites (numbering b) (x .cells))) i
+      ∙ ap (λ (l : List ℕ). getD l (i % 32) 0)
+      (celled-cell (i / 32) ∙ not-taken (i / 32) (trailer-not-free (i / 32) (trailer-cell (layoutOf b) i low high)))
+      ∙ sym (byte-in-cell b i)
 
   committed-root : x .word < 4294967296 → rootWord (layoutOf b) (written b (insertWrites b x)) ≡ x .word
   unfolding rootWord
   committed-root small =
       ap (rootWord (layoutOf b)) committed-is
-      ∙ word-same (written b (buildWrites (numbering b) (x .cells))) (trailerAt (layoutOf b)) (x .word)
+      ∙ word-same (written b (buildWrites (numbering b) (x .cells))) (rootAt (layoutOf b)) (x .word)
       (omega (arith, trailer-fits b s, written-length b (buildWrites (numbering b) (x .cells)))) small
 
   pub committed-says : validTrailer (layoutOf b) b ≡ true → x .word < 4294967296
       → TrailerSays b (written b (insertWrites b x)) (x .word) (slotWord (layoutOf b) b) (inUse (layoutOf b) b)
   committed-says valid small =
       subst (λ (r : ℕ). TrailerSays b (written b (insertWrites b x)) r (slotWord (layoutOf b) b) (inUse (layoutOf b) b)) (committed-root small)
-      (root-changed b (written b (insertWrites b x)) valid committed-length trailer-byte-kept)
+      (root-changed b (written b (insertWrites b x)) valid committed-length (s .least) trailer-byte-kept)

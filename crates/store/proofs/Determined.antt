@@ -18,7 +18,7 @@ use Rattle.blocks.specs.Refusal.{Changed, badNewKey, badValue, Inserted}
 use Rattle.blocks.specs.Read.{validate}
 use Rattle.blocks.specs.Tables.{Exactly, Asked, Passes, ValidateTable}
 use Rattle.blocks.proofs.ReadCalls.{validate-table}
-use Rattle.store.specs.Format.{format}
+use Rattle.store.specs.Format.{badNewSize, format}
 use Rattle.store.specs.Insert.{cellsFree, cellsToInsert, insert}
 use Rattle.store.specs.Snapshots.{snapshot, restore, release}
 use Rattle.store.proofs.WriteCalls.{FormatTable, format-table, InsertTable, insert-table}
@@ -76,11 +76,11 @@ module _ (b : List ℕ) where
   pub format-told : (r : Changed) → FormatTable b r → r ≡ format b
   format-told r t =
       let u = format-table b in
-      let same : r .answer ≡ format b .answer = go (badSize b) refl in
+      let same : r .answer ≡ format b .answer = go (badNewSize 1 b) refl in
       changed-told r (format b) same
       (beside-told (r .answer) (format b .answer) (r .block) (format b .block) b same (λ e f. t .left e ∙ sym (u .left f)) (t .refused) (u .refused))
     where
-      go : (s : Bool) → badSize b ≡ s → r .answer ≡ format b .answer
+      go : (s : Bool) → badNewSize 1 b ≡ s → r .answer ≡ format b .answer
       go true e = both (t .bad-size) (format-table b .bad-size) e
       go false e = both (t .done) (format-table b .done) e
 

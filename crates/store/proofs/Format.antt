@@ -1,6 +1,6 @@
 -- Laws of a formatted block: it is sound, shows nothing, has no slot in use, and every usable cell is free.
 use mathlib.Core.Path.{_≡_, refl, sym, ap, _∙_, subst}
-use mathlib.Core.Logic.{_≢_, inl, inr}
+use mathlib.Core.Logic.{_≢_, _⊎_, inl, inr}
 use mathlib.Core.Bool.{true, false}
 use mathlib.Core.List.{List}
 use Prim.Native.Nat.{ℕ, _+_, _-_, _/_, _%_, _^_, _≤_, _<_}
@@ -10,25 +10,27 @@ use lib.Dec.{eqb}
 use lib.ListN.{length, getD}
 use lib.Pow.{pow-pos}
 use Rattle.cells.specs.Bytes.{IsBytes, zeros}
-use Rattle.cells.specs.Word.{wordAt, withWord}
+use Rattle.cells.specs.Word.{wordAt}
 use Rattle.cells.specs.Memory.{memoryOf}
 use Rattle.cells.specs.Occurrences.{occurrences}
 use Rattle.cells.proofs.Choice.{absurd-bool}
 use Rattle.cells.proofs.Occurrences.{occurrences-none}
 use Rattle.cells.proofs.Words.{zeros-length, zeros-byte, bytes-zeros, length-withWord, withWord-bytes, byte-other, word-same, word-other}
-use Rattle.nodes.specs.Layout.{Layout, usable}
+use Rattle.nodes.specs.Layout.{Layout, leastCells, validEdition, usable}
+use Rattle.nodes.proofs.Usable.{edition-small}
 use Rattle.trees.specs.Root.{validRoot, rootCells}
 use Rattle.trees.specs.Lookup.{emptyTable, lookup}
 use Rattle.trees.proofs.Tree.{lookup-zero}
-use Rattle.blocks.specs.Trailer.{badSize, trailerAt, layoutOf, rootWord, slots, validSlot, slotAt, slotWord, bitsAt, slotBit, inUse}
+use Rattle.blocks.specs.Trailer.{rootAt, slotAt, bitsAt, zeroBytesAt, cellsAt, zeroWordAt, editionAt, badLength, badSize, layoutOf, rootWord, slots, validSlot, slotBits, slotWord, slotBit, inUse}
+use Rattle.blocks.specs.TrailerWrites.{withCells}
 use Rattle.blocks.specs.Fits.{Fits}
 use Rattle.blocks.specs.Sound.{soundWith, sound, reachable}
 use Rattle.blocks.specs.Read.{shown}
 use Rattle.blocks.proofs.Refusals.{done-block, refused-block}
-use Rattle.blocks.proofs.Trailer.{sized, layout-cells, badSize-same, slot-high, slots-three, slot-at, parts-trailer}
+use Rattle.blocks.proofs.Trailer.{good-length, slot-apart, parts-trailer}
 use Rattle.blocks.proofs.Roots.{zero-valid, zero-cells, parts-sound, unreachable}
 use Rattle.store.specs.Free.{allocationOrder, free}
-use Rattle.store.specs.Format.{formatted, newLayout, formatRefusals, format}
+use Rattle.store.specs.Format.{formatted, newLayout, freshOf, badNewSize, formatRefusals, format}
 use Rattle.store.proofs.CallAnswers.{format-answers}
 use Rattle.store.proofs.Free.{free-every, free-all}
 
@@ -37,61 +39,57 @@ unfolding wordAt
 zeros-word n at = rw (zeros-byte n at, zeros-byte n (at + 1), zeros-byte n (at + 2), zeros-byte n (at + 3))
 
 module _ (layout : Layout) (size : ℕ) (fits : Fits layout size) where
+  counted-length : length (withCells layout (zeros size)) ≡ size
+  counted-length = length-withWord (zeros size) (cellsAt layout) (layout .cells) ∙ zeros-length size
+
   pub formatted-length : length (formatted layout size) ≡ size
   unfolding formatted
-  formatted-length =
-      length-withWord (withWord (zeros size) (trailerAt layout + 20) (layout .cells)) (trailerAt layout + 28) (layout .edition)
-      ∙ length-withWord (zeros size) (trailerAt layout + 20) (layout .cells) ∙ zeros-length size
+  formatted-length = length-withWord (withCells layout (zeros size)) (editionAt layout) (layout .edition) ∙ counted-length
 
   pub formatted-bytes : IsBytes (formatted layout size)
   unfolding formatted
   formatted-bytes = withWord-bytes _ _ _ (withWord-bytes _ _ _ (bytes-zeros size))
 
   -- n and the edition
-  formatted-size : wordAt (formatted layout size) (trailerAt layout + 20) ≡ layout .cells
+  formatted-size : wordAt (formatted layout size) (cellsAt layout) ≡ layout .cells
   unfolding formatted
   formatted-size =
-      word-other (withWord (zeros size) (trailerAt layout + 20) (layout .cells)) (trailerAt layout + 28) (layout .edition) (trailerAt layout + 20) (inl (omega arith))
-      ∙ word-same (zeros size) (trailerAt layout + 20) (layout .cells) (omega (arith, fits .whole, fits .least, zeros-length size)) (omega (arith, fits .most))
+      word-other (withCells layout (zeros size)) (editionAt layout) (layout .edition) (cellsAt layout) (inl (omega arith))
+      ∙ word-same (zeros size) (cellsAt layout) (layout .cells) (omega (arith, fits .whole, fits .least, zeros-length size)) (omega (arith, fits .most))
 
-  formatted-edition : layout .edition < 4294967296 → wordAt (formatted layout size) (trailerAt layout + 28) ≡ layout .edition
+  formatted-edition : layout .edition < 4294967296 → wordAt (formatted layout size) (editionAt layout) ≡ layout .edition
   unfolding formatted
   formatted-edition small =
-      word-same (withWord (zeros size) (trailerAt layout + 20) (layout .cells)) (trailerAt layout + 28) (layout .edition)
-      (omega (arith, length-withWord (zeros size) (trailerAt layout + 20) (layout .cells), fits .whole, fits .least, zeros-length size)) small
+      word-same (withCells layout (zeros size)) (editionAt layout) (layout .edition) (omega (arith, counted-length, fits .whole, fits .least)) small
 
   -- all else is zero
-  formatted-byte : (i : ℕ) → i < trailerAt layout + 20 → getD (formatted layout size) i 0 ≡ 0
+  formatted-byte : (i : ℕ) → (i < cellsAt layout) ⊎ (cellsAt layout + 4 ≤ i) → (i < editionAt layout) ⊎ (editionAt layout + 4 ≤ i)
+      → getD (formatted layout size) i 0 ≡ 0
   unfolding formatted
-  formatted-byte i before =
-      byte-other (withWord (zeros size) (trailerAt layout + 20) (layout .cells)) (trailerAt layout + 28) (layout .edition) i (inl (omega arith))
-      ∙ byte-other (zeros size) (trailerAt layout + 20) (layout .cells) i (inl before) ∙ zeros-byte size i
+  formatted-byte i no-cells no-edition =
+      byte-other (withCells layout (zeros size)) (editionAt layout) (layout .edition) i no-edition
+      ∙ byte-other (zeros size) (cellsAt layout) (layout .cells) i no-cells ∙ zeros-byte size i
 
-  formatted-word : (at : ℕ) → at + 4 ≤ trailerAt layout + 20 → wordAt (formatted layout size) at ≡ 0
+  formatted-word : (at : ℕ) → at + 4 ≤ cellsAt layout → wordAt (formatted layout size) at ≡ 0
   unfolding formatted
   formatted-word at before =
-      word-other (withWord (zeros size) (trailerAt layout + 20) (layout .cells)) (trailerAt layout + 28) (layout .edition) at (inl (omega arith))
-      ∙ word-other (zeros size) (trailerAt layout + 20) (layout .cells) at (inl before) ∙ zeros-word size at
+      word-other (withCells layout (zeros size)) (editionAt layout) (layout .edition) at (inl (omega arith))
+      ∙ word-other (zeros size) (cellsAt layout) (layout .cells) at (inl before) ∙ zeros-word size at
 
-  formatted-spare : wordAt (formatted layout size) (trailerAt layout + 24) ≡ 0
-  unfolding formatted
-  formatted-spare =
-      word-other (withWord (zeros size) (trailerAt layout + 20) (layout .cells)) (trailerAt layout + 28) (layout .edition) (trailerAt layout + 24) (inl (omega arith))
-      ∙ word-other (zeros size) (trailerAt layout + 20) (layout .cells) (trailerAt layout + 24) (inr (omega arith)) ∙ zeros-word size (trailerAt layout + 24)
+  formatted-bits : slotBits layout (formatted layout size) ≡ 0
+  formatted-bits = formatted-byte (bitsAt layout) (inl (omega arith)) (inl (omega arith))
 
   pub formatted-root : rootWord layout (formatted layout size) ≡ 0
   unfolding rootWord
-  formatted-root = formatted-word (trailerAt layout) (omega arith)
+  formatted-root = formatted-word (rootAt layout) (omega arith)
 
   pub formatted-slot : (slot : ℕ) → validSlot layout slot ≡ true → slotWord layout (formatted layout size) slot ≡ 0
-  formatted-slot slot is-slot =
-      formatted-word (slotAt layout slot) (omega (arith, slot-at layout slot, slot-high layout slot is-slot, slots-three layout))
+  formatted-slot slot is-slot = formatted-word (slotAt layout slot) (omega (arith, slot-apart layout slot (fits .least) is-slot .bits))
 
   pub formatted-unused : (slot : ℕ) → inUse layout (formatted layout size) slot ≡ false
   unfolding inUse
   formatted-unused slot =
-      ap (λ (v : ℕ). eqb (v / slotBit slot % 2) 1) (formatted-byte (bitsAt layout) (omega arith))
-      ∙ ap (λ (v : ℕ). eqb (v % 2) 1) (div-eq-of-lt (pow-pos (slot - 1)))
+      ap (λ (v : ℕ). eqb (v / slotBit slot % 2) 1) formatted-bits ∙ ap (λ (v : ℕ). eqb (v % 2) 1) (div-eq-of-lt (pow-pos (slot - 1)))
 
   -- the layout that it states is the one it was made for
   pub formatted-layout : layout .edition < 4294967296 → layoutOf (formatted layout size) ≡ layout
@@ -100,15 +98,15 @@ module _ (layout : Layout) (size : ℕ) (fits : Fits layout size) where
       let cells : length (formatted layout size) / 32 ≡ layout .cells = omega (arith, fits .whole, formatted-length) in
       rw cells (ap (λ (e : ℕ). record { edition = e; cells = layout .cells }) (formatted-edition small))
 
-  pub formatted-sound : layout .edition ≡ 1 → soundWith layout (formatted layout size) ≡ true
+  pub formatted-sound : validEdition (layout .edition) ≡ true → soundWith layout (formatted layout size) ≡ true
   formatted-sound edition =
       parts-sound layout (formatted layout size) (record {
         trailer = parts-trailer layout (formatted layout size) (record {
           idle = λ slot is-slot unused. formatted-slot slot is-slot;
-          bits = subst (λ (v : ℕ). v < 2 ^ slots layout) (sym (formatted-byte (bitsAt layout) (omega arith))) (pow-pos (slots layout));
-          gap = λ k low high. formatted-byte (bitsAt layout + k) (omega arith);
+          bits = subst (λ (v : ℕ). v < 2 ^ slots layout) (sym formatted-bits) (pow-pos (slots layout));
+          gap = λ k below. formatted-byte (zeroBytesAt layout + k) (inl (omega arith)) (inl (omega arith));
           size = formatted-size;
-          spare = formatted-spare;
+          spare = λ k below. formatted-byte (zeroWordAt layout + k) (inr (omega arith)) (inl (omega arith));
           edition = edition;
         });
         root = subst (λ (w : ℕ). validRoot layout (memoryOf (formatted layout size)) w ≡ true) (sym formatted-root) (zero-valid layout (memoryOf (formatted layout size)));
@@ -126,11 +124,11 @@ module _ (layout : Layout) (size : ℕ) (fits : Fits layout size) where
       unreachable layout (formatted layout size) c (ap (occurrences c) nowhere ∙ occurrences-none c)
       (λ slot is-slot on. absurd-bool (sym on ∙ formatted-unused slot))
 
--- a fresh block made from one of its size
-pub record Fresh (b fresh : List ℕ) : Type 0 where
+-- a fresh block of an edition, made from one of its size
+pub record Fresh (edition : ℕ) (b fresh : List ℕ) : Type 0 where
   pub same-length : length fresh ≡ length b
   pub bytes : IsBytes fresh
-  pub layout : layoutOf fresh ≡ newLayout b
+  pub layout : layoutOf fresh ≡ newLayout edition b
   pub size : badSize fresh ≡ false
   pub valid : sound fresh ≡ true
   pub shows : (key : List ℕ) → shown fresh key ≡ emptyTable key
@@ -139,48 +137,58 @@ pub record Fresh (b fresh : List ℕ) : Type 0 where
   pub all-free : (c : ℕ) → usable (layoutOf fresh) c ≡ true → occurrences c (free (layoutOf fresh) fresh) ≡ 1
   pub free-is : free (layoutOf fresh) fresh ≡ allocationOrder (layoutOf fresh) 0
 
--- the block that formatting leaves where it is done
-abbrev pub freshOf : List ℕ → List ℕ
-freshOf b = formatted (newLayout b) (length b)
+module _ (edition : ℕ) (b : List ℕ) where
+  new-fits : badNewSize edition b ≡ false → Fits (newLayout edition b) (length b)
+  new-fits good =
+      let g = good-length (leastCells (newLayout edition b)) (length b) good in
+      record { whole = g .whole; least = g .least; most = g .most }
 
-module _ (b : List ℕ) where
-  formatted-fresh : badSize b ≡ false → Fresh b (freshOf b)
-  formatted-fresh good =
-      let s = sized b good in
-      let fits : Fits (newLayout b) (length b) =
-      record { whole = omega (arith, s .whole, layout-cells b); least = omega (arith, s .least, layout-cells b); most = omega (arith, s .most, layout-cells b) } in
-      let states : newLayout b ≡ layoutOf (freshOf b) = sym (formatted-layout (newLayout b) (length b) fits (omega arith)) in
-      let unreached : (c : ℕ) → occurrences c (reachable (layoutOf (freshOf b)) (freshOf b)) ≡ 0 =
-      λ c. subst (λ (l : Layout). occurrences c (reachable l (freshOf b)) ≡ 0) states
-      (formatted-unreached (newLayout b) (length b) fits c) in
-      let root : rootWord (layoutOf (freshOf b)) (freshOf b) ≡ 0 =
-      subst (λ (l : Layout). rootWord l (freshOf b) ≡ 0) states (formatted-root (newLayout b) (length b) fits) in
+  fresh-size : layoutOf (freshOf edition b) ≡ newLayout edition b → length (freshOf edition b) ≡ length b → badNewSize edition b ≡ false
+      → badSize (freshOf edition b) ≡ false
+  unfolding badSize
+  fresh-size states same good = (λ i. badLength (leastCells (states i)) (same i)) ∙ good
+
+  pub formatted-fresh : validEdition edition ≡ true → badNewSize edition b ≡ false → Fresh edition b (freshOf edition b)
+  formatted-fresh known good =
+      let fits : Fits (newLayout edition b) (length b) = new-fits good in
+      let states : newLayout edition b ≡ layoutOf (freshOf edition b) =
+      sym (formatted-layout (newLayout edition b) (length b) fits (edition-small edition known)) in
+      let unreached : (c : ℕ) → occurrences c (reachable (layoutOf (freshOf edition b)) (freshOf edition b)) ≡ 0 =
+      λ c. subst (λ (l : Layout). occurrences c (reachable l (freshOf edition b)) ≡ 0) states
+      (formatted-unreached (newLayout edition b) (length b) fits c) in
+      let root : rootWord (layoutOf (freshOf edition b)) (freshOf edition b) ≡ 0 =
+      subst (λ (l : Layout). rootWord l (freshOf edition b) ≡ 0) states (formatted-root (newLayout edition b) (length b) fits) in
       record {
-        same-length = formatted-length (newLayout b) (length b) fits;
-        bytes = formatted-bytes (newLayout b) (length b) fits;
+        same-length = formatted-length (newLayout edition b) (length b) fits;
+        bytes = formatted-bytes (newLayout edition b) (length b) fits;
         layout = sym states;
-        size = badSize-same b (freshOf b) (formatted-length (newLayout b) (length b) fits) ∙ good;
-        valid = subst (λ (l : Layout). soundWith l (freshOf b) ≡ true) states (formatted-sound (newLayout b) (length b) fits refl);
+        size = fresh-size (sym states) (formatted-length (newLayout edition b) (length b) fits) good;
+        valid = subst (λ (l : Layout). soundWith l (freshOf edition b) ≡ true) states (formatted-sound (newLayout edition b) (length b) fits known);
         shows = λ key.
-            subst (λ (l : Layout). lookup l (memoryOf (freshOf b)) (rootWord l (freshOf b)) key ≡ emptyTable key) states
-            (formatted-shows (newLayout b) (length b) fits key);
-        unused = λ slot. subst (λ (l : Layout). inUse l (freshOf b) slot ≡ false) states (formatted-unused (newLayout b) (length b) fits slot);
+            subst (λ (l : Layout). lookup l (memoryOf (freshOf edition b)) (rootWord l (freshOf edition b)) key ≡ emptyTable key) states
+            (formatted-shows (newLayout edition b) (length b) fits key);
+        unused = λ slot. subst (λ (l : Layout). inUse l (freshOf edition b) slot ≡ false) states (formatted-unused (newLayout edition b) (length b) fits slot);
         unreached = unreached;
-        all-free = λ c u. free-every (layoutOf (freshOf b)) (freshOf b) c u (unreached c);
-        free-is = free-all (layoutOf (freshOf b)) (freshOf b) unreached
-            ∙ ap (allocationOrder (layoutOf (freshOf b))) root;
+        all-free = λ c u. free-every (layoutOf (freshOf edition b)) (freshOf edition b) c u (unreached c);
+        free-is = free-all (layoutOf (freshOf edition b)) (freshOf edition b) unreached
+            ∙ ap (allocationOrder (layoutOf (freshOf edition b))) root;
       }
 
-  -- the call
-  pub format-done : badSize b ≡ false → format b .answer ≡ 0
+-- the call
+first-edition : validEdition 1 ≡ true
+unfolding validEdition
+first-edition = refl
+
+module _ (b : List ℕ) where
+  pub format-done : badNewSize 1 b ≡ false → format b .answer ≡ 0
   unfolding format
   format-done good = format-answers b .1 .given (good, tt)
 
-  pub format-law : format b .answer ≡ 0 → Fresh b (format b .block)
+  pub format-law : format b .answer ≡ 0 → Fresh 1 b (format b .block)
   unfolding format
   format-law e =
-      subst (Fresh b) (sym (done-block (formatRefusals b) b (freshOf b) e)) (formatted-fresh (format-answers b .1 .only e .0))
+      subst (Fresh 1 b) (sym (done-block (formatRefusals 1 b) b (freshOf 1 b) e)) (formatted-fresh 1 b first-edition (format-answers b .1 .only e .0))
 
   pub format-refused : format b .answer ≢ 0 → format b .block ≡ b
   unfolding format
-  format-refused n = refused-block (formatRefusals b) b (freshOf b) n
+  format-refused n = refused-block (formatRefusals 1 b) b (freshOf 1 b) n

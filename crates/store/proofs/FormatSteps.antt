@@ -1,26 +1,39 @@
 -- The ways through the code of a fresh block.
-use mathlib.Core.Path.{_≡_, ap, _∙_}
+use mathlib.Core.Path.{_≡_, sym, ap, _∙_}
 use mathlib.Core.Bool.{true, false}
 use mathlib.Core.List.{List, _++_, append-nil}
-use Prim.Native.Nat.{ℕ, _+_, _/_, _≤_}
+use Prim.Native.Nat.{ℕ, _≤_}
 use native.Mathlib.Omega.{arith}
 use lib.ListN.{length, drop, replicate, drop-of-length-le}
 use Rattle.cells.specs.Bytes.{zeros}
-use Rattle.cells.specs.Word.{withWord}
-use Rattle.blocks.specs.Trailer.{badSize, trailerOf}
+use Rattle.nodes.specs.Layout.{leastCells}
+use Rattle.blocks.specs.Fits.{Fits}
+use Rattle.blocks.specs.Trailer.{badLength}
+use Rattle.blocks.specs.TrailerWrites.{withCells, withEdition}
 use Rattle.blocks.specs.Refusal.{firstRefusal}
-use Rattle.store.specs.Format.{formatted, format}
+use Rattle.blocks.proofs.Trailer.{good-length}
+use Rattle.store.specs.Format.{formatted, newLayout, badNewSize, format}
 
-module _ (block : List ℕ) where
-  pub format-refused : badSize block ≡ true → format block ≡ record { answer = 1; block = block }
+module _ (block : List ℕ) (least : ℕ) (is : least ≡ leastCells (newLayout 1 block)) where
+  size-is : badNewSize 1 block ≡ badLength least (length block)
+  size-is = ap (λ (n : ℕ). badLength n (length block)) (sym is)
+
+  pub format-refused : badLength least (length block) ≡ true → format block ≡ record { answer = 1; block = block }
   unfolding format firstRefusal
-  format-refused bad = rw bad
+  format-refused bad = let refused : badNewSize 1 block ≡ true = size-is ∙ bad in rw refused
 
-  pub format-done : (start : ℕ) (cleared sized fresh : List ℕ) → badSize block ≡ false → start ≡ trailerOf (length block / 32)
-      → cleared ≡ zeros (length block) → sized ≡ withWord cleared (start + 20) (length block / 32) → fresh ≡ withWord sized (start + 28) 1
-      → format block ≡ record { answer = 0; block = fresh }
-  unfolding format firstRefusal formatted
-  format-done start cleared sized fresh good at zero size edition = rw (good, edition, size, zero, at)
+  module _ (good : badLength least (length block) ≡ false) where
+    pub new-fits : Fits (newLayout 1 block) (length block)
+    new-fits =
+        let g = good-length (leastCells (newLayout 1 block)) (length block) (size-is ∙ good) in
+        record { whole = g .whole; least = g .least; most = g .most }
+
+    pub format-done : (cleared counted fresh : List ℕ) → cleared ≡ zeros (length block) → counted ≡ withCells (newLayout 1 block) cleared
+        → fresh ≡ withEdition (newLayout 1 block) counted → format block ≡ record { answer = 0; block = fresh }
+    unfolding format firstRefusal formatted
+    format-done cleared counted fresh zero cells edition =
+        let accepted : badNewSize 1 block ≡ false = size-is ∙ good in
+        rw (accepted, edition, cells, zero)
 
 -- a block whose first bytes are zeros, where these are all
 pub filled : (before bytes : List ℕ) (i : ℕ) → length before ≤ i → i ≤ length before → bytes ≡ replicate i 0 ++ drop i before

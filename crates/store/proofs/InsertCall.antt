@@ -33,7 +33,7 @@ use Rattle.store.specs.Insert.{cellsToInsert, noRoom, insertRefusals, nu
 use Rattle.store.specs.Laid.{Laid, Lacks, Finds, MayInsert}
 use Rattle.store.proofs.CallAnswers.{insert-answers}
 use Rattle.store.proofs.Free.{free-usable, free-once, free-reached}
-use Rattle.store.proofs.After.{After, slotShown}
+use Rattle.blocks.proofs.After.{After, slotShown}
 use Rattle.store.proofs.ChangeCall.{Change, changedBlock, change-after, change-laid}
 
 -- a new key has 1 to as many bytes as the limit, and a value fits

@@ -1,8 +1,7 @@
 pub mod CallAnswers
 pub mod Bits
-pub mod TrailerWrites
+pub mod SlotBits
 pub mod Free
-pub mod After
 pub mod SnapshotCalls
 pub mod Format
 pub mod Committed

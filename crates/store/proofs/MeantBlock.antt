@@ -4,31 +4,30 @@ use mathlib.Core.Path.{_≡_, refl, sym, ap, _∙_, subst}
 use mathlib.Core.Logic.{_⊎_, inl, inr}
 use mathlib.Core.Bool.{Bool, true, false, _&&_, not, cond}
 use mathlib.Core.List.{List, [], _∷_, _++_}
-use Prim.Native.Nat.{ℕ, zero, suc, _+_, _-_, _*_, _/_, _%_, _^_, _≤_, _<_}
+use Prim.Native.Nat.{ℕ, zero, suc, _+_, _-_, _/_, _%_, _^_, _≤_, _<_}
 use native.Mathlib.Omega.{arith}
 use lib.Dec.{eqb}
 use lib.ListN.{length, getD}
-use Rattle.cells.specs.Word.{wordAt}
 use Rattle.cells.specs.Memory.{Memory, memoryOf}
 use Rattle.cells.specs.Occurrences.{occurrences, all, select}
-use Rattle.nodes.specs.Layout.{Layout, keyLimit}
+use Rattle.nodes.specs.Layout.{Layout, isTrailer, keyLimit}
 use Rattle.nodes.proofs.MeantNode.{AlikeAt}
 use Rattle.trees.specs.Root.{rootTree, onceVisited, validRoot, cellsOf}
 use Rattle.trees.specs.Lookup.{lookup}
 use Rattle.trees.proofs.MeantTree.{TreeMeans, root-tree-alike, table-alike}
-use Rattle.blocks.specs.Trailer.{badSize, trailerAt, layoutOf, rootWord, slots, validSlot, slotWord, slotBit, inUse, validTrailer}
+use Rattle.blocks.specs.Trailer.{trailerAt, rootAt, slotAt, bitsAt, zeroBytesAt, cellsAt, zeroWordAt, badSize, layoutOf, rootWord, slots, validSlot, slotWord, slotBit, inUse, validTrailer}
 use Rattle.blocks.specs.Sound.{slotRoots, roots, soundWith, sound, reachedFrom, reachable}
 use Rattle.blocks.specs.Refusal.{refusal, firstRefusal}
 use Rattle.blocks.specs.Read.{validate, shown}
-use Rattle.blocks.proofs.Trailer.{SameBytes, same-word, layout-same, badSize-same, slot-high, slot-valid, slots-three, slot-at, trailer-byte, trailer-parts, parts-trailer}
+use Rattle.blocks.proofs.Trailer.{trailerFrom, trailerTo, trailer-from, byte-in-cell, trailer-cell, SameBytes, same-word, layout-same, badSize-same, slot-valid, slot-within, trailer-parts, parts-trailer}
 use Rattle.blocks.proofs.Roots.{root-parts, sound-parts, used-roots, idle-roots}
 use Rattle.store.specs.Free.{allocationOrder, free}
-use Rattle.store.proofs.After.{slotShown}
+use Rattle.blocks.proofs.After.{slotShown}
 
 -- a byte, by its cell and its offset there, has a meaning: in the trailer, in the root's tree or in that of a slot in use
 abbrev pub BlockMeans : List ℕ → ℕ → ℕ → Type 0
 BlockMeans b c i =
-    ((c ≡ layoutOf b .cells - 1) × (i < 32))
+    ((isTrailer (layoutOf b) c ≡ true) × (i < 32))
     ⊎ TreeMeans (layoutOf b) (memoryOf b) keyLimit (rootWord (layoutOf b) b) c i
     ⊎ ((slot : ℕ) × (validSlot (layoutOf b) slot ≡ true) × (inUse (layoutOf b) b slot ≡ true)
     × TreeMeans (layoutOf b) (memoryOf b) keyLimit (slotWord (layoutOf b) b slot) c i)
@@ -49,42 +48,41 @@ same-flag false false there back = refl
 same-flag false true there back = back refl
 
 -- trailers with the same bytes
-module _ (layout : Layout) (b b′ : List ℕ) (same : SameBytes (trailerAt layout) 0 32 b b′) where
+module _ (layout : Layout) (b b′ : List ℕ) (same : SameBytes (trailerFrom layout) (trailerTo layout) b b′) where
   root-same : rootWord layout b′ ≡ rootWord layout b
   unfolding rootWord
-  root-same =
-      let e : trailerAt layout + 0 ≡ trailerAt layout = omega arith in
-      subst (λ (at : ℕ). wordAt b′ at ≡ wordAt b at) e (same-word (trailerAt layout) 0 32 b b′ same 0 (omega arith) (omega arith))
+  root-same = same-word (trailerFrom layout) (trailerTo layout) b b′ same (rootAt layout) (trailer-from layout) (omega arith)
 
   word-same : (slot : ℕ) → validSlot layout slot ≡ true → slotWord layout b′ slot ≡ slotWord layout b slot
   word-same slot valid =
-      let inside : slot ≤ 3 = subst (λ (n : ℕ). slot ≤ n) (slots-three layout) (slot-high layout slot valid) in
-      subst (λ (at : ℕ). wordAt b′ at ≡ wordAt b at) (sym (slot-at layout slot))
-      (same-word (trailerAt layout) 0 32 b b′ same (4 * slot) (omega arith) (omega arith))
+      let within = slot-within layout slot valid in
+      same-word (trailerFrom layout) (trailerTo layout) b b′ same (slotAt layout slot) (within .0) (within .1)
+
+  -- a byte of the last cell
+  last-same : (i : ℕ) → trailerAt layout ≤ i → i < trailerTo layout → getD b′ i 0 ≡ getD b i 0
+  last-same i low high = same i (omega (arith, trailer-from layout)) high
 
   use-same : (slot : ℕ) → inUse layout b′ slot ≡ inUse layout b slot
   unfolding inUse
-  use-same slot = ap (λ (v : ℕ). eqb (v / slotBit slot % 2) 1) (same 16 (omega arith) (omega arith))
+  use-same slot = ap (λ (v : ℕ). eqb (v / slotBit slot % 2) 1) (last-same (bitsAt layout) (omega arith) (omega arith))
 
   trailer-carried : validTrailer layout b ≡ true → validTrailer layout b′ ≡ true
   trailer-carried valid =
       let p = trailer-parts layout b valid in
       parts-trailer layout b′ (record {
         idle = λ slot valid-slot unused. word-same slot valid-slot ∙ p .idle slot valid-slot (sym (use-same slot) ∙ unused);
-        bits = subst (λ (v : ℕ). v < 2 ^ slots layout) (sym (same 16 (omega arith) (omega arith))) (p .bits);
-        gap = λ k low high.
-            let e : trailerAt layout + (16 + k) ≡ trailerAt layout + 16 + k = omega arith in
-            subst (λ (j : ℕ). getD b′ j 0 ≡ getD b j 0) e (same (16 + k) (omega arith) (omega arith)) ∙ p .gap k low high;
-        size = same-word (trailerAt layout) 0 32 b b′ same 20 (omega arith) (omega arith) ∙ p .size;
-        spare = same-word (trailerAt layout) 0 32 b b′ same 24 (omega arith) (omega arith) ∙ p .spare;
+        bits = subst (λ (v : ℕ). v < 2 ^ slots layout) (sym (last-same (bitsAt layout) (omega arith) (omega arith))) (p .bits);
+        gap = λ k below. last-same (zeroBytesAt layout + k) (omega arith) (omega arith) ∙ p .gap k below;
+        size = same-word (trailerAt layout) (trailerTo layout) b b′ last-same (cellsAt layout) (omega arith) (omega arith) ∙ p .size;
+        spare = λ k below. last-same (zeroWordAt layout + k) (omega arith) (omega arith) ∙ p .spare k below;
         edition = p .edition;
       })
 
-  slot-roots-same : (count from : ℕ) → 1 ≤ from → from + count ≤ 4 → slotRoots layout b′ count from ≡ slotRoots layout b count from
+  slot-roots-same : (count from : ℕ) → 1 ≤ from → from + count ≤ slots layout + 1 → slotRoots layout b′ count from ≡ slotRoots layout b count from
   unfolding slotRoots
   slot-roots-same zero from low high = refl
   slot-roots-same (suc count) from low high =
-      let valid : validSlot layout from ≡ true = slot-valid layout from low (subst (λ (n : ℕ). from ≤ n) (sym (slots-three layout)) (omega arith)) in
+      let valid : validSlot layout from ≡ true = slot-valid layout from low (omega arith) in
       let used = use-same from in
       let word = word-same from valid in
       let later = slot-roots-same count (from + 1) (omega arith) (omega arith) in
@@ -94,7 +92,7 @@ module _ (layout : Layout) (b b′ : List ℕ) (same : SameBytes (trailerAt layo
   unfolding roots
   roots-same =
       let root = root-same in
-      let held = slot-roots-same (slots layout) 1 (omega arith) (omega (arith, slots-three layout)) in
+      let held = slot-roots-same (slots layout) 1 (omega arith) (omega arith) in
       λ i. root i ∷ held i
 
 -- each root of a list has the same tree in two memories
@@ -119,12 +117,12 @@ reached-same layout m m′ (w ∷ ws) same =
     λ i. cellsOf (here i) ++ later i
 
 module _ (b b′ : List ℕ) (size : length b ≡ length b′) (alike : AlikeAt (memoryOf b) (memoryOf b′) (BlockMeans b)) where
-  trailer-same : SameBytes (trailerAt (layoutOf b)) 0 32 b b′
-  trailer-same k low high =
-      trailer-byte (layoutOf b) b′ k high ∙ sym (alike (layoutOf b .cells - 1) k (inl (refl, high))) ∙ sym (trailer-byte (layoutOf b) b k high)
+  trailer-same : SameBytes (trailerFrom (layoutOf b)) (trailerTo (layoutOf b)) b b′
+  trailer-same i low high =
+      byte-in-cell b′ i ∙ sym (alike (i / 32) (i % 32) (inl (trailer-cell (layoutOf b) i low high, omega arith))) ∙ sym (byte-in-cell b i)
 
   layout-is : layoutOf b′ ≡ layoutOf b
-  layout-is = layout-same b b′ (sym size) (λ k low high. trailer-same k (omega arith) high)
+  layout-is = layout-same b b′ (sym size) (λ i low high. last-same (layoutOf b) b b′ trailer-same i (omega arith) (omega arith))
 
   -- the trees of the root and of the slots in use
   root-means : AlikeAt (memoryOf b) (memoryOf b′) (TreeMeans (layoutOf b) (memoryOf b) keyLimit (rootWord (layoutOf b) b))
@@ -134,13 +132,13 @@ module _ (b b′ : List ℕ) (size : length b ≡ length b′) (alike : AlikeAt 
       → AlikeAt (memoryOf b) (memoryOf b′) (TreeMeans (layoutOf b) (memoryOf b) keyLimit (slotWord (layoutOf b) b slot))
   slot-means slot valid on c i means = alike c i (inr (inr (slot, valid, on, means)))
 
-  slot-trees : (count from : ℕ) → 1 ≤ from → from + count ≤ 4
+  slot-trees : (count from : ℕ) → 1 ≤ from → from + count ≤ slots (layoutOf b) + 1
       → SameTrees (layoutOf b) (memoryOf b) (memoryOf b′) (slotRoots (layoutOf b) b count from)
   slot-trees zero from low high = unfold slotRoots in tt
   slot-trees (suc count) from low high = go (inUse (layoutOf b) b from) refl (slot-trees count (from + 1) (omega arith) (omega arith))
     where
       valid : validSlot (layoutOf b) from ≡ true
-      valid = slot-valid (layoutOf b) from low (subst (λ (n : ℕ). from ≤ n) (sym (slots-three (layoutOf b))) (omega arith))
+      valid = slot-valid (layoutOf b) from low (omega arith)
 
       go : (t : Bool) → inUse (layoutOf b) b from ≡ t → SameTrees (layoutOf b) (memoryOf b) (memoryOf b′) (slotRoots (layoutOf b) b count (from + 1))
           → SameTrees (layoutOf b) (memoryOf b) (memoryOf b′) (slotRoots (layoutOf b) b (suc count) from)
@@ -153,7 +151,7 @@ module _ (b b′ : List ℕ) (size : length b ≡ length b′) (alike : AlikeAt 
   unfolding roots
   every-tree = (
     root-tree-alike (layoutOf b) (memoryOf b) (memoryOf b′) (rootWord (layoutOf b) b) root-means,
-    slot-trees (slots (layoutOf b)) 1 (omega arith) (omega (arith, slots-three (layoutOf b))),
+    slot-trees (slots (layoutOf b)) 1 (omega arith) (omega arith),
   )
 
   sound-same : sound b ≡ sound b′
@@ -186,7 +184,7 @@ module _ (b b′ : List ℕ) (size : length b ≡ length b′) (alike : AlikeAt 
   validate-same : validate b ≡ validate b′
   unfolding validate
   validate-same =
-      let bad : badSize b ≡ badSize b′ = badSize-same b′ b size in
+      let bad : badSize b ≡ badSize b′ = badSize-same b′ b size (sym layout-is) in
       let good : sound b ≡ sound b′ = sound-same in
       λ i. firstRefusal (refusal 1 (bad i) ∷ refusal 2 (not (good i)) ∷ [])
 

@@ -13,7 +13,7 @@ use Rattle.cells.proofs.Choice.{absurd-bool, absurd-false}
 use Rattle.cells.proofs.Words.{word-bound, withWord-bytes}
 use Rattle.nodes.specs.Layout.{Layout}
 use Rattle.trees.specs.Lookup.{Table, lookup}
-use Rattle.blocks.specs.Trailer.{badSize, trailerAt, layoutOf, rootWord, validSlot, slotWord, inUse}
+use Rattle.blocks.specs.Trailer.{rootAt, badSize, layoutOf, rootWord, validSlot, slotWord, inUse}
 use Rattle.blocks.specs.Sound.{sound}
 use Rattle.blocks.specs.Refusal.{firstRefusal}
 use Rattle.blocks.specs.Read.{shown}
@@ -22,9 +22,9 @@ use Rattle.blocks.proofs.Trailer.{sized, trailer-parts}
 use Rattle.blocks.proofs.Roots.{sound-parts}
 use Rattle.store.specs.Snapshots.{withBit, withoutBit, slotRefusals, usedSlotRefusals, snapshotBlock, restoreBlock, releaseBlock, snapshot, restore, release}
 use Rattle.store.proofs.CallAnswers.{slot-answers, used-slot-answers}
-use Rattle.store.proofs.TrailerWrites.{replacedAt, root-written, root-written-cells, slot-block-bytes, slot-block-cells, slot-written}
-use Rattle.store.proofs.TrailerWrites.{with-bit-fits, with-bit-uses, without-bit-fits, without-bit-uses, bits-byte}
-use Rattle.store.proofs.After.{After, after-same, slotShown, OldRoot, present-root, slot-root, after-trailer}
+use Rattle.blocks.proofs.TrailerWrites.{replacedAt, root-written, root-written-cells, slot-block-bytes, slot-block-cells, slot-written, bits-byte}
+use Rattle.store.proofs.SlotBits.{with-bit-fits, with-bit-uses, without-bit-fits, without-bit-uses}
+use Rattle.blocks.proofs.After.{After, after-same, slotShown, OldRoot, present-root, slot-root, after-trailer}
 
 -- a table by slot, where the words are replaced at one
 cond-lookup : (layout : Layout) (m : Memory) (t : Bool) (w v : ℕ) (key : List ℕ)
@@ -69,7 +69,7 @@ module _ (b : List ℕ) (bytes : IsBytes b) (size : badSize b ≡ false) (valid 
     restored =
         let p = sound-parts (layoutOf b) b valid in
         let w : ℕ = slotWord (layoutOf b) b slot in
-        after-trailer b p size (sized b size) bytes _ (withWord-bytes b (trailerAt (layoutOf b)) w bytes) w (slotWord (layoutOf b) b) (inUse (layoutOf b) b)
+        after-trailer b p size (sized b size) bytes _ (withWord-bytes b (rootAt (layoutOf b)) w bytes) w (slotWord (layoutOf b) b) (inUse (layoutOf b) b)
         (root-written b (sized b size) w (p .trailer) (word-bound b _ bytes))
         (root-written-cells b (sized b size) w)
         (slot-root b p slot is-slot on)

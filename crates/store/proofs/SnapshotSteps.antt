@@ -3,83 +3,80 @@ use mathlib.Core.Path.{_≡_, sym, ap, _∙_}
 use mathlib.Core.Logic.{_≢_}
 use mathlib.Core.Bool.{Bool, true, false, not}
 use mathlib.Core.List.{List, [], _∷_}
-use Prim.Native.Nat.{ℕ, _+_, _-_, _≤_, _<_}
+use Prim.Native.Nat.{ℕ, _+_, _-_, _*_, _%_, _^_, _≤_, _<_}
+use native.Mathlib.Nat.{one-mul}
 use native.Mathlib.Omega.{arith}
-use lib.ListN.{length, getD, set}
+use lib.ListN.{length}
+use lib.Pow.{shl-exact}
 use borrow.Author.Tests.{eqb-true, eqb-false, not-false}
-use Rattle.cells.specs.Word.{withWord}
 use Rattle.nodes.specs.Layout.{Layout}
-use Rattle.blocks.specs.Trailer.{badSize, trailerAt, layoutOf, rootWord, validSlot, slotAt, slotWord, bitsAt, slotBit, inUse}
+use Rattle.blocks.specs.Trailer.{badSize, badLength, layoutOf, rootWord, validSlot, slotBits, slotWord, slotBit, inUse}
+use Rattle.blocks.specs.TrailerWrites.{withRoot, withSlotWord, withSlotBits}
 use Rattle.blocks.specs.Fits.{Fits}
 use Rattle.blocks.specs.Refusal.{refusal, firstRefusal}
 use Rattle.blocks.specs.Read.{blockRefusals, validate}
 use Rattle.blocks.proofs.Refusals.{NoneApplies, block-answers}
 use Rattle.blocks.proofs.RefusalSteps.{refused-earlier, zero-earlier, one-more, no-more, changed-refused, changed-done}
+use Rattle.blocks.proofs.Trailer.{has-trailer}
 use Rattle.blocks.proofs.TrailerSteps.{slot-range}
 use Rattle.blocks.proofs.ValidateSteps.{layout-fits}
 use Rattle.store.specs.Snapshots.{withBit, withoutBit, slotRefusals, usedSlotRefusals, snapshotBlock, restoreBlock, releaseBlock, snapshot, restore, release}
 use Rattle.store.proofs.CallAnswers.{slot-answers}
 use Rattle.store.proofs.Bits.{bit-bound, bit-within}
 
--- the bit of the first slot, the second and the third
-module _ (slot : ℕ) where
-  pub bit-one : slot ≡ 1 → 1 ≡ slotBit slot
-  bit-one e = rw e
-
-  pub bit-two : slot ≡ 2 → 2 ≡ slotBit slot
-  bit-two e = rw e
-
-  pub bit-three : (layout : Layout) → validSlot layout slot ≡ true → slot ≢ 1 → slot ≢ 2 → 4 ≡ slotBit slot
-  bit-three layout is-slot one two = let e : slot ≡ 3 = omega (arith, slot-range layout slot is-slot, one, two) in rw e
+-- the bit of a slot, shifted into its place
+pub bit-shifted : (layout : Layout) (slot : ℕ) → validSlot layout slot ≡ true → 1 * 2 ^ (slot - 1) % 256 ≡ slotBit slot
+bit-shifted layout slot is-slot =
+    let range = slot-range layout slot is-slot in
+    shl-exact 1 (slot - 1) 8 (omega arith) (omega (arith, range)) ∙ one-mul (2 ^ (slot - 1))
 
 -- the bits of the slots in use with one set and with one cleared, from what the code read
-module _ (layout : Layout) (b : List ℕ) (slot start : ℕ) (at : start ≡ trailerAt layout) where
-  pub bit-kept : inUse layout b slot ≡ true → getD b (start + 16) 0 ≡ withBit layout b slot
+module _ (layout : Layout) (b : List ℕ) (slot bits : ℕ) (read : bits ≡ slotBits layout b) where
+  pub bit-kept : inUse layout b slot ≡ true → bits ≡ withBit layout b slot
   unfolding withBit
-  bit-kept on = rw (on, at)
+  bit-kept on = rw (on, read)
 
-  pub bit-absent : inUse layout b slot ≡ false → getD b (start + 16) 0 ≡ withoutBit layout b slot
+  pub bit-absent : inUse layout b slot ≡ false → bits ≡ withoutBit layout b slot
   unfolding withoutBit
-  bit-absent off = rw (off, at)
+  bit-absent off = rw (off, read)
 
   module _ (bit : ℕ) (is : bit ≡ slotBit slot) where
-    pub bit-added : inUse layout b slot ≡ false → getD b (start + 16) 0 + bit ≡ withBit layout b slot
+    pub bit-added : inUse layout b slot ≡ false → bits + bit ≡ withBit layout b slot
     unfolding withBit
-    bit-added off = rw (off, at, is)
+    bit-added off = rw (off, read, is)
 
-    pub bit-taken : inUse layout b slot ≡ true → getD b (start + 16) 0 - bit ≡ withoutBit layout b slot
+    pub bit-taken : inUse layout b slot ≡ true → bits - bit ≡ withoutBit layout b slot
     unfolding withoutBit
-    bit-taken on = rw (on, at, is)
+    bit-taken on = rw (on, read, is)
 
     -- the sum is a byte, and there is a bit to take away
-    pub bit-room : validSlot layout slot ≡ true → inUse layout b slot ≡ false → getD b (start + 16) 0 < 256 → getD b (start + 16) 0 + bit < 256
+    pub bit-room : validSlot layout slot ≡ true → inUse layout b slot ≡ false → bits < 256 → bits + bit < 256
     unfolding inUse
     bit-room is-slot off byte =
         let range = slot-range layout slot is-slot in
-        let byte : getD b (bitsAt layout) 0 < 256 = rw (← at) byte in
-        rw (at, is) (bit-bound (getD b (bitsAt layout) 0) (slot - 1) 8 (omega (arith, range)) byte (eqb-false _ 1 off))
+        let byte : slotBits layout b < 256 = rw (← read) byte in
+        rw (read, is) (bit-bound (slotBits layout b) (slot - 1) 8 (omega (arith, range)) byte (eqb-false _ 1 off))
 
-    pub bit-there : inUse layout b slot ≡ true → bit ≤ getD b (start + 16) 0
+    pub bit-there : inUse layout b slot ≡ true → bit ≤ bits
     unfolding inUse
-    bit-there on = rw (at, is) (bit-within (getD b (bitsAt layout) 0) (slot - 1) (eqb-true _ 1 on))
+    bit-there on = rw (read, is) (bit-within (slotBits layout b) (slot - 1) (eqb-true _ 1 on))
 
 -- the writes of the three calls
 module _ (layout : Layout) (b new : List ℕ) (slot : ℕ) where
-  pub slot-put : (start at bits word : ℕ) → start ≡ trailerAt layout → at ≡ slotAt layout slot → new ≡ withWord (set b (start + 16) bits) at word
-      → new ≡ withWord (set b (bitsAt layout) bits) (slotAt layout slot) word
-  slot-put start at bits word start-is at-is e = rw (e, start-is, at-is)
+  pub slot-put : (marked : List ℕ) (bits word : ℕ) → marked ≡ withSlotBits layout b bits → new ≡ withSlotWord layout marked slot word
+      → new ≡ withSlotWord layout (withSlotBits layout b bits) slot word
+  slot-put marked bits word first e = rw (e, first)
 
   pub snapshot-put : (bits root : ℕ) → root ≡ rootWord layout b → bits ≡ withBit layout b slot
-      → new ≡ withWord (set b (bitsAt layout) bits) (slotAt layout slot) root → new ≡ snapshotBlock layout b slot
+      → new ≡ withSlotWord layout (withSlotBits layout b bits) slot root → new ≡ snapshotBlock layout b slot
   unfolding snapshotBlock
   snapshot-put bits root root-is bits-is e = rw (e, bits-is, root-is)
 
-  pub restore-put : (word start : ℕ) → word ≡ slotWord layout b slot → start ≡ trailerAt layout → new ≡ withWord b start word
-      → new ≡ restoreBlock layout b slot
+  pub restore-put : (word : ℕ) → word ≡ slotWord layout b slot → new ≡ withRoot layout b word → new ≡ restoreBlock layout b slot
   unfolding restoreBlock
-  restore-put word start word-is at e = rw (e, word-is, at)
+  restore-put word word-is e = rw (e, word-is)
 
-  pub release-put : (bits : ℕ) → bits ≡ withoutBit layout b slot → new ≡ withWord (set b (bitsAt layout) bits) (slotAt layout slot) 0
+  pub release-put : (bits : ℕ) → bits ≡ withoutBit layout b slot → new ≡ withSlotWord layout (withSlotBits layout b bits) slot 0
       → new ≡ releaseBlock layout b slot
   unfolding releaseBlock
   release-put bits bits-is e = rw (e, bits-is)
@@ -90,8 +87,8 @@ module _ (b : List ℕ) (e : validate b ≡ 0) where
   unfolding validate
   block-none = block-answers b .1 .1 .only e
 
-  pub valid-size : badSize b ≡ false
-  valid-size = block-none .0
+  pub valid-trailer : badLength 1 (length b) ≡ false
+  valid-trailer = has-trailer b (block-none .0)
 
 -- whether a call on a slot is refused, in the order of the tests
 module _ (b : List ℕ) (slot : ℕ) where
@@ -122,8 +119,11 @@ module _ (b : List ℕ) (slot : ℕ) where
     slot-none : NoneApplies (slotRefusals b slot)
     slot-none = slot-answers b slot .1 .1 .1 .only e
 
-    pub slot-size : badSize b ≡ false
+    slot-size : badSize b ≡ false
     slot-size = slot-none .0
+
+    pub slot-trailer : badLength 1 (length b) ≡ false
+    slot-trailer = has-trailer b slot-size
 
     pub slot-fits : (layout : Layout) → layout ≡ layoutOf b → Fits layout (length b) × (validSlot layout slot ≡ true)
     slot-fits layout at = (

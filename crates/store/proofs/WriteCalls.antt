@@ -16,26 +16,26 @@ use Rattle.blocks.specs.Read.{shown}
 use Rattle.blocks.specs.Tables.{Exactly, Asked, Passes}
 use Rattle.blocks.proofs.Refusals.{Answers, answers, done-block, refused-block}
 use Rattle.blocks.proofs.ReadCalls.{asked, refusals-none, exactly}
-use Rattle.store.specs.Format.{formatRefusals, format}
+use Rattle.store.specs.Format.{freshOf, badNewSize, formatRefusals, format}
 use Rattle.store.specs.Insert.{cellsFree, cellsToInsert, blockBuild, insert}
 use Rattle.store.specs.Laid.{Laid}
 use Rattle.store.specs.Snapshots.{slotRefusals, snapshotBlock, restoreBlock, releaseBlock, snapshot, restore, release}
 use Rattle.store.proofs.CallAnswers.{format-answers, insert-answers}
-use Rattle.store.proofs.TrailerWrites.{replacedAt}
-use Rattle.store.proofs.After.{After, slotShown}
-use Rattle.store.proofs.Format.{Fresh, freshOf, format-law}
+use Rattle.blocks.proofs.TrailerWrites.{replacedAt}
+use Rattle.blocks.proofs.After.{After, slotShown}
+use Rattle.store.proofs.Format.{Fresh, format-law}
 use Rattle.store.proofs.InsertCall.{insert-number, insert-zero, insert-seven, insert-refused, insert-refused-count, insert-after, insert-laid}
 use Rattle.store.proofs.SnapshotCalls.{snapshot-law, restore-law, release-law}
 
--- 01's table for a fresh block: this does not ask whether the old one is sound
+-- 01's table for a fresh block: the old one is not asked, neither what it says nor whether it is sound
 pub record FormatTable (b : List ℕ) (r : Changed) : Type 0 where
-  pub bad-size : Exactly (r .answer) 1 (badSize b ≡ true)
-  pub done : Exactly (r .answer) 0 (badSize b ≡ false)
+  pub bad-size : Exactly (r .answer) 1 (badNewSize 1 b ≡ true)
+  pub done : Exactly (r .answer) 0 (badNewSize 1 b ≡ false)
   pub refused : r .answer ≢ 0 → r .block ≡ b
   -- all zero but for n and the edition
-  pub left : r .answer ≡ 0 → r .block ≡ freshOf b
+  pub left : r .answer ≡ 0 → r .block ≡ freshOf 1 b
   -- which is sound, shows nothing and has no slot in use
-  pub fresh : r .answer ≡ 0 → Fresh b (r .block)
+  pub fresh : r .answer ≡ 0 → Fresh 1 b (r .block)
 
 pub format-table : (b : List ℕ) → FormatTable b (format b)
 unfolding format
@@ -43,8 +43,8 @@ format-table b =
     record {
       bad-size = exactly refl (format-answers b .0) (λ c. c .1) (λ d. (tt, d));
       done = exactly refl (format-answers b .1) (λ c. c .0) (λ d. (d, tt));
-      refused = refused-block (formatRefusals b) b (freshOf b);
-      left = done-block (formatRefusals b) b (freshOf b);
+      refused = refused-block (formatRefusals 1 b) b (freshOf 1 b);
+      left = done-block (formatRefusals 1 b) b (freshOf 1 b);
       fresh = format-law b;
     }
 

@@ -8,7 +8,7 @@ use Rattle.cells.specs.Occurrences.{occurrences, all, distinct, select}
 use Rattle.order_words.specs.Digits.{digits, encode}
 use Rattle.order_words.specs.Order.{eachOnce, place, validDigits, rising}
 use Rattle.order_words.specs.Extended.{withDigit, extendedOrder}
-use Rattle.nodes.specs.Layout.{trailerCells, usable}
+use Rattle.nodes.specs.Layout.{trailerCells, validEdition, usable}
 use Rattle.nodes.specs.Pointer.{byKind, pointer, leafWord}
 use Rattle.nodes.specs.Chain.{chainChild}
 use Rattle.nodes.specs.Sparse.{someWord, everyWord, sparseDigits, validSparse, positionOf, childFrom}
@@ -26,7 +26,7 @@ use Rattle.updates.specs.SetChild.{chainSet, sparseSet, setChild}
 use Rattle.updates.specs.Build.{wordAside, putBack, childOf, pathCopy, valueAt, build, cellsNeeded}
 use Rattle.staging.specs.Numbering.{numberFrom}
 use Rattle.updates.specs.Commit.{buildWrites}
-use Rattle.blocks.specs.Trailer.{badSize, layoutOf, rootWord, slots, validSlot, slotAt, inUse, everySlot, validTrailer}
+use Rattle.blocks.specs.Trailer.{badLength, badSize, layoutOf, rootWord, slots, validSlot, slotAt, inUse, everySlot, zeroFrom, validTrailer}
 use Rattle.blocks.specs.Sound.{slotRoots, roots, soundWith, reachedFrom}
 use Rattle.blocks.specs.Refusal.{firstRefusal, overLong, badKey, badNewKey, badValue}
 use Rattle.blocks.specs.Read.{missing, valueOr, validate, get}
@@ -43,7 +43,7 @@ bytesOpen = tt
 
 -- a node of each kind, and the tree of a root
 unfoldable pub treesOpen : Unit {0}
-unfolding trailerCells usable byKind pointer leafWord chainChild someWord everyWord sparseDigits validSparse positionOf childFrom gather under splitCell endCells midCells headCells wordBelow splitChild validPrefix chainNode plain readAt read spread step tree isRoot rootTree onceVisited cellsOf lookup
+unfolding trailerCells validEdition usable byKind pointer leafWord chainChild someWord everyWord sparseDigits validSparse positionOf childFrom gather under splitCell endCells midCells headCells wordBelow splitChild validPrefix chainNode plain readAt read spread step tree isRoot rootTree onceVisited cellsOf lookup
 treesOpen = tt
 
 -- the build of an insertion
@@ -53,5 +53,5 @@ buildsOpen = tt
 
 -- the calls, with all of these
 unfoldable pub callsOpen : Unit {0}
-unfolding bytesOpen treesOpen buildsOpen badSize layoutOf rootWord slots validSlot slotAt inUse everySlot validTrailer slotRoots roots soundWith reachedFrom countUp allocationOrder free firstRefusal overLong badKey badNewKey badValue formatted format missing valueOr validate get blockBuild insertWrites insert withBit withoutBit snapshotBlock restoreBlock releaseBlock snapshot restore release
+unfolding bytesOpen treesOpen buildsOpen badLength badSize layoutOf rootWord slots validSlot slotAt inUse everySlot zeroFrom validTrailer slotRoots roots soundWith reachedFrom countUp allocationOrder free firstRefusal overLong badKey badNewKey badValue formatted format missing valueOr validate get blockBuild insertWrites insert withBit withoutBit snapshotBlock restoreBlock releaseBlock snapshot restore release
 callsOpen = tt

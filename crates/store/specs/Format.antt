@@ -1,22 +1,31 @@
 -- 01: "A fresh book is all zero but for n and the edition."
+use mathlib.Core.Bool.{Bool}
 use mathlib.Core.List.{List, [], _∷_}
-use Prim.Native.Nat.{ℕ, _+_, _/_}
+use Prim.Native.Nat.{ℕ, _/_}
 use lib.ListN.{length}
 use Rattle.cells.specs.Bytes.{zeros}
-use Rattle.cells.specs.Word.{withWord}
-use Rattle.nodes.specs.Layout.{Layout}
-use Rattle.blocks.specs.Trailer.{badSize, trailerAt}
+use Rattle.nodes.specs.Layout.{Layout, leastCells}
+use Rattle.blocks.specs.Trailer.{badLength}
+use Rattle.blocks.specs.TrailerWrites.{withCells, withEdition}
 use Rattle.blocks.specs.Refusal.{Refusal, refusal, Changed, changedBy}
 
 unfoldable pub formatted : Layout → ℕ → List ℕ
-formatted layout size = withWord (withWord (zeros size) (trailerAt layout + 0x14) (layout .cells)) (trailerAt layout + 0x1C) (layout .edition)
+formatted layout size = withEdition layout (withCells layout (zeros size))
 
-abbrev pub newLayout : List ℕ → Layout
-newLayout block = record { edition = 1; cells = length block / 32 }
+-- the layout that a block gets, of the edition asked for, whatever the block held
+abbrev pub newLayout : ℕ → List ℕ → Layout
+newLayout edition block = record { edition = edition; cells = length block / 32 }
 
-abbrev pub formatRefusals : List ℕ → List Refusal
-formatRefusals block = refusal 1 (badSize block) ∷ []
+abbrev pub freshOf : ℕ → List ℕ → List ℕ
+freshOf edition block = formatted (newLayout edition block) (length block)
 
--- making a fresh block
+-- 01, answer 1, by that layout
+abbrev pub badNewSize : ℕ → List ℕ → Bool
+badNewSize edition block = badLength (leastCells (newLayout edition block)) (length block)
+
+abbrev pub formatRefusals : ℕ → List ℕ → List Refusal
+formatRefusals edition block = refusal 1 (badNewSize edition block) ∷ []
+
+-- making a fresh block; 01: "edition, 1"
 unfoldable pub format : List ℕ → Changed
-format block = changedBy (formatRefusals block) block (formatted (newLayout block) (length block))
+format block = changedBy (formatRefusals 1 block) block (freshOf 1 block)

@@ -3,22 +3,21 @@
 use mathlib.Core.Bool.{not, cond}
 use mathlib.Core.List.{List, [], _∷_, _++_}
 use Prim.Native.Nat.{ℕ, _+_, _-_}
-use lib.ListN.{getD, set}
-use Rattle.cells.specs.Word.{withWord}
 use Rattle.nodes.specs.Layout.{Layout}
-use Rattle.blocks.specs.Trailer.{layoutOf, trailerAt, rootWord, slotAt, slotWord, slotBit, bitsAt, inUse, validSlot}
+use Rattle.blocks.specs.Trailer.{layoutOf, rootWord, slotBits, slotWord, slotBit, inUse, validSlot}
+use Rattle.blocks.specs.TrailerWrites.{withRoot, withSlotWord, withSlotBits}
 use Rattle.blocks.specs.Refusal.{Refusal, refusal, Changed, changedBy}
 use Rattle.blocks.specs.Read.{blockRefusals}
 
 -- the bits of the slots in use with one set, and with one cleared
 unfoldable pub withBit : Layout → List ℕ → ℕ → ℕ
 withBit layout block slot =
-    let bits = getD block (bitsAt layout) 0 in
+    let bits = slotBits layout block in
     cond (inUse layout block slot) bits (bits + slotBit slot)
 
 unfoldable pub withoutBit : Layout → List ℕ → ℕ → ℕ
 withoutBit layout block slot =
-    let bits = getD block (bitsAt layout) 0 in
+    let bits = slotBits layout block in
     cond (inUse layout block slot) (bits - slotBit slot) bits
 
 -- 01, answer 5: "slot not 1, 2 or 3"
@@ -31,14 +30,14 @@ usedSlotRefusals block slot = slotRefusals block slot ++ (refusal 6 (not (inUse 
 
 unfoldable pub snapshotBlock : Layout → List ℕ → ℕ → List ℕ
 snapshotBlock layout block slot =
-    withWord (set block (bitsAt layout) (withBit layout block slot)) (slotAt layout slot) (rootWord layout block)
+    withSlotWord layout (withSlotBits layout block (withBit layout block slot)) slot (rootWord layout block)
 
 unfoldable pub restoreBlock : Layout → List ℕ → ℕ → List ℕ
-restoreBlock layout block slot = withWord block (trailerAt layout) (slotWord layout block slot)
+restoreBlock layout block slot = withRoot layout block (slotWord layout block slot)
 
 unfoldable pub releaseBlock : Layout → List ℕ → ℕ → List ℕ
 releaseBlock layout block slot =
-    withWord (set block (bitsAt layout) (withoutBit layout block slot)) (slotAt layout slot) 0
+    withSlotWord layout (withSlotBits layout block (withoutBit layout block slot)) slot 0
 
 unfoldable pub snapshot : List ℕ → ℕ → Changed
 snapshot block slot = changedBy (slotRefusals block slot) block (snapshotBlock (layoutOf block) block slot)

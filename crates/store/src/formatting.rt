@@ -6,10 +6,11 @@ ghost use Rattle.blocks.specs.Answers.{changedOutcome};
 ghost use Rattle.store.specs.Format.{format};
 use blocks::answer::ChangeAnswer;
 use blocks::answer::Refusal;
-use blocks::trailer_fields::is_bad_size;
-use blocks::trailer_fields::trailer_at;
-use cells::put_word;
+use blocks::trailer_fields::is_bad_length;
+use blocks::trailer_writes::put_cells;
+use blocks::trailer_writes::put_edition;
 use nodes::layout::Layout;
+use nodes::layout::least_cells;
 
 // Sets every byte to zero.
 fn clear(bytes: &mut [u8])
@@ -26,13 +27,16 @@ fn clear(bytes: &mut [u8])
 pub fn format(block: &mut [u8]) -> ChangeAnswer
     ensures { λ r. ⌜ format (now (block .entry)) ≡ changedOutcome r (now (block .exit)) ⌝ }
 {
-    if is_bad_size(block) {
+    let size = block.len();
+    let layout = Layout {
+        edition: 1,
+        cells: size / 32,
+    };
+    if is_bad_length(least_cells(layout), size) {
         return ChangeAnswer::Refused(Refusal::BadSize);
     }
-    let cells = block.len() / 32;
-    let start = trailer_at(Layout { edition: 1, cells });
     clear(block);
-    put_word(block, start + 20, cells as u32);
-    put_word(block, start + 28, 1);
+    put_cells(layout, block);
+    put_edition(layout, block);
     ChangeAnswer::Done
 }

@@ -1,12 +1,12 @@
 // Snapshots of a block: keeping the root in a slot, returning to it and giving it up.
 ghost use mathlib.Core.Bool.{true};
 ghost use mathlib.Core.Path.{_≡_};
-ghost use lib.ListN.{length, set};
-ghost use Rattle.cells.specs.Word.{withWord};
+ghost use lib.ListN.{length};
 ghost use Rattle.blocks.specs.Answers.{changeNumber, changedOutcome};
 ghost use Rattle.blocks.specs.Fits.{Fits};
 ghost use Rattle.blocks.specs.Refusal.{firstRefusal};
-ghost use Rattle.blocks.specs.Trailer.{validSlot, slotBit, slotAt, bitsAt};
+ghost use Rattle.blocks.specs.Trailer.{validSlot, slotBit};
+ghost use Rattle.blocks.specs.TrailerWrites.{withSlotWord, withSlotBits};
 ghost use Rattle.store.specs.Snapshots.{withBit, withoutBit, slotRefusals, usedSlotRefusals, snapshotBlock, restoreBlock, releaseBlock, snapshot, restore, release};
 use blocks::answer::ChangeAnswer;
 use blocks::answer::Refusal;
@@ -14,11 +14,12 @@ use blocks::trailer_fields::is_in_use;
 use blocks::trailer_fields::is_valid_slot;
 use blocks::trailer_fields::layout_of;
 use blocks::trailer_fields::root_word;
-use blocks::trailer_fields::slot_at;
+use blocks::trailer_fields::slot_bits;
 use blocks::trailer_fields::slot_word;
-use blocks::trailer_fields::trailer_at;
+use blocks::trailer_writes::put_root;
+use blocks::trailer_writes::put_slot_bits;
+use blocks::trailer_writes::put_slot_word;
 use blocks::validate::validate;
-use cells::put_word;
 use nodes::layout::Layout;
 
 // The value of a slot's bit.
@@ -26,13 +27,7 @@ fn slot_bit(layout: Layout, slot: usize) -> u8
     requires { ⌜ validSlot layout slot ≡ true ⌝ }
     ensures { λ r. ⌜ r ≡ slotBit slot ⌝ }
 {
-    if slot == 1 {
-        return 1;
-    }
-    if slot == 2 {
-        return 2;
-    }
-    4
+    1u8 << (slot - 1)
 }
 
 // The bits of the slots in use with that of a slot set.
@@ -40,7 +35,7 @@ fn with_bit(layout: Layout, block: &[u8], slot: usize) -> u8
     requires { ⌜ Fits layout (length (now block)) × (validSlot layout slot ≡ true) ⌝ }
     ensures { λ r. ⌜ r ≡ withBit layout (now (block .entry)) slot ⌝ }
 {
-    let bits = block[trailer_at(layout) + 16];
+    let bits = slot_bits(layout, block);
     if is_in_use(layout, block, slot) {
         return bits;
     }
@@ -52,7 +47,7 @@ fn without_bit(layout: Layout, block: &[u8], slot: usize) -> u8
     requires { ⌜ Fits layout (length (now block)) × (validSlot layout slot ≡ true) ⌝ }
     ensures { λ r. ⌜ r ≡ withoutBit layout (now (block .entry)) slot ⌝ }
 {
-    let bits = block[trailer_at(layout) + 16];
+    let bits = slot_bits(layout, block);
     if !is_in_use(layout, block, slot) {
         return bits;
     }
@@ -62,11 +57,10 @@ fn without_bit(layout: Layout, block: &[u8], slot: usize) -> u8
 // Writes the bits of the slots in use and the word of a slot.
 fn put_slot(layout: Layout, block: &mut [u8], slot: usize, bits: u8, word: u32)
     requires { ⌜ Fits layout (length (now block)) × (validSlot layout slot ≡ true) ⌝ }
-    ensures { λ _. ⌜ now (block .exit) ≡ withWord (set (now (block .entry)) (bitsAt layout) bits) (slotAt layout slot) word ⌝ }
+    ensures { λ _. ⌜ now (block .exit) ≡ withSlotWord layout (withSlotBits layout (now (block .entry)) bits) slot word ⌝ }
 {
-    let at = trailer_at(layout) + 16;
-    block[at] = bits;
-    put_word(block, slot_at(layout, slot), word);
+    put_slot_bits(layout, block, bits);
+    put_slot_word(layout, block, slot, word);
 }
 
 // Keeps the root in a slot.
@@ -85,7 +79,7 @@ fn put_restore(layout: Layout, block: &mut [u8], slot: usize)
     ensures { λ _. ⌜ now (block .exit) ≡ restoreBlock layout (now (block .entry)) slot ⌝ }
 {
     let word = slot_word(layout, block, slot);
-    put_word(block, trailer_at(layout), word);
+    put_root(layout, block, word);
 }
 
 // Empties a slot.

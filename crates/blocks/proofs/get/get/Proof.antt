@@ -1,6 +1,7 @@
 use mathlib.Core.Path.{sym, ap, _∙_}
 use Rattle.trees.specs.Coded.{lookupOf}
 use Rattle.blocks.specs.Answers.{changeNumber}
+use Rattle.blocks.proofs.Trailer.{has-trailer}
 use Rattle.blocks.proofs.ReadSteps.{block-size, block-fits, block-room, root-grown, shown-is}
 use Rattle.blocks.proofs.RefusalSteps.{refusal-number}
 use Rattle.blocks.proofs.GetSteps.{get-refused, get-bad-key, get-missing, get-value}
@@ -27,7 +28,7 @@ returns-2 : tie.Need-returns-2
 returns-2 c = get-bad-key _ _ (c .before .before .before .before .validate .ensures ∙ ap changeNumber (c .before .before .enum-told .given .1)) (sym (c .before .is-bad-key .ensures) ∙ c .if1 .taken)
 
 layout-of-requires : tie.Need-layout-of-requires
-layout-of-requires c κs = block-size _ (c .before .before .before .before .validate .ensures ∙ ap changeNumber (c .before .before .enum-told .given .1))
+layout-of-requires c κs = has-trailer _ (block-size _ (c .before .before .before .before .validate .ensures ∙ ap changeNumber (c .before .before .enum-told .given .1)))
 
 root-word-requires : tie.Need-root-word-requires
 root-word-requires c κs = block-fits _ (c .before .before .before .before .before .validate .ensures ∙ ap changeNumber (c .before .before .before .enum-told .given .1)) _ (c .layout-of .ensures)

@@ -1,6 +1,7 @@
 use mathlib.Core.Path.{refl, sym, ap, _∙_}
 use borrow.Author.Tests.{not-true, not-false}
 use Rattle.blocks.specs.Answers.{changeNumber}
+use Rattle.blocks.proofs.Trailer.{has-trailer}
 use Rattle.blocks.proofs.ReadSteps.{block-size, block-fits, block-room, root-grown}
 use Rattle.blocks.proofs.RefusalSteps.{refusal-number}
 use Rattle.blocks.proofs.NextSteps.{next-refused, next-over-long, next-missing, next-found}
@@ -33,7 +34,7 @@ returns-2 : tie.Need-returns-2
 returns-2 c = next-over-long _ _ (c .before .before .before .before .before .validate .ensures ∙ ap changeNumber (c .before .before .before .enum-told .given .1)) (sym (c .before .before .is-over-long .ensures) ∙ c .before .if1 .taken) ∙ c .refused-next2 .ensures
 
 layout-of-requires : tie.Need-layout-of-requires
-layout-of-requires c κs = block-size _ (c .before .before .before .before .validate .ensures ∙ ap changeNumber (c .before .before .enum-told .given .1))
+layout-of-requires c κs = has-trailer _ (block-size _ (c .before .before .before .before .validate .ensures ∙ ap changeNumber (c .before .before .enum-told .given .1)))
 
 root-word-requires : tie.Need-root-word-requires
 root-word-requires c κs = block-fits _ (c .before .before .before .before .before .validate .ensures ∙ ap changeNumber (c .before .before .before .enum-told .given .1)) _ (c .layout-of .ensures)

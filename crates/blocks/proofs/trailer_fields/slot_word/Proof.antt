@@ -1,8 +1,7 @@
 use mathlib.Core.Path.{_∙_, ap}
 use native.Mathlib.Omega.{arith}
 use Rattle.cells.specs.Word.{wordAt}
-use Rattle.blocks.proofs.TrailerSteps.{slot-range}
-use Rattle.blocks.proofs.Trailer.{slot-at}
+use Rattle.blocks.proofs.Trailer.{slot-within}
 use borrow.Author.Needs.{needs}
 use Rattle.blocks.proofs.trailer_fields.slot_word.Statement.{statement}
 use Rattle.blocks.proofs.trailer_fields.slot_word.Tie as tie
@@ -11,7 +10,7 @@ slot-at-requires : tie.Need-slot-at-requires
 slot-at-requires c κs = search needs
 
 word-at-requires : tie.Need-word-at-requires
-word-at-requires c κs = omega (arith, slot-range _ _ (c .before .before .pre .1), slot-at (c .before .before .args .layout) (c .before .before .args .slot))
+word-at-requires c κs = omega (arith, c .slot-at .ensures, slot-within _ _ (c .before .before .pre .1) .1, c .before .before .pre .0 .whole, c .before .before .pre .0 .least)
 
 returns : tie.Need-returns
 returns c = c .word-at .ensures ∙ ap (wordAt _) (c .before .slot-at .ensures)

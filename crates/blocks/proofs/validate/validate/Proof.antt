@@ -1,6 +1,7 @@
 use mathlib.Core.Path.{refl, sym, _∙_}
 use borrow.Author.Tests.{not-true, not-false}
 use Rattle.cells.specs.Bytes.{zeros}
+use Rattle.blocks.proofs.Trailer.{has-trailer}
 use Rattle.blocks.proofs.ValidateSteps.{layout-fits, validate-size, validate-unsound, validate-done}
 use borrow.Author.Needs.{needs}
 use Rattle.blocks.proofs.validate.validate.Statement.{statement}
@@ -13,7 +14,7 @@ returns : tie.Need-returns
 returns c = validate-size _ (sym (c .before .is-bad-size .ensures) ∙ c .if1 .taken)
 
 layout-of-requires : tie.Need-layout-of-requires
-layout-of-requires c κs = sym (c .before .is-bad-size .ensures) ∙ c .if1 .left
+layout-of-requires c κs = has-trailer _ (sym (c .before .is-bad-size .ensures) ∙ c .if1 .left)
 
 is-sound-requires : tie.Need-is-sound-requires
 unfolding zeros

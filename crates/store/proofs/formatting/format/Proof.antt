@@ -1,62 +1,55 @@
-use mathlib.Core.Path.{sym, _∙_}
-use native.Mathlib.Omega.{arith}
-use Rattle.store.proofs.FormatSteps.{format-refused, format-done}
-use Rattle.blocks.proofs.TrailerSteps.{size-facts}
+use mathlib.Core.Path.{sym, _∙_, subst}
+use Rattle.blocks.specs.Fits.{Fits}
+use Rattle.store.proofs.FormatSteps.{format-refused, new-fits, format-done}
 use borrow.Author.Needs.{needs}
 use Rattle.store.proofs.formatting.format.Statement.{statement}
 use Rattle.store.proofs.formatting.format.Tie as tie
 
-is-bad-size-requires : tie.Need-is-bad-size-requires
-is-bad-size-requires c κs = search needs
+least-cells-requires : tie.Need-least-cells-requires
+least-cells-requires c κs = search needs
 
-same-length : tie.Need-same-length
-same-length c = search needs
+is-bad-length-requires : tie.Need-is-bad-length-requires
+is-bad-length-requires c κs = search needs
 
 returns : tie.Need-returns
-returns c = format-refused _ (sym (c .before .is-bad-size .ensures) ∙ c .if1 .taken)
-
-trailer-at-requires : tie.Need-trailer-at-requires
-trailer-at-requires c κs = omega (arith, size-facts _ (sym (c .before .is-bad-size .ensures) ∙ c .if1 .left))
+returns c = format-refused _ _ (c .before .before .least-cells .ensures) (sym (c .before .is-bad-length .ensures) ∙ c .if1 .taken)
 
 clear-requires : tie.Need-clear-requires
 clear-requires c κs = search needs
 
-add-put-word : tie.Need-add-put-word
-add-put-word c = search needs
+put-cells-requires : tie.Need-put-cells-requires
+put-cells-requires c κs =
+    let cleared = c .before .before .before in
+    subst (Fits _) (sym (cleared .clear .kept .0))
+    (new-fits (cleared .before .before .before .before .before .before .args .block .now) _ (cleared .before .before .before .before .least-cells .ensures) (sym (cleared .before .before .before .is-bad-length .ensures) ∙ cleared .before .before .if1 .left))
 
-cast-put-word : tie.Need-cast-put-word
-cast-put-word c = omega (arith, size-facts _ (sym (c .before .before .before .before .before .before .before .is-bad-size .ensures) ∙ c .before .before .before .before .before .before .if1 .left))
+put-edition-requires : tie.Need-put-edition-requires
+put-edition-requires c κs =
+    let counted = c .before .before .before in
+    let cleared = counted .before .before .before .before in
+    subst (Fits _) (sym (counted .put-cells .kept .1 .0 ∙ cleared .clear .kept .0))
+    (new-fits (cleared .before .before .before .before .before .before .args .block .now) _ (cleared .before .before .before .before .least-cells .ensures) (sym (cleared .before .before .before .is-bad-length .ensures) ∙ cleared .before .before .if1 .left))
 
-put-word-requires : tie.Need-put-word-requires
-put-word-requires c κs = omega (arith, size-facts _ (sym (c .before .before .before .before .before .before .before .is-bad-size .ensures) ∙ c .before .before .before .before .before .before .if1 .left))
-
-add-put-word-2 : tie.Need-add-put-word-2
-add-put-word-2 c = search needs
-
-put-word-requires-2 : tie.Need-put-word-requires-2
-put-word-requires-2 c κs = omega (arith, size-facts _ (sym (c .before .before .before .before .before .before .before .before .before .before .before .is-bad-size .ensures) ∙ c .before .before .before .before .before .before .before .before .before .before .if1 .left))
-
-same-length-2 : tie.Need-same-length-2
-same-length-2 c = search needs
+same-length : tie.Need-same-length
+same-length c = search needs
 
 returns-2 : tie.Need-returns-2
 returns-2 c =
-    format-done _ _ _ _ _ (sym (c .before .before .before .before .before .before .before .before .before .before .before .before .before .before .is-bad-size .ensures) ∙ c .before .before .before .before .before .before .before .before .before .before .before .before .before .if1 .left) (c .before .before .before .before .before .before .before .before .before .before .before .before .trailer-at .ensures)
-    (c .before .before .before .before .before .before .before .before .before .before .clear .ensures) (c .before .before .before .before .before .before .put-word .ensures) (c .before .before .put-word2 .ensures)
+    let dated = c .before .before in
+    let counted = dated .before .before .before .before in
+    let cleared = counted .before .before .before .before in
+    format-done _ _ (cleared .before .before .before .before .least-cells .ensures) (sym (cleared .before .before .before .is-bad-length .ensures) ∙ cleared .before .before .if1 .left)
+    _ _ _ (cleared .clear .ensures) (counted .put-cells .ensures) (dated .put-edition .ensures)
 
 pub format-spec : {M : Type 1} → statement M
 format-spec =
     tie.close
     (tie.spec
-    is-bad-size-requires
-    same-length
+    least-cells-requires
+    is-bad-length-requires
     returns
-    trailer-at-requires
     clear-requires
-    add-put-word
-    cast-put-word
-    put-word-requires
-    add-put-word-2
-    put-word-requires-2
-    same-length-2
+    put-cells-requires
+    put-edition-requires
+    same-length
     returns-2)

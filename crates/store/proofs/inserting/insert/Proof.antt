@@ -2,6 +2,7 @@
 use mathlib.Core.Path.{refl, sym, _∙_}
 use borrow.Author.Tests.{not-true, not-false}
 use Rattle.cells.specs.Bytes.{zeros}
+use Rattle.blocks.proofs.Trailer.{has-trailer}
 use Rattle.blocks.proofs.ValidateSteps.{layout-fits}
 use Rattle.store.proofs.InsertRefused.{insert-size, insert-unsound, insert-key, insert-value, is-insertable}
 use borrow.Author.Needs.{needs}
@@ -18,7 +19,7 @@ returns : tie.Need-returns
 returns c = insert-size _ _ _ (sym (c .before .is-bad-size .ensures) ∙ c .if1 .taken)
 
 layout-of-requires : tie.Need-layout-of-requires
-layout-of-requires c κs = sym (c .before .before .is-bad-size .ensures) ∙ c .before .if1 .left
+layout-of-requires c κs = has-trailer _ (sym (c .before .before .is-bad-size .ensures) ∙ c .before .if1 .left)
 
 is-sound-requires : tie.Need-is-sound-requires
 unfolding zeros

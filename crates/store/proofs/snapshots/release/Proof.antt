@@ -1,5 +1,5 @@
 use mathlib.Core.Path.{_∙_}
-use Rattle.store.proofs.SnapshotSteps.{slot-size, slot-fits, used-slot, release-stopped, release-done}
+use Rattle.store.proofs.SnapshotSteps.{slot-trailer, slot-fits, used-slot, release-stopped, release-done}
 use Rattle.blocks.proofs.RefusalSteps.{refused-number, done-number}
 use borrow.Author.Needs.{needs}
 use Rattle.store.proofs.snapshots.release.Statement.{statement}
@@ -21,7 +21,7 @@ returns : tie.Need-returns
 returns c = release-stopped _ _ _ (c .before .before .used-slot-refusal .ensures) (refused-number _ _ (c .enum-told2 .given .1))
 
 layout-of-requires : tie.Need-layout-of-requires
-layout-of-requires c κs = slot-size _ _ (used-slot _ _ (c .before .before .before .used-slot-refusal .ensures ∙ done-number _ (c .before .enum-told .given .1)))
+layout-of-requires c κs = slot-trailer _ _ (used-slot _ _ (c .before .before .before .used-slot-refusal .ensures ∙ done-number _ (c .before .enum-told .given .1)))
 
 put-release-requires : tie.Need-put-release-requires
 put-release-requires c κs = slot-fits _ _ (used-slot _ _ (c .before .before .before .before .before .used-slot-refusal .ensures ∙ done-number _ (c .before .before .before .enum-told .given .1))) _ (c .before .layout-of .ensures)

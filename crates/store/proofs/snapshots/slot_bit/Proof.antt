@@ -1,15 +1,20 @@
-use Rattle.store.proofs.SnapshotSteps.{bit-one, bit-two, bit-three}
+use native.Mathlib.Omega.{arith}
+use Rattle.blocks.proofs.TrailerSteps.{slot-range}
+use Rattle.store.proofs.SnapshotSteps.{bit-shifted}
 use Rattle.store.proofs.snapshots.slot_bit.Statement.{statement}
 use Rattle.store.proofs.snapshots.slot_bit.Tie as tie
 
+sub-result : tie.Need-sub-result
+sub-result c = omega (arith, slot-range _ _ (c .pre))
+
+cast-result : tie.Need-cast-result
+cast-result c = omega (arith, slot-range _ _ (c .pre))
+
+shl-result : tie.Need-shl-result
+shl-result c = omega (arith, slot-range _ _ (c .pre))
+
 returns : tie.Need-returns
-returns c = bit-one _ (c .if1 .taken)
-
-returns-2 : tie.Need-returns-2
-returns-2 c = bit-two _ (c .if2 .taken)
-
-returns-3 : tie.Need-returns-3
-returns-3 c = bit-three _ _ (c .before .before .pre) (c .before .if1 .left) (c .if2 .left)
+returns c = bit-shifted _ _ (c .pre)
 
 pub slot-bit-spec : {M : Type 1} → statement M
-slot-bit-spec = tie.close (tie.spec returns returns-2 returns-3)
+slot-bit-spec = tie.close (tie.spec sub-result cast-result shl-result returns)

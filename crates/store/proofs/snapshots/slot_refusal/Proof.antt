@@ -1,6 +1,6 @@
 use mathlib.Core.Path.{_∙_}
 use borrow.Author.Tests.{not-true, not-false}
-use Rattle.store.proofs.SnapshotSteps.{valid-size, block-refused, slot-refused, slot-accepted}
+use Rattle.store.proofs.SnapshotSteps.{valid-trailer, block-refused, slot-refused, slot-accepted}
 use Rattle.blocks.proofs.RefusalSteps.{refused-number, done-number}
 use borrow.Author.Needs.{needs}
 use Rattle.store.proofs.snapshots.slot_refusal.Statement.{statement}
@@ -19,7 +19,7 @@ returns : tie.Need-returns
 returns c = block-refused _ _ _ (c .before .before .validate .ensures) (refused-number _ _ (c .enum-told2 .given .1))
 
 layout-of-requires : tie.Need-layout-of-requires
-layout-of-requires c κs = valid-size _ (c .before .before .validate .ensures ∙ done-number _ (c .enum-told .given .1))
+layout-of-requires c κs = valid-trailer _ (c .before .before .validate .ensures ∙ done-number _ (c .enum-told .given .1))
 
 is-valid-slot-requires : tie.Need-is-valid-slot-requires
 is-valid-slot-requires c κs = search needs

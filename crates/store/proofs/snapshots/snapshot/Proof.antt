@@ -1,5 +1,5 @@
 use mathlib.Core.Path.{_∙_}
-use Rattle.store.proofs.SnapshotSteps.{slot-size, slot-fits, snapshot-stopped, snapshot-done}
+use Rattle.store.proofs.SnapshotSteps.{slot-trailer, slot-fits, snapshot-stopped, snapshot-done}
 use Rattle.blocks.proofs.RefusalSteps.{refused-number, done-number}
 use borrow.Author.Needs.{needs}
 use Rattle.store.proofs.snapshots.snapshot.Statement.{statement}
@@ -21,7 +21,7 @@ returns : tie.Need-returns
 returns c = snapshot-stopped _ _ _ (c .before .before .slot-refusal .ensures) (refused-number _ _ (c .enum-told2 .given .1))
 
 layout-of-requires : tie.Need-layout-of-requires
-layout-of-requires c κs = slot-size _ _ (c .before .before .before .slot-refusal .ensures ∙ done-number _ (c .before .enum-told .given .1))
+layout-of-requires c κs = slot-trailer _ _ (c .before .before .before .slot-refusal .ensures ∙ done-number _ (c .before .enum-told .given .1))
 
 put-snapshot-requires : tie.Need-put-snapshot-requires
 put-snapshot-requires c κs = slot-fits _ _ (c .before .before .before .before .before .slot-refusal .ensures ∙ done-number _ (c .before .before .before .enum-told .given .1)) _ (c .before .layout-of .ensures)

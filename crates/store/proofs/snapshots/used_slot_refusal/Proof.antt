@@ -1,6 +1,6 @@
 use mathlib.Core.Path.{_∙_}
 use borrow.Author.Tests.{not-true, not-false}
-use Rattle.store.proofs.SnapshotSteps.{slot-size, slot-fits, earlier-refused, use-refused, use-accepted}
+use Rattle.store.proofs.SnapshotSteps.{slot-trailer, slot-fits, earlier-refused, use-refused, use-accepted}
 use Rattle.blocks.proofs.RefusalSteps.{refused-number, done-number}
 use borrow.Author.Needs.{needs}
 use Rattle.store.proofs.snapshots.used_slot_refusal.Statement.{statement}
@@ -19,7 +19,7 @@ returns : tie.Need-returns
 returns c = earlier-refused _ _ _ (c .before .before .slot-refusal .ensures) (refused-number _ _ (c .enum-told2 .given .1))
 
 layout-of-requires : tie.Need-layout-of-requires
-layout-of-requires c κs = slot-size _ _ (c .before .before .slot-refusal .ensures ∙ done-number _ (c .enum-told .given .1))
+layout-of-requires c κs = slot-trailer _ _ (c .before .before .slot-refusal .ensures ∙ done-number _ (c .enum-told .given .1))
 
 is-in-use-requires : tie.Need-is-in-use-requires
 is-in-use-requires c κs = slot-fits _ _ (c .before .before .before .slot-refusal .ensures ∙ done-number _ (c .before .enum-told .given .1)) _ (c .layout-of .ensures)

@@ -1,24 +1,23 @@
 -- What is said of a block after a call that was done, and how it follows from the trailer and the trees.
 use mathlib.Core.Path.{_≡_, sym, ap, _∙_, subst}
-use mathlib.Core.Logic.{_≢_}
 use mathlib.Core.Bool.{Bool, true, false}
 use mathlib.Core.List.{List}
-use Prim.Native.Nat.{ℕ, _-_, _≤_}
+use Prim.Native.Nat.{ℕ, _≤_}
 use native.Mathlib.Omega.{arith}
 use lib.ListN.{length}
 use Rattle.cells.specs.Bytes.{IsBytes}
 use Rattle.cells.specs.Memory.{memoryOf}
 use Rattle.cells.specs.Occurrences.{occurrences}
 use Rattle.cells.proofs.Memory.{memory-bytes}
-use Rattle.nodes.specs.Layout.{Layout, trailerCells, usable}
-use Rattle.nodes.proofs.Pointers.{usable-high}
+use Rattle.nodes.specs.Layout.{Layout, isTrailer}
+use Rattle.nodes.proofs.Usable.{not-trailer}
 use Rattle.trees.specs.Root.{validRoot, rootCells}
 use Rattle.trees.specs.Lookup.{Table, lookup}
 use Rattle.blocks.specs.Trailer.{badSize, layoutOf, rootWord, validSlot, slotWord, inUse}
 use Rattle.blocks.specs.Sound.{soundWith, sound, reachable}
 use Rattle.blocks.specs.Read.{shown}
 use Rattle.blocks.proofs.Trailer.{Sized, badSize-same, TrailerSays}
 use Rattle.blocks.proofs.Roots.{RootKept, root-kept, SoundParts, parts-sound, root-reachable, slot-reachable, reachable-usable}
 
 -- the table that a slot shows
 abbrev pub slotShown : List ℕ → ℕ → Table
@@ -53,11 +52,6 @@ after-same b b′ present present′ used held held′ same each a =
       kept = a .kept;
     }
 
--- a reachable cell is not the trailer
-pub not-trailer : (layout : Layout) (c : ℕ) → usable layout c ≡ true → c ≢ layout .cells - 1
-unfolding trailerCells
-not-trailer layout c u e = omega (arith, usable-high layout c u, e)
-
 module _ (b b′ : List ℕ) (size : badSize b ≡ false) (root : ℕ) (words : ℕ → ℕ) (used : ℕ → Bool) (says : TrailerSays b b′ root words used)
     (bytes′ : IsBytes b′) where
   -- from the trailer and the trees of the new roots
@@ -73,7 +67,7 @@ module _ (b b′ : List ℕ) (size : badSize b ≡ false) (root : ℕ) (words : 
         same-length = says .size;
         bytes = bytes′;
         layout = says .layout;
-        size = badSize-same b b′ (says .size) ∙ size;
+        size = badSize-same b b′ (says .size) (says .layout) ∙ size;
         valid = subst (λ (l : Layout). soundWith l b′ ≡ true) (sym (says .layout)) (parts-sound (layoutOf b) b′ (record {
           trailer = says .valid;
           root = subst (λ (w : ℕ). validRoot (layoutOf b) (memoryOf b′) w ≡ true) (sym (says .root-is)) root-valid;
@@ -112,10 +106,10 @@ module _ (b : List ℕ) (p : SoundParts (layoutOf b) b) where
     old-root-kept word old =
         root-kept (layoutOf b) (s .most) (memoryOf b) (memoryOf b′) (λ c. memory-bytes b c bytes) word (old .valid) (λ c h. sym (kept c (old .within c h)))
 
-  -- a call that changes nothing but the trailer, and takes its new root and its slots' words from among the old ones
+  -- a call that changes nothing but the trailer's cells, and takes its new root and its slots' words from among the old ones
   pub after-trailer : badSize b ≡ false → Sized b → IsBytes b → (b′ : List ℕ) → IsBytes b′ → (root : ℕ) (words : ℕ → ℕ) (used : ℕ → Bool)
       → TrailerSays b b′ root words used
-      → ((c : ℕ) → c ≢ layoutOf b .cells - 1 → memoryOf b′ c ≡ memoryOf b c)
+      → ((c : ℕ) → isTrailer (layoutOf b) c ≡ false → memoryOf b′ c ≡ memoryOf b c)
       → OldRoot b root
       → ((slot : ℕ) → validSlot (layoutOf b) slot ≡ true → used slot ≡ true → OldRoot b (words slot))
       → After b b′ (λ key. lookup (layoutOf b) (memoryOf b) root key) used (λ slot key. lookup (layoutOf b) (memoryOf b) (words slot) key)
