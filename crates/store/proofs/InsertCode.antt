@@ -80,8 +80,7 @@ module _ (layout : Layout) (b stamps key : List ℕ) (value : ℕ) (p : Insertab
           record {
             depth = keyLimit;
             deep = omega (arith, key-fits key (p .good-key));
-            cells = parts .cells;
-            valid = ap (tree layout (memoryOf b) keyLimit) root-is ∙ parts .found;
+            found = (parts .cells, ap (tree layout (memoryOf b) keyLimit) root-is ∙ parts .found);
           },
         )
 

@@ -27,19 +27,19 @@ use Rattle.updates.proofs.Aside.{child-of}
 -- a word that has a tree names a node, and so does the word without its value
 module _ (layout : Layout) (m : Memory) (word left : ℕ) (has : HasTree layout m word left) where
   pub tree-read : (node : Node) × (read layout m word ≡ some node)
-  tree-read = let q = tree-cut layout m (has .depth) word (has .cells) (has .valid) in (q .0, q .2)
+  tree-read = let q = tree-cut layout m (has .depth) word (has .found .0) (has .found .1) in (q .0, q .2)
 
   -- its child has one that is one character less deep
   pub child-has : (less x child : ℕ) → child ≡ childOf (read layout m word) x → x < 256 → left ≡ less + 1 → HasTree layout m child less
-  child-has less x child is near one = go (has .depth) (has .deep) (has .valid)
+  child-has less x child is near one = go (has .depth) (has .deep) (has .found .1)
     where
-      go : (d : ℕ) → left ≤ d → tree layout m d word ≡ some (has .cells) → HasTree layout m child less
+      go : (d : ℕ) → left ≤ d → tree layout m d word ≡ some (has .found .0) → HasTree layout m child less
       go zero deep valid = absurd (omega arith)
       go (suc d) deep valid =
-          let q = tree-cut layout m (suc d) word (has .cells) valid in
-          let t = tree-below layout m d word x (has .cells) (q .0) near valid (q .2) in
+          let q = tree-cut layout m (suc d) word (has .found .0) valid in
+          let t = tree-below layout m d word x (has .found .0) (q .0) near valid (q .2) in
           let same : child ≡ q .0 .child x = is ∙ child-of (read layout m word) (q .0) x (q .2) in
-          record { depth = d; deep = omega arith; cells = t .0; valid = ap (tree layout m d) same ∙ t .1 }
+          record { depth = d; deep = omega arith; found = (t .0, ap (tree layout m d) same ∙ t .1) }
 
 -- the word without its value names a node too
 pub bare-read : (layout : Layout) (m : Memory) (word : ℕ) → ((node : Node) × (read layout m word ≡ some node)) → (bare : ℕ)

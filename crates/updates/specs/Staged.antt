@@ -2,7 +2,6 @@
 use mathlib.Core.Path.{_≡_}
 use mathlib.Core.Bool.{false}
 use mathlib.Core.List.{List}
-use mathlib.Core.Option.{some}
 use Prim.Native.Nat.{ℕ, zero, suc, _-_, _≤_, _<_}
 use lib.ListN.{length, getD}
 use Rattle.cells.specs.Memory.{Memory}
@@ -10,7 +9,7 @@ use Rattle.nodes.specs.Layout.{Layout}
 use Rattle.nodes.specs.Pointer.{pointer, leafWord}
 use Rattle.nodes.specs.Node.{read}
 use Rattle.nodes.specs.Value.{pointerValue}
-use Rattle.trees.specs.Tree.{tree}
+use Rattle.trees.specs.Coded.{Grown}
 use Rattle.updates.specs.Built.{Built}
 use Rattle.updates.specs.SplitBuild.{Row}
 use Rattle.updates.specs.SetChild.{setChild}
@@ -47,8 +46,7 @@ pub record Children (array : List ℕ) (child : ℕ → ℕ) : Type 0 where
 pub record HasTree (layout : Layout) (m : Memory) (word left : ℕ) : Type 0 where
   pub depth : ℕ
   pub deep : left ≤ depth
-  pub cells : List ℕ
-  pub valid : tree layout m depth word ≡ some cells
+  pub found : Grown layout m depth word
 
 -- one node of a path copied, over what is built below it
 abbrev pub nodeCopy : Layout → (ℕ → ℕ) → Memory → ℕ → ℕ → Built → Built
