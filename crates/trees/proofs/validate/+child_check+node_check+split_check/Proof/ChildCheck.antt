@@ -1,15 +1,14 @@
 -- The check of a child word meets its contract.
-use mathlib.Core.Path.{ap, _∙_}
+use mathlib.Core.Path.{refl, _∙_}
 use Prim.Native.Nat.{ℕ}
 use native.Mathlib.Omega.{arith}
 use borrow.Author.Tests.{not-true, not-false}
 use Rattle.nodes.specs.Prefix.{validPrefix}
 use Rattle.nodes.proofs.Coded.{coded-leaf, coded-prefix, prefix-facts}
-use Rattle.trees.specs.Parts.{plainTree}
-use Rattle.trees.proofs.Judging.{judged-empty, judged-none, judged-same, first-failed, then-second}
 use Rattle.nodes.proofs.StepWays.{cell-length}
-use Rattle.trees.proofs.Reading.{last-word, test-fails, test-holds}
-use Rattle.trees.proofs.ChildTrees.{child-none, child-deep, child-below, tree-leaf, prefix-broken, prefix-tree}
+use Rattle.trees.proofs.Judging.{judged-empty, judged-none, judged-same, first-failed, then-second}
+use Rattle.trees.proofs.Reading.{last-word, tested-cell}
+use Rattle.trees.proofs.ChildTrees.{child-none, child-deep, child-below, tree-leaf, prefix-tree}
 use Rattle.trees.proofs.Tags.{other-plain}
 use borrow.Author.Needs.{needs}
 use Rattle.trees.proofs.validate.child_check.Reads as reads
@@ -33,28 +32,25 @@ module _ (t : ℕ) where
   enum-known-number c = search needs
 
   pub cell-requires : lts.Need-cell-requires (child-told t) (child-check-at t) reads.Post
-  cell-requires c κs = omega (arith, prefix-facts _ _ _ (c .before .before .before .pointer-of .ensures) _ (c .before .number .given .1) .2)
+  cell-requires c κs = omega (arith, prefix-facts _ _ _ (c .before .before .before .before .pointer-of .ensures) _ (c .before .before .number .given .1) .2)
 
   pub is-valid-prefix-requires : lts.Need-is-valid-prefix-requires (child-told t) (child-check-at t) reads.Post
   is-valid-prefix-requires c κs = cell-length _ _ _ (c .cell .ensures)
 
-  pub returns-3 : lts.Need-returns-3 (child-told t) (child-check-at t) reads.Post
-  returns-3 c = judged-none _ _ _ _ (child-below _ _ _ _ (c .before .before .before .before .before .before .before .before .if1 .left) (c .before .before .before .before .before .before .before .if2 .left) ∙ prefix-broken _ _ _ _ _ (coded-prefix _ _ _ (c .before .before .before .before .before .before .pointer-of .ensures) _ (c .before .before .before .before .number .given .1)) (test-fails validPrefix _ _ _ (c .before .before .cell .ensures) (c .before .is-valid-prefix .ensures) (c .if3 .taken)))
-
   pub stamp-cell-requires : lts.Need-stamp-cell-requires (child-told t) (child-check-at t) reads.Post
-  stamp-cell-requires c κs = omega (arith, prefix-facts _ _ _ (c .before .before .before .before .before .before .before .pointer-of .ensures) _ (c .before .before .before .before .before .number .given .1) .2)
+  stamp-cell-requires c κs = omega (arith, prefix-facts _ _ _ (c .before .before .before .before .before .before .pointer-of .ensures) _ (c .before .before .before .before .number .given .1) .2)
 
-  pub returns-4 : lts.Need-returns-4 (child-told t) (child-check-at t) reads.Post
-  returns-4 c = first-failed _ _ _ _ _ _ _ _ (child-below _ _ _ _ (c .before .before .before .before .before .before .before .before .before .before .before .if1 .left) (c .before .before .before .before .before .before .before .before .before .before .if2 .left) ∙ prefix-tree _ _ _ _ _ (coded-prefix _ _ _ (c .before .before .before .before .before .before .before .before .before .pointer-of .ensures) _ (c .before .before .before .before .before .before .before .number .given .1)) (test-holds validPrefix _ _ _ (c .before .before .before .before .before .cell .ensures) (c .before .before .before .before .is-valid-prefix .ensures) (c .before .before .before .if3 .left))) (c .before .stamp-cell .ensures) (not-true _ (c .if4 .taken))
+  pub returns-3 : lts.Need-returns-3 (child-told t) (child-check-at t) reads.Post
+  returns-3 c = first-failed _ _ _ _ _ _ _ _ (child-below _ _ _ _ (c .before .before .before .before .before .before .before .before .before .before .if1 .left) (c .before .before .before .before .before .before .before .before .before .if2 .left) ∙ prefix-tree _ _ _ _ _ (coded-prefix _ _ _ (c .before .before .before .before .before .before .before .before .pointer-of .ensures) _ (c .before .before .before .before .before .before .number .given .1)) _ (tested-cell validPrefix _ _ _ (c .before .before .before .cell .ensures) (c .before .before .is-valid-prefix .ensures)) _ refl) (c .before .stamp-cell .ensures) (not-true _ (c .if3 .taken))
 
   pub mul-word-at : lts.Need-mul-word-at (child-told t) (child-check-at t) reads.Post
-  mul-word-at c = omega (arith, prefix-facts _ _ _ (c .before .before .before .before .before .before .before .before .before .pointer-of .ensures) _ (c .before .before .before .before .before .before .before .number .given .1) .2)
+  mul-word-at c = omega (arith, prefix-facts _ _ _ (c .before .before .before .before .before .before .before .before .pointer-of .ensures) _ (c .before .before .before .before .before .before .number .given .1) .2)
 
   pub add-word-at : lts.Need-add-word-at (child-told t) (child-check-at t) reads.Post
-  add-word-at c = omega (arith, prefix-facts _ _ _ (c .before .before .before .before .before .before .before .before .before .pointer-of .ensures) _ (c .before .before .before .before .before .before .before .number .given .1) .2)
+  add-word-at c = omega (arith, prefix-facts _ _ _ (c .before .before .before .before .before .before .before .before .pointer-of .ensures) _ (c .before .before .before .before .before .before .number .given .1) .2)
 
   pub word-at-requires : lts.Need-word-at-requires (child-told t) (child-check-at t) reads.Post
-  word-at-requires c κs = omega (arith, prefix-facts _ _ _ (c .before .before .before .before .before .before .before .before .before .pointer-of .ensures) _ (c .before .before .before .before .before .before .before .number .given .1) .2)
+  word-at-requires c κs = omega (arith, prefix-facts _ _ _ (c .before .before .before .before .before .before .before .before .pointer-of .ensures) _ (c .before .before .before .before .before .before .number .given .1) .2)
 
   pub sub-node-check : lts.Need-sub-node-check (child-told t) (child-check-at t) reads.Post
   sub-node-check c = search needs
@@ -68,11 +64,11 @@ module _ (t : ℕ) where
   pub node-check-requires-2 : lts.Need-node-check-requires-2 (child-told t) (child-check-at t) reads.Post
   node-check-requires-2 c κs = search needs
 
+  pub returns-4 : lts.Need-returns-4 (child-told t) (child-check-at t) reads.Post
+  returns-4 c = judged-empty _ _ _ (child-below _ _ _ _ (c .before .before .before .before .if1 .left) (c .before .before .before .if2 .left) ∙ tree-leaf _ _ _ _ _ (coded-leaf _ _ _ (c .before .before .pointer-of .ensures) _ (c .enum-told .given .1)))
+
   pub returns-5 : lts.Need-returns-5 (child-told t) (child-check-at t) reads.Post
-  returns-5 c = judged-empty _ _ _ (child-below _ _ _ _ (c .before .before .before .before .if1 .left) (c .before .before .before .if2 .left) ∙ tree-leaf _ _ _ _ _ (coded-leaf _ _ _ (c .before .before .pointer-of .ensures) _ (c .enum-told .given .1)))
+  returns-5 c = then-second _ _ _ _ _ _ _ _ (child-below _ _ _ _ (c .before .before .before .before .before .before .before .before .before .before .before .before .before .if1 .left) (c .before .before .before .before .before .before .before .before .before .before .before .before .if2 .left) ∙ prefix-tree _ _ _ _ _ (coded-prefix _ _ _ (c .before .before .before .before .before .before .before .before .before .before .before .pointer-of .ensures) _ (c .before .before .before .before .before .before .before .before .before .number .given .1)) _ (tested-cell validPrefix _ _ _ (c .before .before .before .before .before .before .cell .ensures) (c .before .before .before .before .before .is-valid-prefix .ensures)) _ (last-word _ _ _ (c .before .before .word-at .ensures))) (c .before .before .before .before .stamp-cell .ensures) _ (not-false _ (c .before .before .before .if3 .left)) (c .node-check .ensures)
 
   pub returns-6 : lts.Need-returns-6 (child-told t) (child-check-at t) reads.Post
-  returns-6 c = then-second _ _ _ _ _ _ _ _ (child-below _ _ _ _ (c .before .before .before .before .before .before .before .before .before .before .before .before .before .before .if1 .left) (c .before .before .before .before .before .before .before .before .before .before .before .before .before .if2 .left) ∙ prefix-tree _ _ _ _ _ (coded-prefix _ _ _ (c .before .before .before .before .before .before .before .before .before .before .before .before .pointer-of .ensures) _ (c .before .before .before .before .before .before .before .before .before .before .number .given .1)) (test-holds validPrefix _ _ _ (c .before .before .before .before .before .before .before .before .cell .ensures) (c .before .before .before .before .before .before .before .is-valid-prefix .ensures) (c .before .before .before .before .before .before .if3 .left))) (c .before .before .before .before .stamp-cell .ensures) _ (not-false _ (c .before .before .before .if4 .left)) (judged-same _ _ _ _ _ _ (ap (plainTree _ _ _) (last-word _ _ _ (c .before .before .word-at .ensures))) (c .node-check .ensures))
-
-  pub returns-7 : lts.Need-returns-7 (child-told t) (child-check-at t) reads.Post
-  returns-7 c = judged-same _ _ _ _ _ _ (child-below _ _ _ _ (c .before .before .before .before .before .if1 .left) (c .before .before .before .before .if2 .left) ∙ other-plain _ _ _ _ (c .before .before .before .pointer-of .result) (c .before .before .match .keys3) (c .before .before .before .pointer-of .ensures) (c .before .before .before .before .before .if1 .left)) (c .node-check2 .ensures)
+  returns-6 c = judged-same _ _ _ _ _ _ (child-below _ _ _ _ (c .before .before .before .before .before .if1 .left) (c .before .before .before .before .if2 .left) ∙ other-plain _ _ _ _ (c .before .before .before .pointer-of .result) (c .before .before .match .keys3) (c .before .before .before .pointer-of .ensures) (c .before .before .before .before .before .if1 .left)) (c .node-check2 .ensures)
