@@ -3,7 +3,7 @@ ghost use mathlib.Core.Path.{_≡_};
 ghost use Prim.Native.Nat.{_*_, _<_, _≤_};
 ghost use lib.ListN.{length};
 ghost use Rattle.cells.specs.Memory.{memoryOf};
-ghost use Rattle.nodes.specs.Layout.{usable, cellLimit};
+ghost use Rattle.nodes.specs.Layout.{cellLimit};
 ghost use Rattle.nodes.specs.Step.{wordStep, chainStep, sparseStep, tableStep, splitStep, plainStep, prefixStep, childStep};
 ghost use Rattle.nodes.specs.Coded.{pointerOf, Named, stepOf};
 use crate::chains::chain_child;

@@ -1,13 +1,14 @@
 -- The tree of a chain: one child at each place, and the cell and the word behind it where the run ends.
 use mathlib.Core.Path.{_≡_, refl, sym, ap, _∙_}
 use mathlib.Core.Logic.{_≢_}
-use mathlib.Core.Bool.{true}
-use mathlib.Core.List.{[], _∷_, _++_}
-use mathlib.Core.Option.{none, some, bind}
+use mathlib.Core.Bool.{true, not}
+use mathlib.Core.List.{[], _∷_}
+use mathlib.Core.Option.{none, some}
 use Prim.Native.Nat.{ℕ, zero, suc, _+_, _-_, _≤_, _<_}
 use native.Mathlib.Decide.{ℕ-discrete}
 use native.Mathlib.Omega.{arith}
-use borrow.Author.Tests.{eq-eqb}
+use lib.Dec.{eqb}
+use borrow.Author.Tests.{eq-eqb, ne-eqb}
 use Rattle.cells.specs.Bytes.{IsBytes}
 use Rattle.cells.specs.Memory.{Memory}
 use Rattle.nodes.specs.Layout.{Layout, usable, cellLimit}
@@ -15,13 +16,14 @@ use Rattle.nodes.specs.Pointer.{pointer, wordTo}
 use Rattle.nodes.specs.Pointer.Pointer.{chain}
 use Rattle.nodes.specs.Chain.{chainCharacter, chainEnd, chainChild}
 use Rattle.nodes.specs.Split.{gather}
-use Rattle.nodes.specs.Node.{Node, oneChild, chainNode, plain, readAt, read}
+use Rattle.nodes.specs.Node.{oneChild, chainNode, plain, readAt, read}
 use Rattle.nodes.proofs.Pointers.{names, made-chain}
 use Rattle.nodes.proofs.Chain.{one-child-here, one-child-other, chain-child, chain-child-inside, chain-child-end, chain-cells-inside, chain-cells-end}
 use Rattle.nodes.proofs.Frame.{chain-join, read-is}
 use Rattle.trees.specs.Tree.{tree}
-use Rattle.trees.specs.Parts.{childTree, isPlain, plainTree, runEnd, ownCells}
-use Rattle.trees.proofs.Joins.{joined, joined-nil, bind-of, bind-none}
+use Rattle.trees.specs.Visit.{cellIf}
+use Rattle.trees.specs.Parts.{childTree, isPlain, plainTree}
+use Rattle.trees.proofs.Joins.{joined, joined-nil, cell-kept, cell-dropped}
 use Rattle.trees.proofs.Gathered.{gather-one, gather-equal}
 use Rattle.trees.proofs.ChildTrees.{child-none, child-deep, child-tree-is, tree-read, tree-unread, plain-is}
 
@@ -89,21 +91,6 @@ module _ (layout : Layout) (m : Memory) where
         broken : plain layout m (chain c 27) ≡ none
         broken = unfold plain in rw (eq-eqb (chainChild (m c) c 27) 0 (chain-child-end (m c) c ∙ z))
 
-  -- the cell of a chain, where its run ends at a word
-  pub own-chain-open : (c : ℕ) → chainEnd (m c) ≡ 0 → ownCells layout m (chain c 27) ≡ none
-  unfolding ownCells runEnd plain
-  own-chain-open c z = rw (eq-eqb (chainChild (m c) c 27) 0 (chain-child-end (m c) c ∙ z)) (bind-none (λ (X : Node). some (X .cells)))
-
-  pub own-chain : (c : ℕ) → chainEnd (m c) ≢ 0 → ownCells layout m (chain c 27) ≡ some (c ∷ [])
-  unfolding ownCells runEnd
-  own-chain c other =
-      ap (λ o. bind o (λ (X : Node). some (X .cells))) (chain-join layout m c 27 (λ z. other (sym (chain-child-end (m c) c) ∙ z)))
-      ∙ bind-of (chainNode (m c) c 27) (λ (X : Node). some (X .cells)) ∙ ap some (chain-cells-end (m c) c)
-
-  pub own-run : (c k : ℕ) → ownCells layout m (chain c k) ≡ ownCells layout m (chain c 27)
-  unfolding ownCells runEnd
-  own-run c k = refl
-
   -- the tree of a word that names a place of a chain: too deep, or the cell and what is behind the run
   module _ (small : layout .cells ≤ cellLimit) (d w c k : ℕ) (named : pointer layout w ≡ chain c k) (bytes : IsBytes (m c)) where
     run-from : plainTree layout m d w ≡ tree layout m d (wordTo c k)
@@ -114,22 +101,17 @@ module _ (layout : Layout) (m : Memory) where
         let n = names layout w (chain c k) named in
         run-from ∙ run-deep small c (n .0) bytes (27 - k) k d (omega arith) short
 
-    by-end : 27 - k ≤ d → plainTree layout m d w ≡ joined (ownCells layout m (chain c 27)) (childTree layout m (d - (27 - k)) (chainEnd (m c)))
-    by-end fits =
+    pub chain-tree : 27 - k ≤ d
+        → plainTree layout m d w ≡ joined (cellIf (not (eqb (chainEnd (m c)) 0)) c) (childTree layout m (d - (27 - k)) (chainEnd (m c)))
+    chain-tree fits =
         let n = names layout w (chain c k) named in
         run-from ∙ run-tree small c (n .0) bytes (27 - k) k d (d - (27 - k)) (omega arith) (omega arith)
         ∙ elim (ℕ-discrete (chainEnd (m c)) 0) [
-          | yes ends ↦
-              end-none small c (n .0) bytes (d - (27 - k)) ends
-              ∙ sym (ap (λ o. joined o (childTree layout m (d - (27 - k)) (chainEnd (m c)))) (own-chain-open c ends)
-              ∙ bind-none (λ a. bind (childTree layout m (d - (27 - k)) (chainEnd (m c))) (λ b. some (a ++ b))))
-          | no other ↦
-              end-tree small c (n .0) bytes (d - (27 - k)) other
-              ∙ sym (ap (λ o. joined o (childTree layout m (d - (27 - k)) (chainEnd (m c)))) (own-chain c other))
+          | yes ends ↦ end-none small c (n .0) bytes (d - (27 - k)) ends ∙ sym (cell-dropped _ c _ (ap not (eq-eqb (chainEnd (m c)) 0 ends)))
+          | no other ↦ end-tree small c (n .0) bytes (d - (27 - k)) other ∙ sym (cell-kept _ c _ (ap not (ne-eqb (chainEnd (m c)) 0 other)))
         ]
 
-    pub chain-tree : 27 - k ≤ d
-        → plainTree layout m d w ≡ joined (ownCells layout m (pointer layout w)) (childTree layout m (d - (27 - k)) (chainEnd (m c)))
-    chain-tree fits =
-        by-end fits
-        ∙ ap (λ o. joined o (childTree layout m (d - (27 - k)) (chainEnd (m c)))) (sym (ap (ownCells layout m) named ∙ own-run c k))
+    pub chain-tree-read : (word : ℕ) → chainEnd (m c) ≡ word → 27 - k ≤ d
+        → plainTree layout m d w ≡ joined (cellIf (not (eqb word 0)) c) (childTree layout m (d - (27 - k)) word)
+    chain-tree-read word there fits =
+        chain-tree fits ∙ ap (λ v. joined (cellIf (not (eqb v 0)) c) (childTree layout m (d - (27 - k)) v)) there

@@ -1,13 +1,12 @@
 -- The tree of a word by what the word names: NONE, a leaf, a plain node, a prefix, or nothing that is valid.
 use mathlib.Core.Path.{_≡_, refl, sym, ap, _∙_}
 use mathlib.Core.Logic.{_≢_}
-use mathlib.Core.Bool.{true, false, cond}
+use mathlib.Core.Bool.{Bool, true, false, cond}
 use mathlib.Core.List.{List, [], _∷_, _++_}
 use mathlib.Core.Option.{Option, none, some, bind}
 use Prim.Native.Nat.{ℕ, zero, suc, _+_, _-_}
 use native.Mathlib.Omega.{arith}
 use Rattle.cells.specs.Memory.{Memory}
-use Rattle.cells.proofs.Choice.{absurd-bool}
 use Rattle.nodes.specs.Layout.{Layout, keyLimit}
 use Rattle.nodes.specs.Pointer.{Pointer, pointer}
 use Rattle.nodes.specs.Pointer.Pointer.{nothing, leaf, chain, split, sparse, prefix, invalid}
@@ -20,7 +19,8 @@ use Rattle.nodes.proofs.Frame.{read-is}
 use Rattle.nodes.proofs.Read.{read-leaf}
 use Rattle.trees.specs.Tree.{spread, step, tree}
 use Rattle.trees.specs.Root.{isRoot, rootTree}
-use Rattle.trees.specs.Parts.{childTree, isPlain, plainTree, runEnd, ownCells}
+use Rattle.trees.specs.Visit.{cellIf}
+use Rattle.trees.specs.Parts.{childTree, isPlain, plainTree}
 use Rattle.trees.proofs.Tree.{kids, tree-step, tree-zero}
 use Rattle.trees.proofs.Joins.{joined, joined-assoc, joined-one, bind-of, bind-none, bind-assoc, bind-same}
 use Rattle.trees.proofs.Gathered.{gather-nothing, gather-equal}
@@ -88,20 +88,6 @@ module _ (layout : Layout) (m : Memory) where
     unfolding plainTree
     plain-not t = ap (λ q. cond (isPlain q) (tree layout m d w) none) named ∙ ap (λ b. cond b (tree layout m d w) none) t
 
-  -- what is no plain node visits nothing
-  pub own-other : (p : Pointer) → isPlain p ≡ false → ownCells layout m p ≡ none
-  unfolding ownCells
-  own-other p other = ap (λ o. bind o (λ (X : Node). some (X .cells))) (by p other) ∙ bind-none (λ (X : Node). some (X .cells))
-    where
-      by : (p : Pointer) → isPlain p ≡ false → plain layout m (runEnd p) ≡ none
-      by nothing f = unfold runEnd plain in refl
-      by (leaf v) f = unfold runEnd plain in refl
-      by (chain c k) f = absurd-bool (unfold isPlain in f)
-      by (split c) f = absurd-bool (unfold isPlain in f)
-      by (sparse c) f = absurd-bool (unfold isPlain in f)
-      by (prefix c) f = unfold runEnd plain in refl
-      by invalid f = unfold runEnd plain in refl
-
   -- by what is read: the plain node, with what is below it
   pub plain-tree-read : (d w : ℕ) (p : Pointer) → pointer layout w ≡ p → plainTree layout m d w
       ≡ bind (plain layout m p) (λ X. joined (some (X .cells)) (gather (λ x. childTree layout m d (X .child x)) 256 0))
@@ -135,15 +121,15 @@ module _ (layout : Layout) (m : Memory) where
 
   -- a prefix: its cell, then the plain node that it links to
   module _ (d w c : ℕ) (named : pointer layout w ≡ prefix c) where
-    pub prefix-broken : validPrefix layout (m c) ≡ false → tree layout m d w ≡ none
+    prefix-broken : validPrefix layout (m c) ≡ false → tree layout m d w ≡ none
     unfolding readAt
     prefix-broken broken =
         tree-unread d w
         (read-is layout m w (prefix c) named
         ∙ ap (λ b. cond b (bind (plain layout m (pointer layout (prefixLink c (m c)))) (λ linked. some (prefixed (prefixValue (m c)) (prefixCells c (m c)) c linked))) none) broken)
 
-    pub prefix-tree : validPrefix layout (m c) ≡ true → tree layout m d w ≡ joined (some (c ∷ [])) (plainTree layout m d (prefixLink c (m c)))
-    prefix-tree valid =
+    prefix-valid : validPrefix layout (m c) ≡ true → tree layout m d w ≡ joined (some (c ∷ [])) (plainTree layout m d (prefixLink c (m c)))
+    prefix-valid valid =
         tree-step layout m d w ∙ stepped
         ∙ bind-assoc linked (λ X. some (prefixed (prefixValue (m c)) (prefixCells c (m c)) c X)) (spread (kids layout m d))
         ∙ bind-same linked _ _ (λ X.
@@ -174,6 +160,14 @@ module _ (layout : Layout) (m : Memory) where
             bind-same linked _ _ (λ X. joined-one c (joined (some (X .cells)) (below X)))
             ∙ sym (bind-assoc linked (λ X. joined (some (X .cells)) (below X)) (λ cs. some (c ∷ cs)))
             ∙ sym (joined-one c (bind linked (λ X. joined (some (X .cells)) (below X))))
+
+    pub prefix-tree : (valid : Bool) → valid ≡ validPrefix layout (m c) → (word : ℕ) → prefixLink c (m c) ≡ word
+        → tree layout m d w ≡ joined (cellIf valid c) (plainTree layout m d word)
+    prefix-tree valid tested word there = by valid tested ∙ ap (λ v. joined (cellIf valid c) (plainTree layout m d v)) there
+      where
+        by : (valid : Bool) → valid ≡ validPrefix layout (m c) → tree layout m d w ≡ joined (cellIf valid c) (plainTree layout m d (prefixLink c (m c)))
+        by true tested = prefix-valid (sym tested)
+        by false tested = prefix-broken (sym tested) ∙ sym (bind-none (λ a. bind (plainTree layout m d (prefixLink c (m c))) (λ b. some (a ++ b))))
 
   -- a root: NONE, or a plain node
   pub root-none : (w : ℕ) → w ≡ 0 → rootTree layout m w ≡ some []

@@ -1,18 +1,16 @@
 -- Laws of judgements: a part that fails, parts one after the other, and a walk along a range.
-use mathlib.Core.Path.{_≡_, sym, ap, _∙_}
+use mathlib.Core.Path.{_≡_, refl, sym, ap, _∙_}
 use mathlib.Core.Logic.{_≢_}
 use mathlib.Core.Bool.{Bool, true, false}
 use mathlib.Core.List.{List, [], _∷_, _++_}
 use mathlib.Core.Option.{Option, none, some, bind}
-use Prim.Native.Nat.{ℕ, suc, _+_, _*_}
+use Prim.Native.Nat.{ℕ, suc, _+_}
 use native.Mathlib.Omega.{arith}
 use lib.ListN.{getD, set}
-use Rattle.cells.specs.Word.{wordAt}
 use Rattle.cells.proofs.Choice.{absurd-bool, absurd-false}
 use Rattle.nodes.specs.Split.{gather}
-use Rattle.trees.specs.Visit.{admit, visit, Judged}
-use Rattle.trees.specs.Parts.{foundAt}
-use Rattle.trees.proofs.Joins.{joined, bind-assoc, bind-same, bind-swap, bind-of, bind-none}
+use Rattle.trees.specs.Visit.{admit, visit, cellIf, Judged}
+use Rattle.trees.proofs.Joins.{joined, bind-assoc, bind-same, bind-swap, bind-of, bind-none, joined-nil, joined-end, joined-assoc}
 use Rattle.trees.proofs.Gathered.{gather-none, gather-first}
 use Rattle.trees.proofs.Admit.{admit-none, admit-twice, admit-new, admit-append}
 
@@ -64,7 +62,14 @@ pub judged-empty : (cells : Option (List ℕ)) (stamp : ℕ) (stamps : List ℕ)
 judged-empty cells stamp stamps e =
     judged-passed cells stamp stamps stamps (ap (λ o. visit stamp o stamps) e ∙ visit-empty stamp stamps)
 
--- one cell
+-- one cell that is valid, or is not
+pub cell-invalid : (c stamp : ℕ) (before after : List ℕ) (valid : Bool) → valid ≡ false → Judged (cellIf valid c) stamp before after false
+cell-invalid c stamp before after valid t = judged-none (cellIf valid c) stamp before after (ap (λ b. cellIf b c) t)
+
+pub cell-valid : (c stamp : ℕ) (before after : List ℕ) (valid passed : Bool) → valid ≡ true → Judged (some (c ∷ [])) stamp before after passed
+    → Judged (cellIf valid c) stamp before after passed
+cell-valid c stamp before after valid passed t = judged-same (cellIf valid c) stamp before after (some (c ∷ [])) passed (ap (λ b. cellIf b c) t)
+
 pub cell-twice : (c stamp : ℕ) (before after : List ℕ) → getD before c 0 ≡ stamp → Judged (some (c ∷ [])) stamp before after false
 cell-twice c stamp before after has =
     judged-failed (some (c ∷ [])) stamp before after (visit-found stamp (c ∷ []) before ∙ admit-twice stamp c [] before has)
@@ -90,37 +95,68 @@ module _ (cells first second : Option (List ℕ)) (stamp : ℕ) (before between 
       judged-by cells stamp before after second between result
       (parts-visit ∙ ap (λ o. bind o (λ after. visit stamp second after)) (judged .accepted t) ∙ bind-of between (λ after. visit stamp second after))
 
--- a walk along a range, with what is left of it
-module _ (cells : Option (List ℕ)) (f : ℕ → Option (List ℕ)) (stamp : ℕ) (before : List ℕ) where
-  pub walk-starts : (total left : ℕ) → cells ≡ gather f total 0 → left ≡ total → visit stamp cells before ≡ visit stamp (gather f left 0) before
-  walk-starts total left e all = ap (λ o. visit stamp o before) e ∙ ap (λ n. visit stamp (gather f n 0) before) (sym all)
+-- a walk along a range, with what is left of it and what comes behind
+module _ (cells : Option (List ℕ)) (f : ℕ → Option (List ℕ)) (rest : Option (List ℕ)) (stamp : ℕ) (before : List ℕ) (i count : ℕ) (here : List ℕ)
+    (walked : visit stamp cells before ≡ visit stamp (joined (gather f count i) rest) here) where
+  pub walk-leaves : count ≡ 0 → visit stamp cells before ≡ visit stamp rest here
+  walk-leaves z =
+      walked ∙ ap (λ n. visit stamp (joined (gather f n i) rest) here) z ∙ ap (λ o. visit stamp (joined o rest) here) (gather-none f i)
+      ∙ ap (λ o. visit stamp o here) (joined-nil rest)
 
-  module _ (i count : ℕ) (here : List ℕ) (walked : visit stamp cells before ≡ visit stamp (gather f count i) here) where
-    pub walk-ends : count ≡ 0 → Judged cells stamp before here true
-    walk-ends z =
-        judged-passed cells stamp before here
-        (walked ∙ ap (λ n. visit stamp (gather f n i) here) z ∙ ap (λ o. visit stamp o here) (gather-none f i) ∙ visit-empty stamp here)
+  module _ (left : ℕ) (more : count ≡ left + 1) where
+    -- what is found at the place has two parts, of which the first is judged
+    module _ (first inner : Option (List ℕ)) (parts : f i ≡ joined first inner) (next : List ℕ) (passed : Bool) (judged : Judged first stamp here next passed) where
+      abbrev behind : Option (List ℕ)
+      behind = joined inner (joined (gather f left (i + 1)) rest)
 
-    module _ (left : ℕ) (next : List ℕ) (passed : Bool) (judged : Judged (f i) stamp here next passed) (more : count ≡ left + 1) where
-      step-visit : visit stamp cells before ≡ bind (visit stamp (f i) here) (λ after. visit stamp (gather f left (i + 1)) after)
-      step-visit =
+      part-visit : visit stamp cells before ≡ bind (visit stamp first here) (λ after. visit stamp behind after)
+      part-visit =
           let one : count ≡ suc left = omega arith in
-          walked ∙ ap (λ n. visit stamp (gather f n i) here) one ∙ ap (λ o. visit stamp o here) (gather-first f left i)
-          ∙ visit-joined stamp (f i) (gather f left (i + 1)) here
+          walked ∙ ap (λ n. visit stamp (joined (gather f n i) rest) here) one
+          ∙ ap (λ o. visit stamp o here)
+          (ap (λ o. joined o rest) (gather-first f left i) ∙ joined-assoc (f i) (gather f left (i + 1)) rest
+          ∙ ap (λ o. joined o (joined (gather f left (i + 1)) rest)) parts ∙ joined-assoc first inner (joined (gather f left (i + 1)) rest))
+          ∙ visit-joined stamp first behind here
 
-      pub walk-fails : (after : List ℕ) → passed ≡ false → Judged cells stamp before after false
-      walk-fails after t =
+      pub part-fails : (after : List ℕ) → passed ≡ false → Judged cells stamp before after false
+      part-fails after t =
           judged-failed cells stamp before after
-          (step-visit ∙ ap (λ o. bind o (λ after. visit stamp (gather f left (i + 1)) after)) (judged .refused t)
-          ∙ bind-none (λ after. visit stamp (gather f left (i + 1)) after))
+          (part-visit ∙ ap (λ o. bind o (λ after. visit stamp behind after)) (judged .refused t) ∙ bind-none (λ after. visit stamp behind after))
 
-      pub walk-goes-on : passed ≡ true → visit stamp cells before ≡ visit stamp (gather f left (i + 1)) next
+      pub part-passed : passed ≡ true → visit stamp cells before ≡ visit stamp (joined inner (joined (gather f left (i + 1)) rest)) next
+      part-passed t =
+          part-visit ∙ ap (λ o. bind o (λ after. visit stamp behind after)) (judged .accepted t) ∙ bind-of next (λ after. visit stamp behind after)
+
+    -- all of it is judged
+    module _ (next : List ℕ) (passed : Bool) (judged : Judged (f i) stamp here next passed) where
+      pub walk-fails : (after : List ℕ) → passed ≡ false → Judged cells stamp before after false
+      walk-fails = part-fails (f i) (some []) (sym (joined-end (f i))) next passed judged
+
+      pub walk-goes-on : passed ≡ true → visit stamp cells before ≡ visit stamp (joined (gather f left (i + 1)) rest) next
       walk-goes-on t =
-          step-visit ∙ ap (λ o. bind o (λ after. visit stamp (gather f left (i + 1)) after)) (judged .accepted t)
-          ∙ bind-of next (λ after. visit stamp (gather f left (i + 1)) after)
+          part-passed (f i) (some []) (sym (joined-end (f i))) next passed judged t
+          ∙ ap (λ o. visit stamp o next) (joined-nil (joined (gather f left (i + 1)) rest))
 
--- a judgement of what is found for a word of the block
-pub judged-word : (found : ℕ → Option (List ℕ)) (block : List ℕ) (at i word stamp : ℕ) (before after : List ℕ) (passed : Bool)
-    → word ≡ wordAt block (at + 4 * i) → Judged (found word) stamp before after passed → Judged (foundAt found block at i) stamp before after passed
-judged-word found block at i word stamp before after passed e judged =
-    judged-same (foundAt found block at i) stamp before after (found word) passed (unfold foundAt in ap found (sym e)) judged
+    -- nothing is there
+    pub walk-passes : f i ≡ some [] → visit stamp cells before ≡ visit stamp (joined (gather f left (i + 1)) rest) here
+    walk-passes e = walk-goes-on here true (judged-empty (f i) stamp here e) refl
+
+    -- a range is there behind the first part
+    pub walk-enters : (first : Option (List ℕ)) (g : ℕ → Option (List ℕ)) (all inside : ℕ) → f i ≡ joined first (gather g all 0) → inside ≡ all
+        → (next : List ℕ) (passed : Bool) → Judged first stamp here next passed → passed ≡ true
+        → visit stamp cells before ≡ visit stamp (joined (gather g inside 0) (joined (gather f left (i + 1)) rest)) next
+    walk-enters first g all inside parts whole next passed judged t =
+        part-passed first (gather g all 0) parts next passed judged t
+        ∙ ap (λ n. visit stamp (joined (gather g n 0) (joined (gather f left (i + 1)) rest)) next) (sym whole)
+
+-- a walk with nothing behind it begins, and ends
+module _ (cells : Option (List ℕ)) (f : ℕ → Option (List ℕ)) (stamp : ℕ) (before : List ℕ) where
+  pub walk-starts : (all left : ℕ) → cells ≡ gather f all 0 → left ≡ all
+      → visit stamp cells before ≡ visit stamp (joined (gather f left 0) (some [])) before
+  walk-starts all left e whole =
+      ap (λ o. visit stamp o before) (e ∙ sym (joined-end (gather f all 0))) ∙ ap (λ n. visit stamp (joined (gather f n 0) (some [])) before) (sym whole)
+
+  pub walk-ends : (i count : ℕ) (here : List ℕ) → visit stamp cells before ≡ visit stamp (joined (gather f count i) (some [])) here → count ≡ 0
+      → Judged cells stamp before here true
+  walk-ends i count here walked z =
+      judged-passed cells stamp before here (walk-leaves cells f (some []) stamp before i count here walked z ∙ visit-empty stamp here)

@@ -15,11 +15,11 @@ pub mod Joins
 pub mod Gathered
 pub mod Admit
 pub mod Judging
+pub mod Reordered
 pub mod ChildTrees
 pub mod ChainTrees
 pub mod SparseTrees
 pub mod SplitTrees
-pub mod PlainTrees
 pub mod Tags
 pub mod Reading
 pub mod RootCheck

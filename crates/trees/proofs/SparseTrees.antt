@@ -1,7 +1,7 @@
 -- The tree of a sparse cell: below its characters is below its positions, in the order of its digits.
 use mathlib.Core.Path.{_≡_, refl, sym, ap, _∙_}
 use mathlib.Core.Bool.{Bool, true, false}
-use mathlib.Core.List.{List, [], _∷_, _++_, map}
+use mathlib.Core.List.{List, [], _∷_, map}
 use mathlib.Core.Option.{Option, none, some, bind}
 use Prim.Native.Nat.{ℕ, _+_, _*_, _<_}
 use native.Mathlib.Omega.{arith}
@@ -21,8 +21,9 @@ use Rattle.nodes.proofs.Frame.{sparse-join}
 use Rattle.nodes.proofs.Neighbours.{map-at}
 use Rattle.nodes.proofs.SparseSteps.{position-small}
 use Rattle.nodes.proofs.SparseChildren.{sparse-parts, positionAt, characterAt, sparse-has, sparse-lacks}
-use Rattle.trees.specs.Parts.{childTree, plainTree, runEnd, ownCells}
-use Rattle.trees.proofs.Joins.{joined, bind-of, bind-none}
+use Rattle.trees.specs.Visit.{cellIf}
+use Rattle.trees.specs.Parts.{childTree, plainTree}
+use Rattle.trees.proofs.Joins.{joined, bind-of, bind-none, cell-kept, cell-dropped}
 use Rattle.trees.proofs.Gathered.{gather-along, gather-equal}
 use Rattle.trees.proofs.ChildTrees.{child-none, plain-tree-read}
 
@@ -65,22 +66,11 @@ unfoldable pub sparseTree : Layout → Memory → ℕ → ℕ → ℕ → Option
 sparseTree layout m d c i = childTree layout m d (sparseWord (m c) (getD (sparseDigits (m c)) i 0))
 
 module _ (layout : Layout) (m : Memory) where
-  -- the cell of a sparse node
-  pub own-sparse-broken : (c : ℕ) → validSparse (m c) ≡ false → ownCells layout m (sparse c) ≡ none
-  unfolding ownCells runEnd plain
-  own-sparse-broken c broken = rw broken (bind-none (λ (X : Node). some (X .cells)))
-
-  pub own-sparse : (c : ℕ) → validSparse (m c) ≡ true → ownCells layout m (sparse c) ≡ some (c ∷ [])
-  unfolding ownCells runEnd
-  own-sparse c valid =
-      ap (λ o. bind o (λ (X : Node). some (X .cells))) (sparse-join layout m c valid)
-      ∙ bind-of (sparseNode (m c) c) (λ (X : Node). some (X .cells))
-
   -- the tree of a word that names a sparse cell: the cell, then what is below its children by rising character
   pub sparse-tree : (d w c : ℕ) → pointer layout w ≡ sparse c → IsBytes (m c)
-      → plainTree layout m d w ≡ joined (ownCells layout m (pointer layout w)) (gather (sparseTree layout m d c) (sparseCount (m c)) 0)
+      → plainTree layout m d w ≡ joined (cellIf (validSparse (m c)) c) (gather (sparseTree layout m d c) (sparseCount (m c)) 0)
   sparse-tree d w c named chars =
-      plain-tree-read layout m d w (sparse c) named ∙ by (validSparse (m c)) refl ∙ ap (λ p. joined (ownCells layout m p) children) (sym named)
+      plain-tree-read layout m d w (sparse c) named ∙ by (validSparse (m c)) refl
     where
       below : Node → Option (List ℕ)
       below X = joined (some (X .cells)) (gather (λ x. childTree layout m d (X .child x)) 256 0)
@@ -88,27 +78,28 @@ module _ (layout : Layout) (m : Memory) where
       children : Option (List ℕ)
       children = gather (sparseTree layout m d c) (sparseCount (m c)) 0
 
-      by : (t : Bool) → validSparse (m c) ≡ t → bind (plain layout m (sparse c)) below ≡ joined (ownCells layout m (sparse c)) children
+      by : (t : Bool) → validSparse (m c) ≡ t → bind (plain layout m (sparse c)) below ≡ joined (cellIf (validSparse (m c)) c) children
       by false broken =
-          ap (λ o. bind o below) unread ∙ bind-none below
-          ∙ sym (ap (λ o. joined o children) (own-sparse-broken c broken) ∙ bind-none (λ a. bind children (λ b. some (a ++ b))))
+          ap (λ o. bind o below) unread ∙ bind-none below ∙ sym (cell-dropped (validSparse (m c)) c children broken)
         where
           unread : plain layout m (sparse c) ≡ none
           unread = unfold plain in rw broken
       by true valid =
           ap (λ o. bind o below) (sparse-join layout m c valid) ∙ bind-of (sparseNode (m c) c) below
           ∙ ap (joined (some (c ∷ []))) (sparse-gather (m c) valid (childTree layout m d) (child-none layout m d 0 refl) chars ∙ named-so)
-          ∙ sym (ap (λ o. joined o children) (own-sparse c valid))
+          ∙ sym (cell-kept (validSparse (m c)) c children valid)
         where
           named-so : gather (λ i. childTree layout m d (sparseWord (m c) (getD (sparseDigits (m c)) i 0))) (sparseCount (m c)) 0 ≡ children
           named-so = unfold sparseTree in refl
 
   -- the same for a cell that was read, with its children counted and one of them found
-  pub sparse-tree-read : (d w c count : ℕ) (bytes : List ℕ) → pointer layout w ≡ sparse c → IsBytes (m c) → bytes ≡ m c → count ≡ sparseCount bytes
-      → plainTree layout m d w ≡ joined (ownCells layout m (pointer layout w)) (gather (sparseTree layout m d c) count 0)
-  sparse-tree-read d w c count bytes named chars same counted =
+  pub sparse-tree-read : (d w c count : ℕ) (bytes : List ℕ) (valid : Bool) → pointer layout w ≡ sparse c → IsBytes (m c) → bytes ≡ m c
+      → valid ≡ validSparse bytes → count ≡ sparseCount bytes → plainTree layout m d w ≡ joined (cellIf valid c) (gather (sparseTree layout m d c) count 0)
+  sparse-tree-read d w c count bytes valid named chars same tested counted =
       sparse-tree d w c named chars
-      ∙ ap (λ n. joined (ownCells layout m (pointer layout w)) (gather (sparseTree layout m d c) n 0)) (ap sparseCount (sym same) ∙ sym counted)
+      ∙ ap (λ b. joined (cellIf (validSparse b) c) (gather (sparseTree layout m d c) (sparseCount b) 0)) (sym same)
+      ∙ ap (λ t. joined (cellIf t c) (gather (sparseTree layout m d c) (sparseCount bytes) 0)) (sym tested)
+      ∙ ap (λ n. joined (cellIf valid c) (gather (sparseTree layout m d c) n 0)) (sym counted)
 
   pub sparse-tree-here : (d c i position word : ℕ) (bytes : List ℕ) → bytes ≡ m c → position ≡ getD (sparseDigits bytes) i 0
       → word ≡ wordAt bytes (4 * position) → sparseTree layout m d c i ≡ childTree layout m d word

@@ -1,15 +1,13 @@
--- The parts of a tree that are judged one by one: below a child word, a plain node, and below the words of a split.
+-- The parts of a tree that are judged one by one: below a child word, a plain node, and the words of a split.
 use mathlib.Core.Bool.{Bool, true, false, cond}
-use mathlib.Core.List.{List}
+use mathlib.Core.List.{List, _++_}
 use mathlib.Core.Option.{Option, none, some, bind}
-use Prim.Native.Nat.{ℕ, zero, suc, _+_, _*_}
-use Rattle.cells.specs.Word.{wordAt}
-use Rattle.cells.specs.Memory.{Memory, memoryOf}
+use Prim.Native.Nat.{ℕ, zero, suc, _/_}
+use Rattle.cells.specs.Memory.{Memory}
 use Rattle.nodes.specs.Layout.{Layout}
 use Rattle.nodes.specs.Pointer.{Pointer, pointer}
 use Rattle.nodes.specs.Pointer.Pointer.{nothing, leaf, chain, split, sparse, prefix, invalid}
-use Rattle.nodes.specs.Split.{gather, under, splitCell, tableWord, endCells}
-use Rattle.nodes.specs.Node.{plain}
+use Rattle.nodes.specs.Split.{gather, under, headWord, tableWord, endCells}
 use Rattle.trees.specs.Tree.{tree}
 
 -- the cells below a child word, with so many characters left at the node that has it
@@ -31,35 +29,12 @@ isPlain invalid = false
 unfoldable pub plainTree : Layout → Memory → ℕ → ℕ → Option (List ℕ)
 plainTree layout m depth word = cond (isPlain (pointer layout word)) (tree layout m depth word) none
 
--- what is found below a word of a split, so many tables down
+-- what the walk of a split visits for a word, so many tables down: each table before its words, and then what is found for a child
 unfoldable pub tables : Layout → Memory → (ℕ → Option (List ℕ)) → ℕ → ℕ → Option (List ℕ)
 tables layout m found zero word = found word
 tables layout m found (suc level) word =
-    under (λ w. bind (splitCell (pointer layout w)) (λ c. gather (λ i. tables layout m found level (tableWord (m c) i)) 8 0)) word
+    under (λ w. bind (endCells layout m w) (λ own. bind (gather (λ i. tables layout m found level (tableWord (m (w / 32)) i)) 8 0) (λ below. some (own ++ below)))) word
 
--- what is found for a word of the block, the i-th from a byte position on
-unfoldable pub foundAt : (ℕ → Option (List ℕ)) → List ℕ → ℕ → ℕ → Option (List ℕ)
-foundAt found block at i = found (wordAt block (at + 4 * i))
-
--- the cells below so many words of a split, from a byte position of the block on
-unfoldable pub tablesFrom : Layout → List ℕ → ℕ → ℕ → ℕ → ℕ → Option (List ℕ)
-tablesFrom layout block depth level at count =
-    gather (foundAt (tables layout (memoryOf block) (childTree layout (memoryOf block) depth) level) block at) count 0
-
--- the cells of the ends of a mid
-unfoldable pub endsOf : Layout → Memory → ℕ → Option (List ℕ)
-endsOf layout m c = gather (λ j. under (endCells layout m) (tableWord (m c) j)) 8 0
-
--- the place of a chain where its cell is visited; 01: "a run inside a chain cell is one entry"
-unfoldable pub runEnd : Pointer → Pointer
-runEnd nothing = nothing
-runEnd (leaf v) = leaf v
-runEnd (chain c k) = chain c 0x1B
-runEnd (split c) = split c
-runEnd (sparse c) = sparse c
-runEnd (prefix c) = prefix c
-runEnd invalid = invalid
-
--- the cells that a plain node visits itself, in a chain those of its whole run; nothing where a rule is broken
-unfoldable pub ownCells : Layout → Memory → Pointer → Option (List ℕ)
-ownCells layout m p = bind (plain layout m (runEnd p)) (λ X. some (X .cells))
+-- what it visits behind the head: each mid, each of its ends, and the cells below the children there
+unfoldable pub splitTables : Layout → Memory → ℕ → ℕ → Option (List ℕ)
+splitTables layout m depth c = gather (λ i. tables layout m (childTree layout m depth) 2 (headWord (m c) i)) 4 0

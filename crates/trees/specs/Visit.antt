@@ -14,6 +14,10 @@ admit stamp (c ∷ cs) stamps =
     let later = admit stamp cs (set stamps c stamp) in
     cond (eqb (getD stamps c 0) stamp) none later
 
+-- a cell that is visited where it is valid; nothing where it is not
+abbrev pub cellIf : Bool → ℕ → Option (List ℕ)
+cellIf valid c = cond valid (some (c ∷ [])) none
+
 -- the stamps after a visit of the cells found; nothing where nothing is found
 abbrev pub visit : ℕ → Option (List ℕ) → List ℕ → Option (List ℕ)
 visit stamp cells stamps = bind cells (λ cs. admit stamp cs stamps)

@@ -1,13 +1,13 @@
-// Validation of one root's tree: the checks of a node, of the words of a split and of a child call each other, the depth left falling.
-ghost use Prim.Native.Nat.{_+_, _*_, _≤_};
+// Validation of one root's tree: the checks of a node, of the cells of a split and of a child call each other, the depth left falling.
+ghost use Prim.Native.Nat.{_+_, _*_, _≤_, _<_};
 ghost use lib.ListN.{length};
 ghost use Rattle.cells.specs.Memory.{memoryOf};
 ghost use Rattle.trees.specs.Root.{rootTree};
 ghost use Rattle.trees.specs.Visit.{Judged};
-ghost use Rattle.trees.specs.Parts.{childTree, plainTree, tablesFrom};
+ghost use Rattle.trees.specs.Parts.{childTree, plainTree, splitTables};
 ghost use Rattle.nodes.specs.Layout.{cellLimit};
 use crate::stamps::stamp_cell;
-use crate::stamps::stamp_node;
+use crate::stamps::stamp_table;
 use cells::cell;
 use cells::word_at;
 use nodes::layout::CELL_LIMIT;
@@ -17,10 +17,12 @@ use nodes::pointer::Pointer;
 use nodes::pointer::pointer_of;
 use nodes::prefix::is_valid_prefix;
 use nodes::prefix::linked_word;
+use nodes::sparse::is_valid_sparse;
 use nodes::sparse::sparse_count;
 use nodes::sparse::sparse_position;
+use nodes::split::is_valid_head;
 
-// Judges a chain, sparse or split: its own cells, then what is below it. A run inside a chain takes a character for each place.
+// Judges a chain, sparse or split: its own cell, then what is below it. A run inside a chain takes a character for each place.
 fn node_check(
     layout: Layout,
     block: &[u8],
@@ -32,9 +34,6 @@ fn node_check(
     requires { ⌜ (layout .cells ≤ cellLimit) × (layout .cells * 32 ≤ length (now block)) ⌝ }
     ensures { λ r. ⌜ Judged (plainTree layout (memoryOf (now (block .entry))) depth word) stamp (now (stamps .entry)) (now (stamps .exit)) r ⌝ }
 {
-    if !stamp_node(layout, block, stamps, stamp, word) {
-        return false;
-    }
     match pointer_of(layout, word) {
         Pointer::Chain(number, place) => {
             let run = 27 - place;
@@ -42,10 +41,16 @@ fn node_check(
                 return false;
             }
             let end = word_at(block, number * 32 + 28);
+            if !stamp_cell(stamps, stamp, number, end != 0) {
+                return false;
+            }
             child_check(layout, block, stamps, stamp, end, depth - run)
         }
         Pointer::Sparse(number) => {
             let bytes = cell(block, number);
+            if !stamp_cell(stamps, stamp, number, is_valid_sparse(bytes)) {
+                return false;
+            }
             for i in 0..sparse_count(bytes) {
                 let child = word_at(bytes, 4 * sparse_position(bytes, i));
                 if !child_check(layout, block, stamps, stamp, child, depth) {
@@ -55,43 +60,53 @@ fn node_check(
             true
         }
         Pointer::Split(number) => {
-            split_check(layout, block, stamps, stamp, number * 32 + 16, 4, 2, depth)
+            if !stamp_cell(stamps, stamp, number, is_valid_head(cell(block, number))) {
+                return false;
+            }
+            split_check(layout, block, stamps, stamp, number, depth)
         }
         _ => false,
     }
 }
 
-// Judges what is below so many words of a split, from a byte position on: tables while a level is left, then children.
+// Judges the words of a split's head: each mid, each of its ends, and the children there. No table calls for one more call, so that
+// a character needs little of the stack.
 fn split_check(
     layout: Layout,
     block: &[u8],
     stamps: &mut [u8; CELL_LIMIT],
     stamp: u8,
-    at: usize,
-    count: usize,
-    level: usize,
+    number: usize,
     depth: usize,
 ) -> bool
-    requires { ⌜ (layout .cells ≤ cellLimit) × (layout .cells * 32 ≤ length (now block)) × (at + 4 * count ≤ length (now block)) ⌝ }
-    ensures { λ r. ⌜ Judged (tablesFrom layout (now (block .entry)) depth level at count) stamp (now (stamps .entry)) (now (stamps .exit)) r ⌝ }
+    requires { ⌜ (layout .cells ≤ cellLimit) × (layout .cells * 32 ≤ length (now block)) × (number < layout .cells) ⌝ }
+    ensures { λ r. ⌜ Judged (splitTables layout (memoryOf (now (block .entry))) depth number) stamp (now (stamps .entry)) (now (stamps .exit)) r ⌝ }
 {
-    for i in 0..count {
-        let word = word_at(block, at + 4 * i);
-        if word == 0 {
+    let head = number * 32 + 16;
+    for i in 0..4 {
+        let mid = word_at(block, head + 4 * i);
+        if mid == 0 {
             continue;
         }
-        if level == 0 {
-            if !child_check(layout, block, stamps, stamp, word, depth) {
+        if !stamp_table(layout, block, stamps, stamp, mid) {
+            return false;
+        }
+        let ends = (mid / 32) as usize * 32;
+        for j in 0..8 {
+            let end = word_at(block, ends + 4 * j);
+            if end == 0 {
+                continue;
+            }
+            if !stamp_table(layout, block, stamps, stamp, end) {
                 return false;
             }
-            continue;
-        }
-        let Pointer::Split(number) = pointer_of(layout, word) else {
-            return false;
-        };
-        let start = number * 32;
-        if !split_check(layout, block, stamps, stamp, start, 8, level - 1, depth) {
-            return false;
+            let children = (end / 32) as usize * 32;
+            for k in 0..8 {
+                let child = word_at(block, children + 4 * k);
+                if !child_check(layout, block, stamps, stamp, child, depth) {
+                    return false;
+                }
+            }
         }
     }
     true
@@ -119,10 +134,7 @@ fn child_check(
         Pointer::Leaf(_) => true,
         Pointer::Prefix(number) => {
             let bytes = cell(block, number);
-            if !is_valid_prefix(layout, bytes) {
-                return false;
-            }
-            if !stamp_cell(stamps, stamp, number) {
+            if !stamp_cell(stamps, stamp, number, is_valid_prefix(layout, bytes)) {
                 return false;
             }
             let link = linked_word(number, bytes);

@@ -1,7 +1,6 @@
 -- `next_after` meets its contract: it is the walk from the start of the key. Assumes nothing.
 use native.Mathlib.Omega.{arith}
 use borrow.Author.Needs.{needs}
-use Rattle.nodes.specs.Layout.{keyLimit}
 use Rattle.trees.proofs.next_key.next_after.Statement.{statement}
 use Rattle.trees.proofs.next_key.next_after.Tie as tie
 

@@ -1,15 +1,14 @@
 -- The check of a child word meets its contract.
-use mathlib.Core.Path.{sym, ap, _∙_}
+use mathlib.Core.Path.{refl, sym, ap, _∙_}
 use Prim.Native.Nat.{ℕ}
 use native.Mathlib.Omega.{arith}
 use borrow.Author.Tests.{not-true, not-false}
 use Rattle.nodes.specs.Prefix.{prefixLink, validPrefix}
 use Rattle.nodes.proofs.Coded.{coded-leaf, coded-prefix, prefix-facts}
-use Rattle.trees.specs.Parts.{plainTree}
-use Rattle.trees.proofs.Judging.{judged-empty, judged-none, judged-same, first-failed, then-second}
 use Rattle.nodes.proofs.StepWays.{cell-length}
-use Rattle.trees.proofs.Reading.{test-fails, test-holds}
-use Rattle.trees.proofs.ChildTrees.{child-none, child-deep, child-below, tree-leaf, prefix-broken, prefix-tree}
+use Rattle.trees.proofs.Judging.{judged-empty, judged-none, judged-same, first-failed, then-second}
+use Rattle.trees.proofs.Reading.{tested-cell}
+use Rattle.trees.proofs.ChildTrees.{child-none, child-deep, child-below, tree-leaf, prefix-tree}
 use Rattle.trees.proofs.Tags.{other-plain}
 use borrow.Author.Needs.{needs}
 use Rattle.trees.proofs.validate.child_check.Reads as reads
@@ -36,19 +35,16 @@ module _ (t : ℕ) where
   cell-requires c κs = omega (arith, prefix-facts _ _ _ (c .before .before .before .pointer-of .ensures) _ (c .before .number .given .1) .2)
 
   pub is-valid-prefix-requires : lts.Need-is-valid-prefix-requires (child-told t) (child-check-at t) reads.Post
-  is-valid-prefix-requires c κs = cell-length _ _ _ (c .cell .ensures)
-
-  pub returns-3 : lts.Need-returns-3 (child-told t) (child-check-at t) reads.Post
-  returns-3 c = judged-none _ _ _ _ (child-below _ _ _ _ (c .before .before .before .before .before .before .before .before .if1 .left) (c .before .before .before .before .before .before .before .if2 .left) ∙ prefix-broken _ _ _ _ _ (coded-prefix _ _ _ (c .before .before .before .before .before .before .pointer-of .ensures) _ (c .before .before .before .before .number .given .1)) (test-fails (validPrefix _) _ _ _ (c .before .before .cell .ensures) (c .before .is-valid-prefix .ensures) (c .if3 .taken)))
+  is-valid-prefix-requires c κs = cell-length _ _ _ (c .before .cell .ensures)
 
   pub stamp-cell-requires : lts.Need-stamp-cell-requires (child-told t) (child-check-at t) reads.Post
-  stamp-cell-requires c κs = omega (arith, prefix-facts _ _ _ (c .before .before .before .before .before .before .before .pointer-of .ensures) _ (c .before .before .before .before .before .number .given .1) .2)
+  stamp-cell-requires c κs = omega (arith, prefix-facts _ _ _ (c .before .before .before .before .before .before .pointer-of .ensures) _ (c .before .before .before .before .number .given .1) .2)
 
-  pub returns-4 : lts.Need-returns-4 (child-told t) (child-check-at t) reads.Post
-  returns-4 c = first-failed _ _ _ _ _ _ _ _ (child-below _ _ _ _ (c .before .before .before .before .before .before .before .before .before .before .before .if1 .left) (c .before .before .before .before .before .before .before .before .before .before .if2 .left) ∙ prefix-tree _ _ _ _ _ (coded-prefix _ _ _ (c .before .before .before .before .before .before .before .before .before .pointer-of .ensures) _ (c .before .before .before .before .before .before .before .number .given .1)) (test-holds (validPrefix _) _ _ _ (c .before .before .before .before .before .cell .ensures) (c .before .before .before .before .is-valid-prefix .ensures) (c .before .before .before .if3 .left))) (c .before .stamp-cell .ensures) (not-true _ (c .if4 .taken))
+  pub returns-3 : lts.Need-returns-3 (child-told t) (child-check-at t) reads.Post
+  returns-3 c = first-failed _ _ _ _ _ _ _ _ (child-below _ _ _ _ (c .before .before .before .before .before .before .before .before .before .before .if1 .left) (c .before .before .before .before .before .before .before .before .before .if2 .left) ∙ prefix-tree _ _ _ _ _ (coded-prefix _ _ _ (c .before .before .before .before .before .before .before .before .pointer-of .ensures) _ (c .before .before .before .before .before .before .number .given .1)) _ (tested-cell (validPrefix _) _ _ _ (c .before .before .before .before .cell .ensures) (c .before .before .is-valid-prefix .ensures)) _ refl) (c .before .stamp-cell .ensures) (not-true _ (c .if3 .taken))
 
   pub linked-word-requires : lts.Need-linked-word-requires (child-told t) (child-check-at t) reads.Post
-  linked-word-requires c κs = cell-length _ _ _ (c .before .before .before .before .before .cell .ensures)
+  linked-word-requires c κs = cell-length _ _ _ (c .before .before .before .before .cell .ensures)
 
   pub sub-node-check : lts.Need-sub-node-check (child-told t) (child-check-at t) reads.Post
   sub-node-check c = search needs
@@ -62,11 +58,11 @@ module _ (t : ℕ) where
   pub node-check-requires-2 : lts.Need-node-check-requires-2 (child-told t) (child-check-at t) reads.Post
   node-check-requires-2 c κs = search needs
 
+  pub returns-4 : lts.Need-returns-4 (child-told t) (child-check-at t) reads.Post
+  returns-4 c = judged-empty _ _ _ (child-below _ _ _ _ (c .before .before .before .before .if1 .left) (c .before .before .before .if2 .left) ∙ tree-leaf _ _ _ _ _ (coded-leaf _ _ _ (c .before .before .pointer-of .ensures) _ (c .enum-told .given .1)))
+
   pub returns-5 : lts.Need-returns-5 (child-told t) (child-check-at t) reads.Post
-  returns-5 c = judged-empty _ _ _ (child-below _ _ _ _ (c .before .before .before .before .if1 .left) (c .before .before .before .if2 .left) ∙ tree-leaf _ _ _ _ _ (coded-leaf _ _ _ (c .before .before .pointer-of .ensures) _ (c .enum-told .given .1)))
+  returns-5 c = then-second _ _ _ _ _ _ _ _ (child-below _ _ _ _ (c .before .before .before .before .before .before .before .before .before .before .before .before .before .if1 .left) (c .before .before .before .before .before .before .before .before .before .before .before .before .if2 .left) ∙ prefix-tree _ _ _ _ _ (coded-prefix _ _ _ (c .before .before .before .before .before .before .before .before .before .before .before .pointer-of .ensures) _ (c .before .before .before .before .before .before .before .before .before .number .given .1)) _ (tested-cell (validPrefix _) _ _ _ (c .before .before .before .before .before .before .before .cell .ensures) (c .before .before .before .before .before .is-valid-prefix .ensures)) _ (sym (c .before .before .linked-word .ensures ∙ ap (prefixLink (c .before .before .before .before .before .before .before .before .before .number .given .0 .0)) (c .before .before .before .before .before .before .before .cell .ensures)))) (c .before .before .before .before .stamp-cell .ensures) _ (not-false _ (c .before .before .before .if3 .left)) (c .node-check .ensures)
 
   pub returns-6 : lts.Need-returns-6 (child-told t) (child-check-at t) reads.Post
-  returns-6 c = then-second _ _ _ _ _ _ _ _ (child-below _ _ _ _ (c .before .before .before .before .before .before .before .before .before .before .before .before .before .before .if1 .left) (c .before .before .before .before .before .before .before .before .before .before .before .before .before .if2 .left) ∙ prefix-tree _ _ _ _ _ (coded-prefix _ _ _ (c .before .before .before .before .before .before .before .before .before .before .before .before .pointer-of .ensures) _ (c .before .before .before .before .before .before .before .before .before .before .number .given .1)) (test-holds (validPrefix _) _ _ _ (c .before .before .before .before .before .before .before .before .cell .ensures) (c .before .before .before .before .before .before .before .is-valid-prefix .ensures) (c .before .before .before .before .before .before .if3 .left))) (c .before .before .before .before .stamp-cell .ensures) _ (not-false _ (c .before .before .before .if4 .left)) (judged-same _ _ _ _ _ _ (ap (plainTree _ _ _) (sym (c .before .before .linked-word .ensures ∙ ap (prefixLink (c .before .before .before .before .before .before .before .before .before .before .number .given .0 .0)) (c .before .before .before .before .before .before .before .before .cell .ensures)))) (c .node-check .ensures))
-
-  pub returns-7 : lts.Need-returns-7 (child-told t) (child-check-at t) reads.Post
-  returns-7 c = judged-same _ _ _ _ _ _ (child-below _ _ _ _ (c .before .before .before .before .before .if1 .left) (c .before .before .before .before .if2 .left) ∙ other-plain _ _ _ _ (c .before .before .before .pointer-of .result) (c .before .before .match .keys3) (c .before .before .before .pointer-of .ensures) (c .before .before .before .before .before .if1 .left)) (c .node-check2 .ensures)
+  returns-6 c = judged-same _ _ _ _ _ _ (child-below _ _ _ _ (c .before .before .before .before .before .if1 .left) (c .before .before .before .before .if2 .left) ∙ other-plain _ _ _ _ (c .before .before .before .pointer-of .result) (c .before .before .match .keys3) (c .before .before .before .pointer-of .ensures) (c .before .before .before .before .before .if1 .left)) (c .node-check2 .ensures)

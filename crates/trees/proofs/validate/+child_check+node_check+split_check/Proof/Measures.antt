@@ -16,20 +16,22 @@ use Rattle.cells.proofs.word_at.Reads as word-at-reads
 use Rattle.nodes.proofs.pointer.pointer_of.Reads as pointer-of-reads
 use Rattle.nodes.proofs.prefix.is_valid_prefix.Reads as is-valid-prefix-reads
 use Rattle.nodes.proofs.prefix.linked_word.Reads as linked-word-reads
+use Rattle.nodes.proofs.sparse.is_valid_sparse.Reads as is-valid-sparse-reads
 use Rattle.nodes.proofs.sparse.sparse_count.Reads as sparse-count-reads
 use Rattle.nodes.proofs.sparse.sparse_position.Reads as sparse-position-reads
+use Rattle.nodes.proofs.split.is_valid_head.Reads as is-valid-head-reads
 use Rattle.trees.proofs.stamps.stamp_cell.Reads as stamp-cell-reads
-use Rattle.trees.proofs.stamps.stamp_node.Reads as stamp-node-reads
+use Rattle.trees.proofs.stamps.stamp_table.Reads as stamp-table-reads
 
--- a child's check is below a node's and a split's at the same depth, and above a node's one character down
+-- at the same depth a node's check is above a split's, and that above a child's, which is above a node's one character down
 abbrev pub μ-child-check : Measures 2 child-check-kinds.ps ℕ
-μ-child-check κs a = a .1 .1 .1 .1 .1 .0 * 5
+μ-child-check κs a = a .1 .1 .1 .1 .1 .0 * 3
 
 abbrev pub μ-node-check : Measures 2 node-check-kinds.ps ℕ
-μ-node-check κs a = a .1 .1 .1 .1 .1 .0 * 5 + 4
+μ-node-check κs a = a .1 .1 .1 .1 .1 .0 * 3 + 2
 
 abbrev pub μ-split-check : Measures 2 split-check-kinds.ps ℕ
-μ-split-check κs a = a .1 .1 .1 .1 .1 .1 .1 .0 * 5 + 1 + a .1 .1 .1 .1 .1 .1 .0
+μ-split-check κs a = a .1 .1 .1 .1 .1 .0 * 3 + 1
 
 -- a check at a measure, and one called below it
 abbrev pub child-check-at : ℕ → In 2 child-check-kinds.ps
@@ -69,20 +71,24 @@ child-told t = (
 
 abbrev pub node-told : ℕ → node-check-lts.Claims
 node-told t = (
-  stamp-node-reads.Asked,
-  stamp-node-reads.Learnt,
   pointer-of-reads.Asked,
   pointer-of-reads.Learnt,
   word-at-reads.Asked,
   word-at-reads.Learnt,
+  stamp-cell-reads.Asked,
+  stamp-cell-reads.Learnt,
   child-check-below t,
   child-check.Post,
   cell-reads.Asked,
   cell-reads.Learnt,
+  is-valid-sparse-reads.Asked,
+  is-valid-sparse-reads.Learnt,
   sparse-count-reads.Asked,
   sparse-count-reads.Learnt,
   sparse-position-reads.Asked,
   sparse-position-reads.Learnt,
+  is-valid-head-reads.Asked,
+  is-valid-head-reads.Learnt,
   split-check-below t,
   split-check.Post,
 )
@@ -91,10 +97,8 @@ abbrev pub split-told : ℕ → split-check-lts.Claims
 split-told t = (
   word-at-reads.Asked,
   word-at-reads.Learnt,
+  stamp-table-reads.Asked,
+  stamp-table-reads.Learnt,
   child-check-below t,
   child-check.Post,
-  pointer-of-reads.Asked,
-  pointer-of-reads.Learnt,
-  split-check-below t,
-  split-check.Post,
 )
