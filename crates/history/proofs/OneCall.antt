@@ -12,7 +12,8 @@ use Rattle.cells.specs.Bytes.{IsBytes}
 use Rattle.cells.specs.Memory.{memoryOf}
 use Rattle.cells.specs.Occurrences.{occurrences}
 use Rattle.cells.proofs.Choice.{absurd-bool, absurd-false}
-use Rattle.trees.specs.Lookup.{Table, sameKey, assign}
+use Rattle.trees.specs.Lookup.{Table}
+use Rattle.trees.proofs.Assign.{assign-alike}
 use Rattle.blocks.specs.Trailer.{layoutOf, validSlot, inUse}
 use Rattle.blocks.specs.Sound.{reachable}
 use Rattle.blocks.specs.Refusal.{badNewKey, badValue}
@@ -84,11 +85,6 @@ module _ (count : ℕ) (b : List ℕ) (l : Ledger) (beside : Beside count b l) (
   used-ways true true shows (some t) next e holds new = new e t (holds refl .same t refl)
   used-ways true false shows (some t) next e holds new = absurd-false (holds refl .when-some t refl)
 
--- equal tables, where a key gets the same in both
-assign-same : (t t′ : Table) (key : List ℕ) (given : Option ℕ) → ((k : List ℕ) → t k ≡ t′ k) → (k : List ℕ) → assign t key given k ≡ assign t′ key given k
-unfolding assign
-assign-same t t′ key given same k = ap (cond (sameKey key k) given) (same k)
-
 module _ (count : ℕ) (b : List ℕ) (l : Ledger) (beside : Beside count b l) where
   -- an insertion
   pub insert-step : (key : List ℕ) (value : ℕ) → IsBytes key
@@ -98,7 +94,7 @@ module _ (count : ℕ) (b : List ℕ) (l : Ledger) (beside : Beside count b l) w
       insert-ways count b l beside _ _ (insert-refused b key value) (badNewKey key) (badValue value) (noRoom b key) _
       (insert-answer b key value (beside .agrees .size) (beside .agrees .valid))
       (λ e. step-done count b l beside _ _ (insert-refused b key value) _ _ _ e (insert-after b key value (beside .bytes) is-bytes e) _
-      (assign-same (shown b) (l .present) key (some value) (beside .agrees .present))
+      (assign-alike (shown b) (l .present) key (some value) (beside .agrees .present))
       (slot-holds count b l beside))
 
   module _ (slot : ℕ) where

@@ -3,6 +3,7 @@ pub mod Pairs
 pub mod Frame
 pub mod Usable
 pub mod Keys
+pub mod Assign
 pub mod EntriesLookup
 pub mod EveryPair
 pub mod EntriesRising

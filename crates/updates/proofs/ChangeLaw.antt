@@ -30,7 +30,7 @@ use Rattle.updates.specs.Commit.{memoryWith}
 use Rattle.updates.proofs.Claims.{numbers, BuildStands, cells-stand-from, TreeChanged, EndLaw}
 use Rattle.updates.proofs.Commit.{memoryWith-other, cells-stand, numbers-free}
 use Rattle.updates.proofs.KeyEnd.{value-at-end}
-use Rattle.updates.proofs.PathLaw.{Rooted, path-law, path-rooted}
+use Rattle.updates.proofs.PathLaw.{Rooted, path-law}
 use Rattle.updates.proofs.Taken.{taken-count}
 
 -- the cells that a build takes of a list of free ones
@@ -120,8 +120,8 @@ module _ (layout : Layout) (small : layout .cells ≤ cellLimit) (free : List �
         let standing : BuildStands layout (numberFrom layout free) m′ b = stand b enough same in
         let standing-copy : BuildStands layout (numberFrom layout free) m′ (pathCopy layout (numberFrom layout free) m atEnd w key) =
         subst (λ (c : Built). BuildStands layout (numberFrom layout free) m′ c) (sym is) standing in
-        let tree-changed = subst (λ (c : Built). TreeChanged layout (numberFrom layout free) m m′ d w cs key assigned c) is
-        (path-law layout small number m m′ bytes whole atEnd assigned a-value ends key is-bytes d w cs fits found agree standing-copy) in
+        let copied = path-law layout small number m m′ bytes whole atEnd assigned a-value ends key is-bytes d w cs fits found agree standing-copy in
+        let tree-changed = subst (λ (c : Built). TreeChanged layout (numberFrom layout free) m m′ d w cs key assigned c) is (copied .0) in
         let newly : (c : ℕ) → 1 ≤ occurrences c free → 1 ≤ occurrences c (tree-changed .cells) → 1 ≤ occurrences c (taken layout free b) =
         λ c is-free visited. elim (decLe 1 (occurrences c cs)) [
           | yes h ↦ absurd (omega (arith, apart c h))
@@ -144,9 +144,7 @@ module _ (layout : Layout) (small : layout .cells ≤ cellLimit) (free : List �
           table = tree-changed .table;
           kept = agree;
           others = untouched b enough same;
-          root = λ some-key was-root.
-              subst (λ (c : Built). Rooted layout c) is
-              (path-rooted layout small number m m′ bytes whole atEnd assigned a-value ends key is-bytes some-key d w cs fits found agree was-root standing-copy);
+          root = λ some-key was-root. subst (λ (c : Built). Rooted layout c) is (copied .1 some-key was-root);
         }
 
   -- an insertion is one use of it

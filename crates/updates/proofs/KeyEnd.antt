@@ -20,8 +20,9 @@ use Rattle.nodes.proofs.Gather.{gather-nil, under-zero}
 use Rattle.nodes.proofs.Frame.{plain-frame, read-is}
 use Rattle.nodes.proofs.Read.{read-plain, read-leaf, read-prefix}
 use Rattle.trees.specs.Tree.{tree}
-use Rattle.trees.specs.Lookup.{Table, lookup, sameKey, assign}
+use Rattle.trees.specs.Lookup.{lookup, assign}
 use Rattle.trees.proofs.Tree.{kids, tree-cut, tree-at, tree-join, lookup-nil, lookup-cons, lookup-other, lookup-zero}
+use Rattle.trees.proofs.Assign.{assign-own, assign-past}
 use Rattle.trees.proofs.Frame.{link-tree, footprint-in, tree-frame, lookup-frame}
 use Rattle.staging.specs.NewCells.{prefixCell}
 use Rattle.updates.specs.Built.{Built, unowned, allocate}
@@ -29,15 +30,6 @@ use Rattle.updates.specs.Build.{valueAt}
 use Rattle.updates.proofs.Claims.{numbers, BuildStands, TreeChanged}
 use Rattle.updates.proofs.Rooms.{unowned-consistent, allocate-numbers}
 use Rattle.updates.proofs.Prefixes.{prefix-allocated}
-
--- a table with the empty key assigned
-pub assign-end : (table : Table) (given : Option ℕ) → assign table [] given [] ≡ given
-unfolding assign sameKey
-assign-end table given = refl
-
-pub assign-past : (table : Table) (given : Option ℕ) (y : ℕ) (k : List ℕ) → assign table [] given (y ∷ k) ≡ table (y ∷ k)
-unfolding assign sameKey
-assign-past table given y k = refl
 
 numbers-none : (number : ℕ → ℕ) (c : ℕ) → occurrences c (numbers number []) ≡ 0
 unfolding numbers
@@ -68,7 +60,7 @@ module _ (layout : Layout) (small : layout .cells ≤ cellLimit) (number : ℕ �
   end-table : (given : Option ℕ) (u : ℕ) (N : Node) → read layout m′ u ≡ some N → N .value ≡ given
       → ((y : ℕ) (k : List ℕ) → y < 256 → lookup layout m′ (N .child y) k ≡ lookup layout m w (y ∷ k))
       → (k : List ℕ) → lookup layout m′ u k ≡ assign (lookup layout m w) [] given k
-  end-table given u N node has children [] = lookup-nil layout m′ u N node ∙ has ∙ sym (assign-end (lookup layout m w) given)
+  end-table given u N node has children [] = lookup-nil layout m′ u N node ∙ has ∙ sym (assign-own (lookup layout m w) [] given)
   end-table given u N node has children (y ∷ k) = elim (decLt y 256) [
     | yes near ↦ lookup-cons layout m′ u y k N near node ∙ children y k near ∙ sym (assign-past (lookup layout m w) given y k)
     | no far ↦

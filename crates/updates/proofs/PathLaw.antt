@@ -19,10 +19,10 @@ use Rattle.nodes.specs.Pointer.Pointer.{nothing, leaf, chain, split, sparse, pr
 use Rattle.nodes.specs.Node.{Node, plain, read}
 use Rattle.nodes.specs.Value.{pointerValue}
 use Rattle.trees.specs.Tree.{tree}
-use Rattle.trees.specs.Lookup.{lookup, assign}
+use Rattle.trees.specs.Lookup.{lookup}
 use Rattle.trees.specs.Root.{isRoot}
 use Rattle.trees.proofs.Tree.{tree-cut, tree-below, lookup-zero}
-use Rattle.trees.proofs.Keys.{same-key-refl}
+use Rattle.trees.proofs.Assign.{assign-own}
 use Rattle.updates.specs.Built.{Built}
 use Rattle.updates.specs.SetChild.{setChild}
 use Rattle.updates.specs.Build.{wordAside, putBack, childOf, pathCopy}
@@ -68,10 +68,8 @@ bare-root layout number m′ (some v) bare Y x b r standing placed = never (sym 
 -- where a value is assigned, the word of a build is not NONE
 assigned-nonzero : (layout : Layout) (number : ℕ → ℕ) (m m′ : Memory) (d w : ℕ) (cs key : List ℕ) (given : Option ℕ) (b : Built)
     → TreeChanged layout number m m′ d w cs key given b → given ≢ none → b .word ≢ 0
-unfolding assign
 assigned-nonzero layout number m m′ d w cs key given b tree-changed a-value zero-word =
-    let own : assign (lookup layout m w) key given key ≡ given = rw (same-key-refl key) in
-    a-value (sym own ∙ sym (tree-changed .table key) ∙ ap (λ u. lookup layout m′ u key) zero-word ∙ lookup-zero layout m′ key)
+    a-value (sym (assign-own (lookup layout m w) key given) ∙ sym (tree-changed .table key) ∙ ap (λ u. lookup layout m′ u key) zero-word ∙ lookup-zero layout m′ key)
 
 -- one character down: the node of a tree, and the tree below its child
 record Descent (layout : Layout) (m m′ : Memory) (d w x : ℕ) : Type 0 where
@@ -104,39 +102,29 @@ module _ (layout : Layout) (small : layout .cells ≤ cellLimit) (number : ℕ �
   -- the path of a key copied, by the law of the rule at its end: what the rule assigns to the key, a value or none
   module _ (atEnd : ℕ → Built) (assigned : Option ℕ) (a-value : assigned ≢ none)
       (ends : EndLaw layout number m m′ atEnd assigned) where
+    -- a key that is not empty, changed at a root, gives a root too
     pub path-law : (key : List ℕ) → IsBytes key → (d w : ℕ) (cs : List ℕ) → length key ≤ d → tree layout m d w ≡ some cs → Agree m m′ cs
         → BuildStands layout number m′ (pathCopy layout number m atEnd w key)
         → TreeChanged layout number m m′ d w cs key assigned (pathCopy layout number m atEnd w key)
+        × (1 ≤ length key → isRoot (pointer layout w) ≡ true → Rooted layout (pathCopy layout number m atEnd w key))
     unfolding pathCopy
-    path-law [] is-bytes d w cs fits found agree standing = ends d w cs found agree standing
+    path-law [] is-bytes d w cs fits found agree standing = (ends d w cs found agree standing, λ some-key root. absurd (omega arith))
     path-law (x ∷ key) is-bytes zero w cs fits found agree standing = absurd (omega arith)
     path-law (x ∷ key) is-bytes (suc d) w cs fits found agree standing =
         let near : x < 256 = is-bytes .below 0 in
         let u : ℕ = childOf (read layout m w) x in
         let b : Built = pathCopy layout number m atEnd u key in
         let s = descend layout m m′ d w x cs near found agree in
-        let later =
-        path-law key (bytes-tail x key is-bytes) d u (s .cells) (omega arith) (s .found) (s .agree-below) (node-below-stands layout small number m m′ bytes whole w x b standing) in
-        let nonzero : b .word ≢ 0 = assigned-nonzero layout number m m′ d u (s .cells) key assigned b later a-value in
-        let changed = node-changed layout small number m m′ bytes whole w (s .node) (s .reads) (s .agree) x near b nonzero (later .consistent) standing in
-        change-tree layout small number m m′ bytes d w cs found agree (s .node) (s .reads) x near (s .cells) (ap (tree layout m d) (sym (s .child)) ∙ s .found)
-        key assigned b (nodeCopy layout number m w x b) changed
-        (subst (λ v. TreeChanged layout number m m′ d v (s .cells) key assigned b) (s .child) later)
-
-    -- a key that is not empty, changed at a root, gives a root
-    pub path-rooted : (key : List ℕ) → IsBytes key → 1 ≤ length key → (d w : ℕ) (cs : List ℕ) → length key ≤ d → tree layout m d w ≡ some cs
-        → Agree m m′ cs → isRoot (pointer layout w) ≡ true → BuildStands layout number m′ (pathCopy layout number m atEnd w key)
-        → Rooted layout (pathCopy layout number m atEnd w key)
-    unfolding pathCopy
-    path-rooted [] is-bytes some-key d w cs fits found agree root standing = absurd (omega arith)
-    path-rooted (x ∷ key) is-bytes some-key zero w cs fits found agree root standing = absurd (omega arith)
-    path-rooted (x ∷ key) is-bytes some-key (suc d) w cs fits found agree root standing =
-        let near : x < 256 = is-bytes .below 0 in
-        let u : ℕ = childOf (read layout m w) x in
-        let b : Built = pathCopy layout number m atEnd u key in
-        let s = descend layout m m′ d w x cs near found agree in
-        let later =
-        path-law key (bytes-tail x key is-bytes) d u (s .cells) (omega arith) (s .found) (s .agree-below) (node-below-stands layout small number m m′ bytes whole w x b standing) in
-        bare-root layout number m′ (pointerValue m (pointer layout w)) (root-value layout m (pointer layout w) root)
-        (aside layout m w (s .node) (s .reads) .bare) x b (setChild layout number m (pointer layout (wordAside layout m (pointer layout w) w)) x b) standing
-        (bare-placed layout small number m m′ bytes whole w (s .node) (s .reads) (s .agree) x near b (assigned-nonzero layout number m m′ d u (s .cells) key assigned b later a-value) (later .consistent))
+        let below : TreeChanged layout number m m′ d u (s .cells) key assigned b =
+        path-law key (bytes-tail x key is-bytes) d u (s .cells) (omega arith) (s .found) (s .agree-below)
+        (node-below-stands layout small number m m′ bytes whole w x b standing) .0 in
+        let nonzero : b .word ≢ 0 = assigned-nonzero layout number m m′ d u (s .cells) key assigned b below a-value in (
+          change-tree layout small number m m′ bytes d w cs found agree (s .node) (s .reads) x near (s .cells)
+              (ap (tree layout m d) (sym (s .child)) ∙ s .found) key assigned b (nodeCopy layout number m w x b)
+              (node-changed layout small number m m′ bytes whole w (s .node) (s .reads) (s .agree) x near b nonzero (below .consistent) standing)
+              (subst (λ v. TreeChanged layout number m m′ d v (s .cells) key assigned b) (s .child) below),
+          λ some-key root.
+              bare-root layout number m′ (pointerValue m (pointer layout w)) (root-value layout m (pointer layout w) root)
+              (aside layout m w (s .node) (s .reads) .bare) x b (setChild layout number m (pointer layout (wordAside layout m (pointer layout w) w)) x b) standing
+              (bare-placed layout small number m m′ bytes whole w (s .node) (s .reads) (s .agree) x near b nonzero (below .consistent)),
+        )

@@ -17,26 +17,12 @@ use Rattle.nodes.specs.Split.{under}
 use Rattle.nodes.specs.Node.{Node, read}
 use Rattle.nodes.proofs.Gather.{gather-at, gather-change, under-zero, under-word, under-frame}
 use Rattle.trees.specs.Tree.{tree}
-use Rattle.trees.specs.Lookup.{Table, lookup, sameKey, assign}
+use Rattle.trees.specs.Lookup.{lookup, assign}
 use Rattle.trees.proofs.Tree.{tree-at, tree-join, tree-zero, under-tree, tree-below, lookup-nil, lookup-cons, lookup-other}
+use Rattle.trees.proofs.Assign.{assign-nil, assign-behind, assign-other}
 use Rattle.trees.proofs.Frame.{tree-frame, lookup-frame}
 use Rattle.updates.specs.Built.{Built}
 use Rattle.updates.proofs.Claims.{NodeChanged, TreeChanged}
-
--- a table with a key assigned, at the empty key, behind the key's first character and behind any other
-module _ (table : Table) (x : ℕ) (key : List ℕ) (given : Option ℕ) where
-  pub assign-nil : assign table (x ∷ key) given [] ≡ table []
-  unfolding assign sameKey
-  assign-nil = refl
-
-  pub assign-same : (below : Table) (y : ℕ) (k : List ℕ) → y ≡ x → table (y ∷ k) ≡ below k
-      → assign table (x ∷ key) given (y ∷ k) ≡ assign below key given k
-  unfolding assign sameKey
-  assign-same below y k same child = rw (eq-eqb x y (sym same), child)
-
-  pub assign-other : (y : ℕ) (k : List ℕ) → y ≢ x → assign table (x ∷ key) given (y ∷ k) ≡ table (y ∷ k)
-  unfolding assign sameKey
-  assign-other y k other = rw (ne-eqb x y (λ e. other (sym e)))
 
 module _ (layout : Layout) (small : layout .cells ≤ cellLimit) (number : ℕ → ℕ) (m m′ : Memory) (bytes : (c : ℕ) → IsBytes (m c)) where
   -- the node X of the old tree, and the tree `a` below its child x
@@ -64,7 +50,7 @@ module _ (layout : Layout) (small : layout .cells ≤ cellLimit) (number : ℕ �
     table-same k =
         lookup-cons layout m′ (after .word) x k (changed .node) near (changed .reads)
         ∙ ap (λ u. lookup layout m′ u k) new-child ∙ below .table k
-        ∙ sym (assign-same (lookup layout m w) x key given (lookup layout m (X .child x)) x k refl (lookup-cons layout m w x k X near node))
+        ∙ sym (assign-behind (lookup layout m w) x key given (lookup layout m (X .child x)) x k refl (lookup-cons layout m w x k X near node))
 
     table-other : (y : ℕ) (k : List ℕ) → y < 256 → y ≢ x
         → lookup layout m′ (after .word) (y ∷ k) ≡ assign (lookup layout m w) (x ∷ key) given (y ∷ k)
