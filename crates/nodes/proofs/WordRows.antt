@@ -1,7 +1,7 @@
 -- A row of words: what each step and each stop of a walk says of the whole, and which words are pointers.
 use mathlib.Core.Path.{_≡_, refl, ap, sym, _∙_, subst}
 use mathlib.Core.Logic.{_≢_}
-use mathlib.Core.Bool.{Bool, true, false, cond}
+use mathlib.Core.Bool.{Bool, true, false, not, cond, Bool·beq}
 use mathlib.Core.List.{List}
 use Prim.Native.Nat.{ℕ, zero, suc, _+_, _-_, _*_, _≤_, _<_}
 use native.Mathlib.Nat.{zero-add}
@@ -11,7 +11,7 @@ use lib.Dec.{eqb}
 use borrow.Author.Tests.{eqb-false, ne-eqb}
 use Rattle.cells.specs.Word.{wordAt}
 use Rattle.cells.proofs.Choice.{absurd-bool, absurd-false}
-use Rattle.nodes.specs.Words.{wordsFrom}
+use Rattle.nodes.specs.Words.{wordsFrom, someIs}
 use Rattle.nodes.specs.Sparse.{someWord, everyWord}
 use Rattle.nodes.specs.Split.{tableWord, validTable}
 
@@ -20,10 +20,6 @@ module _ (words : ℕ → ℕ) where
   pub some-stop : (count from : ℕ) → count ≡ 0 → someWord words count from ≡ false
   unfolding someWord
   some-stop count from e = rw e
-
-  pub every-stop : (count from : ℕ) → count ≡ 0 → everyWord words count from ≡ true
-  unfolding everyWord
-  every-stop count from e = rw e
 
   -- the next word is a pointer, or it is none
   pub some-found : (count less from word : ℕ) → word ≡ words from → word ≢ 0 → count ≡ less + 1 → someWord words count from ≡ true
@@ -39,25 +35,61 @@ module _ (words : ℕ → ℕ) where
       let left : count ≡ less = omega arith in
       rw (← same, none, left)
 
-  pub every-fails : (count less from word : ℕ) → word ≡ words from → word ≡ 0 → count ≡ less + 1 → everyWord words count from ≡ false
-  unfolding everyWord
-  every-fails zero less from word same none one = absurd (omega arith)
-  every-fails (suc count) less from word same none one = rw (← same, none)
+-- a walk along a row that looks for a pointer, or for NONE
+module _ (words : ℕ → ℕ) where
+  pub is-start : (pointer : Bool) (count from : ℕ) → someIs pointer words count from ≡ someIs pointer words (from + count - from) from
+  is-start pointer count from = let same : from + count - from ≡ count = omega arith in ap (λ n. someIs pointer words n from) (sym same)
 
-  pub every-step : (count less from word : ℕ) → word ≡ words from → word ≢ 0 → count ≡ less + 1
-      → everyWord words count from ≡ everyWord words less (from + 1)
-  unfolding everyWord
-  every-step zero less from word same other one = absurd (omega arith)
-  every-step (suc count) less from word same other one =
+  pub is-stop : (pointer : Bool) (count from : ℕ) → count ≡ 0 → someIs pointer words count from ≡ false
+  unfolding someIs
+  is-stop pointer count from e = rw e
+
+  pub is-found : (pointer : Bool) (count less from word : ℕ) → word ≡ words from → Bool·beq (not (eqb word 0)) pointer ≡ true → count ≡ less + 1
+      → someIs pointer words count from ≡ true
+  unfolding someIs
+  is-found pointer zero less from word same looked one = absurd (omega arith)
+  is-found pointer (suc count) less from word same looked one = rw (← same) (go (eqb word 0) pointer (someIs pointer words count (from + 1)) looked)
+    where
+      go : (t p later : Bool) → Bool·beq (not t) p ≡ true → cond t (cond p later true) (cond p true later) ≡ true
+      go true true later e = absurd-false e
+      go true false later e = refl
+      go false true later e = refl
+      go false false later e = absurd-false e
+
+  pub is-step : (pointer : Bool) (count less from word : ℕ) → word ≡ words from → Bool·beq (not (eqb word 0)) pointer ≡ false → count ≡ less + 1
+      → someIs pointer words count from ≡ someIs pointer words less (from + 1)
+  unfolding someIs
+  is-step pointer zero less from word same other one = absurd (omega arith)
+  is-step pointer (suc count) less from word same other one =
       let left : count ≡ less = omega arith in
-      rw (← same, ne-eqb word 0 other, left)
+      rw (← same, left) (go (eqb word 0) pointer (someIs pointer words less (from + 1)) other)
+    where
+      go : (t p later : Bool) → Bool·beq (not t) p ≡ false → cond t (cond p later true) (cond p true later) ≡ later
+      go true true later e = refl
+      go true false later e = absurd-bool e
+      go false true later e = absurd-bool e
+      go false false later e = refl
 
-  -- as many as from the first to the end
-  pub some-start : (count from : ℕ) → someWord words count from ≡ someWord words (from + count - from) from
-  some-start count from = let same : from + count - from ≡ count = omega arith in ap (λ n. someWord words n from) (sym same)
+  -- some word is a pointer, and every word is one where none is NONE
+  some-is : (count from : ℕ) → someIs true words count from ≡ someWord words count from
+  unfolding someIs someWord
+  some-is zero from = refl
+  some-is (suc count) from = rw (some-is count (from + 1))
 
-  pub every-start : (count from : ℕ) → everyWord words count from ≡ everyWord words (from + count - from) from
-  every-start count from = let same : from + count - from ≡ count = omega arith in ap (λ n. everyWord words n from) (sym same)
+  every-is : (count from : ℕ) → not (someIs false words count from) ≡ everyWord words count from
+  unfolding someIs everyWord
+  every-is zero from = refl
+  every-is (suc count) from = go (eqb (words from) 0) (someIs false words count (from + 1)) (everyWord words count (from + 1)) (every-is count (from + 1))
+    where
+      go : (t some every : Bool) → not some ≡ every → not (cond t true some) ≡ cond t false every
+      go true some every e = refl
+      go false some every e = e
+
+  pub some-told : (count from : ℕ) (t : Bool) → t ≡ someIs true words count from → t ≡ someWord words count from
+  some-told count from t e = e ∙ some-is count from
+
+  pub every-told : (count from : ℕ) (t : Bool) → t ≡ someIs false words count from → not t ≡ everyWord words count from
+  every-told count from t e = ap not e ∙ every-is count from
 
 -- rows of the same words
 pub some-same : (f g : ℕ → ℕ) → ((i : ℕ) → f i ≡ g i) → (count from : ℕ) → someWord f count from ≡ someWord g count from
@@ -71,8 +103,8 @@ every-same f g same zero from = refl
 every-same f g same (suc count) from = rw (same from, every-same f g same count (from + 1))
 
 -- the row of a mid or an end starts at the first byte
-pub table-read : (bytes : List ℕ) (t : Bool) → t ≡ someWord (wordsFrom bytes 0) 8 0 → t ≡ validTable bytes
-table-read bytes t e = e ∙ some-same (wordsFrom bytes 0) (tableWord bytes) (λ i. ap (wordAt bytes) (zero-add (4 * i))) 8 0
+pub table-read : (bytes : List ℕ) (t : Bool) → t ≡ someIs true (wordsFrom bytes 0) 8 0 → t ≡ validTable bytes
+table-read bytes t e = some-told (wordsFrom bytes 0) 8 0 t e ∙ some-same (wordsFrom bytes 0) (tableWord bytes) (λ i. ap (wordAt bytes) (zero-add (4 * i))) 8 0
 
 -- some word is a pointer just where one at a position is
 pub some-word-is : (words : ℕ → ℕ) (count from q : ℕ) → from ≤ q → q < from + count → words q ≢ 0 → someWord words count from ≡ true

@@ -4,8 +4,7 @@ ghost use mathlib.Core.List.{map};
 ghost use lib.ListN.{length, getD};
 ghost use Rattle.order_words.specs.Order.{rising};
 ghost use Rattle.nodes.specs.Sparse.{sparseOrder, sparseDigits, sparseCount, sparseCharacter, sparseChild, validSparse};
-use crate::words::every_word;
-use crate::words::some_word;
+use crate::words::some_is;
 use cells::word_at;
 use order_words::digit_at;
 use order_words::digit_count;
@@ -64,10 +63,10 @@ pub fn is_valid_sparse(cell: &[u8]) -> bool
         return false;
     }
     let count = sparse_count(cell);
-    if !every_word(cell, 0, count, 0) {
+    if some_is(cell, 0, count, 0, false) {
         return false;
     }
-    if some_word(cell, 0, 6 - count, count) {
+    if some_is(cell, 0, 6 - count, count, true) {
         return false;
     }
     is_rising(cell, count)
