@@ -31,7 +31,7 @@ use Rattle.blocks.proofs.Trailer.{sized}
 use Rattle.blocks.proofs.ValidateSteps.{layout-fits}
 use Rattle.blocks.proofs.Roots.{root-parts, sound-parts}
 use Rattle.store.specs.Free.{free}
-use Rattle.store.specs.Insert.{numbering, blockBuild, insertWrites, insert}
+use Rattle.store.specs.Insert.{numbering, blockBuild, insert}
 use Rattle.store.specs.Unstamped.{unstamped, Listed}
 use Rattle.store.specs.Committed.{Inside, commitWrites}
 use Rattle.store.specs.Insertable.{Insertable}
@@ -130,8 +130,8 @@ module _ (layout : Layout) (b stamps key : List ℕ) (value : ℕ) (p : Insertab
             (free-usable (layoutOf b) b (numbering b i) (unfold numberFrom in occurrences-at (free (layoutOf b) b) i _ (omega (arith, below, enough, listed-free .many)))) in
             omega (arith, number-is i (omega arith), u, s .whole)
 
-        committed-as : commitWrites layout (λ i. getD numbers i 0) (builtOf made stage) ≡ insertWrites b (blockBuild b key value)
-        unfolding commitWrites insertWrites
+        committed-as : commitWrites layout (λ i. getD numbers i 0) (builtOf made stage) ≡ commitWrites (layoutOf b) (numbering b) (blockBuild b key value)
+        unfolding commitWrites
         committed-as =
             ap (λ (l : Layout). buildWrites (λ i. getD numbers i 0) (staged stage (made .count)) ++ (record { at = trailerAt l; word = made .word } ∷ [])) (p .stated)
             ∙ ap (λ ws. ws ++ (record { at = trailerAt (layoutOf b); word = made .word } ∷ []))

@@ -12,6 +12,6 @@ use Rattle.blocks.specs.Trailer.{trailerAt}
 abbrev pub Inside : List ℕ → ℕ → ℕ → Type 0
 Inside numbers count size = (i : ℕ) → i < count → getD numbers i 0 * 32 + 32 ≤ size
 
--- the cells in the order allocated, and then the root word
+-- the cells in the order allocated, eight words each in rising position, then the root word; 01: "The root word is then set."
 unfoldable pub commitWrites : Layout → (ℕ → ℕ) → Built → List Write
 commitWrites layout number b = buildWrites number (b .cells) ++ (record { at = trailerAt layout; word = b .word } ∷ [])
