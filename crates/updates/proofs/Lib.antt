@@ -4,6 +4,7 @@ pub mod Chains
 pub mod Pairs
 pub mod ChainSet
 pub mod Prefixes
+pub mod Related
 pub mod Count
 pub mod BuildBytes
 pub mod SplitBound

@@ -1,11 +1,11 @@
--- Which of the free cells a build takes, and how many.
+-- Which of the free cells a build takes, and how many; the others it does not ask for.
 use mathlib.Core.Path.{_≡_, refl, sym, ap, _∙_}
 use mathlib.Core.Bool.{Bool, true, false}
 use mathlib.Core.List.{List, [], _∷_, _++_}
-use Prim.Native.Nat.{ℕ, suc, _+_, _≤_, _<_}
+use Prim.Native.Nat.{ℕ, suc, _+_, _-_, _≤_, _<_}
 use native.Mathlib.Omega.{arith}
 use lib.ListN.{length, take, drop, take-append-drop}
-use lib.Seq.{length-take-le}
+use lib.Seq.{length-take-le, getD-take}
 use Rattle.cells.specs.Memory.{Memory}
 use Rattle.cells.specs.Occurrences.{occurrences, select}
 use Rattle.cells.proofs.Occurrences.{occurrences-here, occurrences-later, occurrences-append}
@@ -13,7 +13,7 @@ use Rattle.nodes.specs.Layout.{Layout, usable, cellLimit}
 use Rattle.updates.specs.Build.{build, cellsNeeded}
 use Rattle.staging.specs.Numbering.{numberFrom}
 use Rattle.updates.proofs.Claims.{numbers}
-use Rattle.updates.proofs.Count.{count-needed}
+use Rattle.updates.proofs.Count.{build-numbers, count-needed}
 use Rattle.updates.proofs.Commit.{numbers-taken, numbering-free}
 
 -- how many elements pass a test
@@ -60,3 +60,19 @@ pub enough-free : (layout : Layout) → 2 ≤ layout .cells → layout .cells �
     → cellsNeeded layout m w key ≤ length free → length (build layout (numberFrom layout free) m w key value .cells) ≤ length free
 enough-free layout some-cells small free each m w key value clear fits =
     omega (arith, fits, count-needed layout (numberFrom layout free) (numbering-free layout free each some-cells small) m w key value clear)
+
+-- a build that takes no more than so many cells is the same from the first so many free ones
+pub build-first : (layout : Layout) → 2 ≤ layout .cells → layout .cells ≤ cellLimit → (free : List ℕ)
+    → ((c : ℕ) → 1 ≤ occurrences c free → usable layout c ≡ true) → (limit : ℕ) (m : Memory) (w : ℕ) (key : List ℕ) (value : ℕ)
+    → length (build layout (numberFrom layout free) m w key value .cells) ≤ limit
+    → build layout (numberFrom layout free) m w key value ≡ build layout (numberFrom layout (take limit free)) m w key value
+build-first layout some-cells small free each limit m w key value fits =
+    build-numbers (numberFrom layout free) (numberFrom layout (take limit free))
+    (numbering-free layout free each some-cells small)
+    (numbering-free layout (take limit free) (λ c h. each c (omega (arith, taken-less c))) some-cells small)
+    limit (λ i low. unfold numberFrom in sym (getD-take limit free i (layout .cells - 1) low)) layout m w key value fits
+  where
+    taken-less : (c : ℕ) → occurrences c (take limit free) ≤ occurrences c free
+    taken-less c =
+        let cut = ap (occurrences c) (sym (take-append-drop limit free)) ∙ occurrences-append c (take limit free) (drop limit free) in
+        omega (arith, cut)
