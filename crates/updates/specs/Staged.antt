@@ -13,7 +13,7 @@ use Rattle.trees.specs.Tree.{tree}
 use Rattle.updates.specs.Built.{Built}
 use Rattle.updates.specs.SplitBuild.{Row}
 use Rattle.updates.specs.SetChild.{setChild}
-use Rattle.updates.specs.Build.{wordAside, valueAside, putBack, childOf}
+use Rattle.updates.specs.Build.{wordAside, valueAside, putBack, childOf, valueAt}
 use Rattle.staging.specs.Stage.{stageCells, staged}
 use Rattle.staging.specs.declared.stage.Made.{Made}
 
@@ -48,6 +48,10 @@ pub record HasTree (layout : Layout) (m : Memory) (word left : ℕ) : Type 0 whe
   pub deep : left ≤ depth
   pub cells : List ℕ
   pub valid : tree layout m depth word ≡ some cells
+
+-- what an insertion makes of the word at the key's end
+abbrev pub insertedAt : Layout → (ℕ → ℕ) → Memory → ℕ → ℕ → Built
+insertedAt layout number m value word = valueAt layout number m value (pointer layout word) word
 
 -- one node of a path copied, over what is built below it
 abbrev pub nodeCopy : Layout → (ℕ → ℕ) → Memory → ℕ → ℕ → Built → Built

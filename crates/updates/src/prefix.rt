@@ -3,15 +3,14 @@ ghost use mathlib.Core.Path.{_≡_};
 ghost use Prim.Native.Nat.{_*_, _≤_, _<_};
 ghost use lib.ListN.{length, take};
 ghost use Rattle.cells.specs.Memory.{memoryOf};
-ghost use Rattle.nodes.specs.Pointer.{pointer};
 ghost use Rattle.nodes.specs.Coded.{heldOf};
 ghost use Rattle.staging.specs.NewCells.{prefixCell};
 ghost use Rattle.updates.specs.Built.{allocate};
-ghost use Rattle.updates.specs.Build.{putBack, valueAt};
+ghost use Rattle.updates.specs.Build.{putBack};
 ghost use Rattle.staging.specs.Numbering.{numberFrom};
 ghost use Rattle.staging.specs.Stage.{stageCells, staged};
 ghost use Rattle.staging.specs.Numbering.{Numbered};
-ghost use Rattle.updates.specs.Staged.{builtOf, leafMade, Fitting};
+ghost use Rattle.updates.specs.Staged.{builtOf, leafMade, insertedAt, Fitting};
 use cells::cell;
 use cells::word_at;
 use nodes::layout::CELL_LIMIT;
@@ -86,7 +85,7 @@ pub fn at_end(
     value: u32,
 ) -> Made
     requires { ⌜ Numbered layout free × (layout .cells * 32 ≤ length (now block)) ⌝ }
-    ensures { λ r. ⌜ builtOf r (now (stage .exit)) ≡ valueAt layout (numberFrom layout (take free (now (numbers .entry)))) (memoryOf (now (block .entry))) value (pointer layout word) word ⌝ }
+    ensures { λ r. ⌜ builtOf r (now (stage .exit)) ≡ insertedAt layout (numberFrom layout (take free (now (numbers .entry)))) (memoryOf (now (block .entry))) value word ⌝ }
 {
     let named = pointer_of(layout, word);
     match named {
