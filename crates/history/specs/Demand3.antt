@@ -20,7 +20,8 @@ use Rattle.blocks.specs.Refusal.{badNewKey, badValue}
 use Rattle.blocks.specs.Read.{shown}
 use Rattle.store.specs.Free.{free}
 use Rattle.store.specs.Format.{format}
-use Rattle.store.specs.Insert.{numbering, blockBuild}
+use Rattle.store.specs.Committed.{numbering}
+use Rattle.store.specs.Insert.{blockBuild}
 use Rattle.history.specs.Calls.{Call, inserting, snapshotting, restoring, releasing, Implementation, Outcome, outcome, run, answersOf, KeysAreBytes}
 use Rattle.history.specs.Ledger.{Ledger, emptyLedger, ledgerAfter, ledgerAnswers, fedBy}
 

@@ -25,21 +25,20 @@ use Rattle.blocks.specs.Sound.{reachable}
 use Rattle.blocks.proofs.Trailer.{Sized, trailer-fits, TrailerSays, root-changed}
 use Rattle.blocks.proofs.Roots.{SoundParts, reachable-usable}
 use Rattle.store.specs.Free.{free}
-use Rattle.store.specs.Insert.{numbering}
-use Rattle.store.specs.Committed.{commitWrites}
+use Rattle.store.specs.Committed.{numbering, commitWrites, committed}
 use Rattle.store.proofs.Free.{free-usable, free-reached}
 use Rattle.store.proofs.After.{not-trailer}
 
 module _ (b : List ℕ) (s : Sized b) (x : Built) (whole : Whole (x .cells)) (enough : length (x .cells) ≤ length (free (layoutOf b) b)) where
   -- the block with the allocated cells, and then the root
-  pub committed-is : written b (commitWrites (layoutOf b) (numbering b) x) ≡ withWord (written b (buildWrites (numbering b) (x .cells))) (trailerAt (layoutOf b)) (x .word)
+  pub committed-is : committed b x ≡ withWord (written b (buildWrites (numbering b) (x .cells))) (trailerAt (layoutOf b)) (x .word)
   unfolding commitWrites written
   committed-is = written-append b (buildWrites (numbering b) (x .cells)) (record { at = trailerAt (layoutOf b); word = x .word } ∷ [])
 
-  pub committed-length : length (written b (commitWrites (layoutOf b) (numbering b) x)) ≡ length b
+  pub committed-length : length (committed b x) ≡ length b
   committed-length = written-length b (commitWrites (layoutOf b) (numbering b) x)
 
-  pub committed-bytes : IsBytes b → IsBytes (written b (commitWrites (layoutOf b) (numbering b) x))
+  pub committed-bytes : IsBytes b → IsBytes (committed b x)
   committed-bytes bytes = written-bytes b (commitWrites (layoutOf b) (numbering b) x) bytes
 
   celled-cell : (c : ℕ) → memoryOf (written b (buildWrites (numbering b) (x .cells))) c ≡ memoryWith (numbering b) (memoryOf b) (x .cells) c
@@ -61,7 +60,7 @@ module _ (b : List ℕ) (s : Sized b) (x : Built) (whole : Whole (x .cells)) (en
   root-at : trailerAt (layoutOf b) ≡ (layoutOf b .cells - 1) * 32 + 0
   root-at = omega arith
 
-  pub committed-cells : (c : ℕ) → c ≢ layoutOf b .cells - 1 → memoryOf (written b (commitWrites (layoutOf b) (numbering b) x)) c ≡ memoryWith (numbering b) (memoryOf b) (x .cells) c
+  pub committed-cells : (c : ℕ) → c ≢ layoutOf b .cells - 1 → memoryOf (committed b x) c ≡ memoryWith (numbering b) (memoryOf b) (x .cells) c
   committed-cells c other =
       ap (λ (l : List ℕ). memoryOf l c) committed-is
       ∙ ap (λ (at : ℕ). memoryOf (withWord (written b (buildWrites (numbering b) (x .cells))) at (x .word)) c) root-at
@@ -69,7 +68,7 @@ module _ (b : List ℕ) (s : Sized b) (x : Built) (whole : Whole (x .cells)) (en
       ∙ celled-cell c
 
   -- in the trailer only the root word moves
-  pub committed-trailer : memoryOf (written b (commitWrites (layoutOf b) (numbering b) x)) (layoutOf b .cells - 1) ≡ withWord (memoryOf b (layoutOf b .cells - 1)) 0 (x .word)
+  pub committed-trailer : memoryOf (committed b x) (layoutOf b .cells - 1) ≡ withWord (memoryOf b (layoutOf b .cells - 1)) 0 (x .word)
   committed-trailer =
       ap (λ (l : List ℕ). memoryOf l (layoutOf b .cells - 1)) committed-is
       ∙ ap (λ (at : ℕ). memoryOf (withWord (written b (buildWrites (numbering b) (x .cells))) at (x .word)) (layoutOf b .cells - 1)) root-at
@@ -77,19 +76,19 @@ module _ (b : List ℕ) (s : Sized b) (x : Built) (whole : Whole (x .cells)) (en
       (omega (arith, trailer-fits b s, written-length b (buildWrites (numbering b) (x .cells)))) (omega arith)
       ∙ ap (λ (l : List ℕ). withWord l 0 (x .word)) (celled-cell (layoutOf b .cells - 1) ∙ not-taken (layoutOf b .cells - 1) trailer-not-free)
 
-  pub committed-kept : SoundParts (layoutOf b) b → (c : ℕ) → 1 ≤ occurrences c (reachable (layoutOf b) b) → memoryOf (written b (commitWrites (layoutOf b) (numbering b) x)) c ≡ memoryOf b c
+  pub committed-kept : SoundParts (layoutOf b) b → (c : ℕ) → 1 ≤ occurrences c (reachable (layoutOf b) b) → memoryOf (committed b x) c ≡ memoryOf b c
   committed-kept p c h =
       committed-cells c (not-trailer (layoutOf b) c (reachable-usable (layoutOf b) b p c h)) ∙ not-taken c (free-reached (layoutOf b) b c h)
 
   trailer-byte-kept : (k : ℕ) → 4 ≤ k → k < 32
-      → getD (written b (commitWrites (layoutOf b) (numbering b) x)) (trailerAt (layoutOf b) + k) 0 ≡ getD b (trailerAt (layoutOf b) + k) 0
+      → getD (committed b x) (trailerAt (layoutOf b) + k) 0 ≡ getD b (trailerAt (layoutOf b) + k) 0
   trailer-byte-kept k low high =
-      sym (memory-byte (written b (commitWrites (layoutOf b) (numbering b) x)) (layoutOf b .cells - 1) k high)
+      sym (memory-byte (committed b x) (layoutOf b .cells - 1) k high)
       ∙ ap (λ (l : List ℕ). getD l k 0) committed-trailer
       ∙ byte-other (memoryOf b (layoutOf b .cells - 1)) 0 (x .word) k (inr (omega arith))
       ∙ memory-byte b (layoutOf b .cells - 1) k high
 
-  committed-root : x .word < 4294967296 → rootWord (layoutOf b) (written b (commitWrites (layoutOf b) (numbering b) x)) ≡ x .word
+  committed-root : x .word < 4294967296 → rootWord (layoutOf b) (committed b x) ≡ x .word
   unfolding rootWord
   committed-root small =
       ap (rootWord (layoutOf b)) committed-is
@@ -97,7 +96,7 @@ module _ (b : List ℕ) (s : Sized b) (x : Built) (whole : Whole (x .cells)) (en
       (omega (arith, trailer-fits b s, written-length b (buildWrites (numbering b) (x .cells)))) small
 
   pub committed-says : validTrailer (layoutOf b) b ≡ true → x .word < 4294967296
-      → TrailerSays b (written b (commitWrites (layoutOf b) (numbering b) x)) (x .word) (slotWord (layoutOf b) b) (inUse (layoutOf b) b)
+      → TrailerSays b (committed b x) (x .word) (slotWord (layoutOf b) b) (inUse (layoutOf b) b)
   committed-says valid small =
-      subst (λ (r : ℕ). TrailerSays b (written b (commitWrites (layoutOf b) (numbering b) x)) r (slotWord (layoutOf b) b) (inUse (layoutOf b) b)) (committed-root small)
-      (root-changed b (written b (commitWrites (layoutOf b) (numbering b) x)) valid committed-length trailer-byte-kept)
+      subst (λ (r : ℕ). TrailerSays b (committed b x) r (slotWord (layoutOf b) b) (inUse (layoutOf b) b)) (committed-root small)
+      (root-changed b (committed b x) valid committed-length trailer-byte-kept)

@@ -12,7 +12,6 @@ use borrow.Author.Tests.{lt-ltb, le-ltb, eq-eqb, ne-eqb, ltb-true, ltb-false, eq
 use Rattle.cells.specs.Bytes.{IsBytes}
 use Rattle.cells.specs.Word.{withWord}
 use Rattle.cells.specs.Memory.{memoryOf}
-use Rattle.cells.specs.Writes.{written}
 use Rattle.cells.specs.Occurrences.{occurrences, select}
 use Rattle.cells.proofs.Memory.{memory-length, memory-bytes}
 use Rattle.nodes.specs.Layout.{Layout, keyLimit}
@@ -33,8 +32,8 @@ use Rattle.blocks.proofs.Refusals.{Exactly}
 use Rattle.blocks.proofs.Trailer.{sized, either-left, either-right, layout-cells, TrailerSays}
 use Rattle.blocks.proofs.Roots.{RootParts, root-parts, root-valid, root-cells, root-bound, sound-parts, root-reachable}
 use Rattle.store.specs.Free.{free}
-use Rattle.store.specs.Insert.{noRoom, insertRefusals, numbering, blockBuild, insert}
-use Rattle.store.specs.Committed.{commitWrites}
+use Rattle.store.specs.Insert.{noRoom, insertRefusals, blockBuild, insert}
+use Rattle.store.specs.Committed.{numbering, committed}
 use Rattle.store.proofs.CallAnswers.{insert-answers}
 use Rattle.store.proofs.Free.{free-usable, free-once, free-reached}
 use Rattle.store.proofs.After.{After, after, slotShown, not-trailer, slot-root, old-root-kept}
@@ -83,7 +82,7 @@ pub record Laid (b key : List ℕ) (value : ℕ) (count : ℕ) (b′ : List ℕ)
 
 -- the block that an insertion leaves where it is done
 abbrev pub leftBlock : List ℕ → List ℕ → ℕ → List ℕ
-leftBlock b key value = written b (commitWrites (layoutOf b) (numbering b) (blockBuild b key value))
+leftBlock b key value = committed b (blockBuild b key value)
 
 module _ (b key : List ℕ) (value : ℕ) (bytes : IsBytes b) (is-bytes : IsBytes key) (a : InsertAccepted b key value) where
   build-cells : Whole (blockBuild b key value .cells)

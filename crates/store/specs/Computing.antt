@@ -8,7 +8,7 @@ use Rattle.cells.specs.Occurrences.{occurrences, all, distinct, select}
 use Rattle.order_words.specs.Digits.{digits, encode}
 use Rattle.order_words.specs.Order.{eachOnce, place, validDigits, rising}
 use Rattle.order_words.specs.Extended.{withDigit, extendedOrder}
-use Rattle.nodes.specs.Layout.{trailerCells, usable, keyLimit}
+use Rattle.nodes.specs.Layout.{trailerCells, usable}
 use Rattle.nodes.specs.Pointer.{byKind, pointer, leafWord}
 use Rattle.nodes.specs.Chain.{chainChild}
 use Rattle.nodes.specs.Sparse.{someWord, everyWord, sparseDigits, validSparse, positionOf, childFrom}

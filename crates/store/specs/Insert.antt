@@ -5,15 +5,13 @@ use Prim.Native.Nat.{ℕ}
 use lib.Dec.{ltb, eqb}
 use lib.ListN.{length}
 use Rattle.cells.specs.Memory.{memoryOf}
-use Rattle.cells.specs.Writes.{written}
 use Rattle.updates.specs.Built.{Built}
 use Rattle.updates.specs.Build.{build, cellsNeeded}
-use Rattle.staging.specs.Numbering.{numberFrom}
 use Rattle.blocks.specs.Trailer.{layoutOf, rootWord}
 use Rattle.blocks.specs.Refusal.{Refusal, refusal, firstRefusal, Inserted, badNewKey, badValue}
 use Rattle.blocks.specs.Read.{blockRefusals}
 use Rattle.store.specs.Free.{free}
-use Rattle.store.specs.Committed.{commitWrites}
+use Rattle.store.specs.Committed.{numbering, committed}
 
 -- 01, answer 7: "the entry takes more cells than are free"
 abbrev pub noRoom : List ℕ → List ℕ → Bool
@@ -24,10 +22,6 @@ noRoom block key =
 abbrev pub insertRefusals : List ℕ → List ℕ → ℕ → List Refusal
 insertRefusals block key value =
     blockRefusals block ++ (refusal 3 (badNewKey key) ∷ refusal 4 (badValue value) ∷ refusal 7 (noRoom block key) ∷ [])
-
--- the cell numbers that an insertion into a block allocates, by place
-abbrev pub numbering : List ℕ → ℕ → ℕ
-numbering block = numberFrom (layoutOf block) (free (layoutOf block) block)
 
 -- the build of an insertion into a block
 unfoldable pub blockBuild : List ℕ → List ℕ → ℕ → Built
@@ -41,5 +35,5 @@ insert block key value =
     let answer = firstRefusal (insertRefusals block key value) in
     let b = blockBuild block key value in
     cond (eqb answer 0)
-    (record { answer = 0; count = length (b .cells); block = written block (commitWrites (layoutOf block) (numbering block) b) })
+    (record { answer = 0; count = length (b .cells); block = committed block b })
     (record { answer = answer; count = 0; block = block })

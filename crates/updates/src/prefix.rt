@@ -7,13 +7,11 @@ ghost use Rattle.nodes.specs.Coded.{heldOf};
 ghost use Rattle.staging.specs.NewCells.{prefixCell};
 ghost use Rattle.updates.specs.Built.{allocate};
 ghost use Rattle.updates.specs.Build.{putBack};
-ghost use Rattle.staging.specs.Numbering.{numberFrom};
+ghost use Rattle.staging.specs.Numbering.{numberFrom, Numbered};
 ghost use Rattle.staging.specs.Stage.{stageCells, staged};
-ghost use Rattle.staging.specs.Numbering.{Numbered};
 ghost use Rattle.updates.specs.Staged.{builtOf, leafMade, insertedAt, Fitting};
 use cells::cell;
 use cells::word_at;
-use nodes::layout::CELL_LIMIT;
 use nodes::layout::Layout;
 use nodes::pointer::Pointer;
 use nodes::pointer::leaf_word;
@@ -21,13 +19,14 @@ use nodes::pointer::pointer_of;
 use nodes::value::Value;
 use staging::new_cells::put_prefix;
 use staging::stage::Made;
+use staging::stage::STAGE_CELLS;
 use staging::stage::STAGE_SIZE;
 use staging::stage::allocated_as;
 
 // A value over a node, in a new cell.
 fn new_prefix(
     layout: Layout,
-    numbers: &[u16; CELL_LIMIT],
+    numbers: &[u16; STAGE_CELLS],
     free: usize,
     stage: &mut [u8; STAGE_SIZE],
     value: u32,
@@ -44,7 +43,7 @@ fn new_prefix(
 // A value that was set aside put back.
 pub fn put_back(
     layout: Layout,
-    numbers: &[u16; CELL_LIMIT],
+    numbers: &[u16; STAGE_CELLS],
     free: usize,
     stage: &mut [u8; STAGE_SIZE],
     held: Value,
@@ -78,7 +77,7 @@ fn leaf_alone(value: u32) -> Made
 pub fn at_end(
     layout: Layout,
     block: &[u8],
-    numbers: &[u16; CELL_LIMIT],
+    numbers: &[u16; STAGE_CELLS],
     free: usize,
     stage: &mut [u8; STAGE_SIZE],
     word: u32,
