@@ -1,8 +1,7 @@
 -- Each new cell is 32 bytes.
 use mathlib.Core.Path.{_≡_, _∙_}
 use mathlib.Core.Bool.{Bool, true, false, cond}
-use mathlib.Core.List.{List, [], _∷_}
-use mathlib.Core.Option.{Option, none, some}
+use mathlib.Core.List.{List}
 use native.Mathlib.Omega.{arith}
 use Prim.Native.Nat.{ℕ, zero, suc, _+_, _-_, _*_, _/_, _<_}
 use lib.Dec.{eqb, ltb}
@@ -10,9 +9,9 @@ use lib.ListN.{length, set, length-set}
 use Rattle.cells.specs.Bytes.{IsBytes}
 use Rattle.cells.specs.Word.{withWord}
 use Rattle.cells.specs.Memory.{Memory, memoryOf}
-use Rattle.cells.proofs.Words.{set-bytes, bytes-tail, zeros-length, bytes-zeros, length-withWord, remainder-byte, withWord-bytes}
+use Rattle.cells.proofs.Words.{set-bytes, zeros-length, bytes-zeros, length-withWord, remainder-byte, withWord-bytes}
 use Rattle.cells.proofs.Memory.{memory-length, memory-bytes}
-use Rattle.nodes.specs.Sparse.{someWord, sparseCount, positionOf}
+use Rattle.nodes.specs.Sparse.{sparseCount}
 use Rattle.staging.specs.NewCells.{blank, chainCell, prefixCell, pairCell, sparsePair, withoutCharacters, sparseCopy, withOrder, appendedCell, tableCopy, headCopy, withWords}
 
 -- 32 bytes

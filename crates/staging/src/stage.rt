@@ -7,12 +7,10 @@ ghost use Rattle.cells.specs.Memory.{memoryOf};
 ghost use Rattle.cells.specs.Writes.{written, cellWrites};
 ghost use Rattle.nodes.specs.Pointer.{wordTo};
 ghost use Rattle.staging.specs.NewCells.{blank};
-ghost use Rattle.staging.specs.Numbering.{numberFrom};
+ghost use Rattle.staging.specs.Numbering.{numberFrom, Numbered};
 ghost use Rattle.staging.specs.Stage.{stageCells, Put, allocated};
-ghost use Rattle.staging.specs.Numbering.{Numbered};
 use cells::put_word;
 use cells::word_at;
-use nodes::layout::CELL_LIMIT;
 use nodes::layout::KEY_LIMIT;
 use nodes::layout::Layout;
 
@@ -103,7 +101,7 @@ fn listed(numbers: &[u16], place: usize) -> u16
 }
 
 // The number of the cell that is allocated at a place: that of the free list, past its end the trailer's.
-pub fn number_at(layout: Layout, numbers: &[u16; CELL_LIMIT], free: usize, place: usize) -> u16
+pub fn number_at(layout: Layout, numbers: &[u16; STAGE_CELLS], free: usize, place: usize) -> u16
     requires { ⌜ Numbered layout free ⌝ }
     ensures { λ r. ⌜ r ≡ numberFrom layout (take free (now (numbers .entry))) place ⌝ }
 {
@@ -125,7 +123,7 @@ pub fn word_to(number: u16, kind: usize) -> u32
 // The word, the flag and the count after one more cell is allocated, with a node of a kind in it.
 pub fn allocated_as(
     layout: Layout,
-    numbers: &[u16; CELL_LIMIT],
+    numbers: &[u16; STAGE_CELLS],
     free: usize,
     kind: usize,
     count: usize,

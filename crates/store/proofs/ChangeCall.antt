@@ -11,7 +11,6 @@ use lib.ListN.{length}
 use Rattle.cells.specs.Bytes.{IsBytes}
 use Rattle.cells.specs.Word.{withWord}
 use Rattle.cells.specs.Memory.{Memory, memoryOf}
-use Rattle.cells.specs.Writes.{written}
 use Rattle.cells.specs.Occurrences.{occurrences, select}
 use Rattle.nodes.specs.Layout.{Layout, usable, keyLimit}
 use Rattle.nodes.proofs.Usable.{not-last}
@@ -27,7 +26,8 @@ use Rattle.blocks.specs.Read.{shown}
 use Rattle.blocks.proofs.Trailer.{sized, layout-cells, TrailerSays}
 use Rattle.blocks.proofs.Roots.{RootParts, root-parts, root-valid, root-cells, root-bound, sound-parts}
 use Rattle.store.specs.Free.{free}
-use Rattle.store.specs.Insert.{cellsFree, numbering, insertWrites}
+use Rattle.store.specs.Insert.{cellsFree}
+use Rattle.store.specs.Committed.{numbering, committed}
 use Rattle.store.specs.Laid.{rootReaches, Laid}
 use Rattle.blocks.proofs.After.{After, after, slotShown, slot-root, old-root-kept}
 use Rattle.store.proofs.Committed.{committed-bytes, committed-cells, committed-trailer, committed-kept, committed-says}
@@ -45,46 +45,42 @@ pub record Change (b key : List ℕ) (x : Built) (given : Option ℕ) : Type 0 w
       → (p : RootParts (layoutOf b) (memoryOf b) (rootWord (layoutOf b) b))
       → KeyChanged (layoutOf b) (free (layoutOf b) b) (memoryOf b) m′ keyLimit (rootWord (layoutOf b) b) (p .cells) key given x
 
--- the block that a build leaves where it is committed
-abbrev pub changedBlock : List ℕ → Built → List ℕ
-changedBlock b x = written b (insertWrites b x)
-
 module _ (b key : List ℕ) (x : Built) (given : Option ℕ) (bytes : IsBytes b) (change : Change b key x given) where
   record NewRoot : Type 0 where
     cells : List ℕ
-    valid : validRoot (layoutOf b) (memoryOf (changedBlock b x)) (x .word) ≡ true
+    valid : validRoot (layoutOf b) (memoryOf (committed b x)) (x .word) ≡ true
     small : x .word < 4294967296
-    table : (k : List ℕ) → lookup (layoutOf b) (memoryOf (changedBlock b x)) (x .word) k ≡ assign (shown b) key given k
-    cells-are : rootCells (layoutOf b) (memoryOf (changedBlock b x)) (x .word) ≡ cells
+    table : (k : List ℕ) → lookup (layoutOf b) (memoryOf (committed b x)) (x .word) k ≡ assign (shown b) key given k
+    cells-are : rootCells (layoutOf b) (memoryOf (committed b x)) (x .word) ≡ cells
     count : length (select (λ c. leb 1 (occurrences c cells)) (free (layoutOf b) b)) ≡ length (x .cells)
 
   new-root : NewRoot
   new-root =
       let s = sized b (change .size) in
       let p = root-parts (layoutOf b) (memoryOf b) (rootWord (layoutOf b) b) (sound-parts (layoutOf b) b (change .valid) .root) in
-      let n = change .law (memoryOf (changedBlock b x)) (λ c u. committed-cells b s x (change .whole) (change .enough) c (not-last (layoutOf b) c u)) p in
+      let n = change .law (memoryOf (committed b x)) (λ c u. committed-cells b s x (change .whole) (change .enough) c (not-last (layoutOf b) c u)) p in
       let r = n .root (change .some-key) (p .root) in
       record {
         cells = n .cells;
-        valid = root-valid (layoutOf b) (memoryOf (changedBlock b x)) (x .word) (n .cells) r (n .valid) (n .once (p .once));
+        valid = root-valid (layoutOf b) (memoryOf (committed b x)) (x .word) (n .cells) r (n .valid) (n .once (p .once));
         small = root-bound (layoutOf b) (x .word) (s .most) r;
         table = n .table;
-        cells-are = root-cells (layoutOf b) (memoryOf (changedBlock b x)) (x .word) (n .cells) r (n .valid);
+        cells-are = root-cells (layoutOf b) (memoryOf (committed b x)) (x .word) (n .cells) r (n .valid);
         count = n .count;
       }
 
-  trailer-says : TrailerSays b (changedBlock b x) (x .word) (slotWord (layoutOf b) b) (inUse (layoutOf b) b)
+  trailer-says : TrailerSays b (committed b x) (x .word) (slotWord (layoutOf b) b) (inUse (layoutOf b) b)
   trailer-says =
       committed-says b (sized b (change .size)) x (change .whole) (change .enough) (sound-parts (layoutOf b) b (change .valid) .trailer) (new-root .small)
 
   -- the block left is sound again, and shows what it did with the key's new assignment; every slot shows what it did
-  pub change-after : After b (changedBlock b x) (assign (shown b) key given) (inUse (layoutOf b) b) (slotShown b)
+  pub change-after : After b (committed b x) (assign (shown b) key given) (inUse (layoutOf b) b) (slotShown b)
   change-after =
       let s = sized b (change .size) in
       let p = sound-parts (layoutOf b) b (change .valid) in
       let kept = committed-kept b s x (change .whole) (change .enough) p in
-      let keeps = old-root-kept b p s bytes (changedBlock b x) kept in
-      after b (changedBlock b x) (change .size) (x .word) (slotWord (layoutOf b) b) (inUse (layoutOf b) b) trailer-says
+      let keeps = old-root-kept b p s bytes (committed b x) kept in
+      after b (committed b x) (change .size) (x .word) (slotWord (layoutOf b) b) (inUse (layoutOf b) b) trailer-says
       (committed-bytes b s x (change .whole) (change .enough) bytes)
       (assign (shown b) key given) (slotShown b) (new-root .valid) (new-root .table)
       (λ slot is-slot on. keeps (slotWord (layoutOf b) b slot) (slot-root b p slot is-slot on) .valid)
@@ -92,17 +88,17 @@ module _ (b key : List ℕ) (x : Built) (given : Option ℕ) (bytes : IsBytes b)
       kept
 
   -- and its cells are those laid down
-  pub change-laid : Laid b key x (length (x .cells)) (changedBlock b x)
+  pub change-laid : Laid b key x (length (x .cells)) (committed b x)
   change-laid =
       let s = sized b (change .size) in
       let n : layoutOf b .cells ≡ length b / 32 = layout-cells b in
-      let reached : rootReaches (changedBlock b x) ≡ new-root .cells =
-      subst (λ (l : Layout). rootCells l (memoryOf (changedBlock b x)) (rootWord l (changedBlock b x)) ≡ new-root .cells) (sym (trailer-says .layout))
-      (ap (rootCells (layoutOf b) (memoryOf (changedBlock b x))) (trailer-says .root-is) ∙ new-root .cells-are) in
+      let reached : rootReaches (committed b x) ≡ new-root .cells =
+      subst (λ (l : Layout). rootCells l (memoryOf (committed b x)) (rootWord l (committed b x)) ≡ new-root .cells) (sym (trailer-says .layout))
+      (ap (rootCells (layoutOf b) (memoryOf (committed b x))) (trailer-says .root-is) ∙ new-root .cells-are) in
       record {
-        cells = subst (λ (k : ℕ). (c : ℕ) → c ≢ k - 1 → memoryOf (changedBlock b x) c ≡ memoryWith (numbering b) (memoryOf b) (x .cells) c) n
+        cells = subst (λ (k : ℕ). (c : ℕ) → c ≢ k - 1 → memoryOf (committed b x) c ≡ memoryWith (numbering b) (memoryOf b) (x .cells) c) n
             (committed-cells b s x (change .whole) (change .enough));
-        trailer = subst (λ (k : ℕ). memoryOf (changedBlock b x) (k - 1) ≡ withWord (memoryOf b (k - 1)) 0 (x .word)) n
+        trailer = subst (λ (k : ℕ). memoryOf (committed b x) (k - 1) ≡ withWord (memoryOf b (k - 1)) 0 (x .word)) n
             (committed-trailer b s x (change .whole) (change .enough));
         counted = refl;
         newly = sym (ap (λ (l : List ℕ). length (select (λ c. leb 1 (occurrences c l)) (free (layoutOf b) b))) reached ∙ new-root .count);

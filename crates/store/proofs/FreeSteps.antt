@@ -8,15 +8,19 @@ use native.Mathlib.Numerals.{add-one}
 use native.Mathlib.Omega.{arith}
 use lib.Dec.{eqb}
 use lib.ListN.{length, getD, set, take, length-set}
-use lib.Seq.{take-suc-set, length-take-le}
+use lib.Seq.{take-suc-set, take-all, take-append-le, length-take-le}
 use borrow.Author.Tests.{eq-eqb, ne-eqb}
 use Rattle.cells.specs.Occurrences.{occurrences, select}
+use Rattle.cells.proofs.Choice.{absurd-bool}
+use Rattle.staging.specs.Stage.{stageCells}
 use Rattle.nodes.specs.Layout.{Layout, trailerCells, cellLimit}
 use Rattle.blocks.specs.Sound.{reachable}
-use Rattle.blocks.specs.Stamps.{Stamped}
+use Rattle.blocks.specs.Fits.{Fits}
+use Rattle.blocks.specs.Stamps.{Stamped, Validated}
 use Rattle.blocks.specs.Trailer.{rootWord}
 use Rattle.store.specs.Free.{countUp, allocationOrder, free}
 use Rattle.store.specs.Unstamped.{unstamped, Listed}
+use Rattle.store.specs.Changeable.{Judged}
 use Rattle.store.proofs.Free.{select-kept, select-dropped}
 
 -- the trailer is one cell
@@ -66,26 +70,39 @@ module _ (test : ℕ → Bool) (goal : List ℕ) where
       (sym (ap (select test) (count-up-more left more cell e) ∙ select-dropped test cell (countUp more (cell + 1)) fails))
       ∙ so-far
 
-  -- nothing left
-  pub walk-end : (numbers : List ℕ) (count left cell : ℕ) → Walked numbers count left cell → left ≡ 0 → count ≤ length numbers → Listed numbers count goal
-  unfolding countUp select
-  walk-end numbers count left cell so-far e inside =
-      let are : take count numbers ≡ goal =
-      sym (append-nil (take count numbers)) ∙ ap (λ (n : ℕ). take count numbers ++ select test (countUp n cell)) (sym e) ∙ so-far in
-      record { are = are; many = sym (length-take-le count numbers inside) ∙ ap (λ (l : List ℕ). length l) are }
+  -- nothing left, or as many listed as are asked for: these are the first so many that pass
+  module _ (limit : ℕ) (numbers : List ℕ) (count left cell : ℕ) (so-far : Walked numbers count left cell) (inside : count ≤ length numbers) where
+    listed-as : take limit goal ≡ take count numbers → Listed numbers count (take limit goal)
+    listed-as first =
+        record { are = sym first; many = sym (length-take-le count numbers inside) ∙ ap (λ (l : List ℕ). length l) (sym first) }
+
+    pub walk-end : left ≡ 0 → count ≤ limit → Listed numbers count (take limit goal)
+    unfolding countUp select
+    walk-end e within =
+        let are : goal ≡ take count numbers =
+        sym so-far ∙ ap (λ (n : ℕ). take count numbers ++ select test (countUp n cell)) e ∙ append-nil (take count numbers) in
+        listed-as
+        (ap (take limit) are ∙ take-all limit (take count numbers) (omega (arith, within, length-take-le count numbers inside)))
+
+    pub walk-full : count ≡ limit → Listed numbers count (take limit goal)
+    walk-full full =
+        let all : length (take count numbers) ≡ limit = length-take-le count numbers inside ∙ full in
+        listed-as
+        (ap (take limit) (sym so-far) ∙ take-append-le limit (take count numbers) (select test (countUp left cell)) (omega (arith, all))
+        ∙ take-all limit (take count numbers) (omega (arith, all)))
 
 -- nothing listed yet
 pub walk-start : (test : ℕ → Bool) (numbers : List ℕ) (left : ℕ) → Walked test (select test (countUp left 1)) numbers 0 left 1
 walk-start test numbers left = refl
 
--- all usable cells looked at
-pub walk-done : (layout : Layout) (root : ℕ) (stamps numbers : List ℕ) (trailer end count : ℕ)
-    → Listed numbers count (select (unmarked stamps) (countUp (end - 1) 1)) → trailer ≡ trailerCells layout → end ≡ layout .cells - trailer
-    → Listed numbers count (unstamped layout root stamps)
+-- the cells walked are the usable ones
+pub walk-done : (layout : Layout) (root limit : ℕ) (stamps numbers : List ℕ) (trailer end count : ℕ)
+    → Listed numbers count (take limit (select (unmarked stamps) (countUp (end - 1) 1))) → trailer ≡ trailerCells layout → end ≡ layout .cells - trailer
+    → Listed numbers count (take limit (unstamped layout root stamps))
 unfolding unstamped allocationOrder
-walk-done layout root stamps numbers trailer end count listed one at =
+walk-done layout root limit stamps numbers trailer end count listed one at =
     let usable : end - 1 ≡ layout .cells - 1 - trailerCells layout = omega (arith, one, at) in
-    subst (λ (n : ℕ). Listed numbers count (select (unmarked stamps) (countUp n 1))) usable listed
+    subst (λ (n : ℕ). Listed numbers count (take limit (select (unmarked stamps) (countUp n 1)))) usable listed
 
 -- tests that agree on the numbers of a list select the same
 select-alike : (test test′ : ℕ → Bool) (count from : ℕ) → ((c : ℕ) → c < from + count → test c ≡ test′ c)
@@ -108,17 +125,19 @@ unstamped-free layout block stamps most least told =
       | no n ↦ ne-eqb (getD stamps c 0) 0 n ∙ sym (ne-eqb _ 0 (λ e. n (told .unreached c near e)))
     ]
 
--- there are no more of them than cells
-select-most : (test : ℕ → Bool) (count from : ℕ) → length (select test (countUp count from)) ≤ count
-unfolding countUp
-select-most test zero from = unfold select in omega arith
-select-most test (suc count) from = go (test from) refl (select-most test count (from + 1))
-  where
-    go : (t : Bool) → test from ≡ t → length (select test (countUp count (from + 1))) ≤ count
-        → length (select test (from ∷ countUp count (from + 1))) ≤ suc count
-    go true e later = omega (arith, later, ap (λ (l : List ℕ). length l) (select-kept test from (countUp count (from + 1)) e))
-    go false e later = omega (arith, later, ap (λ (l : List ℕ). length l) (select-dropped test from (countUp count (from + 1)) e))
+-- a block judged, and its free cells listed
+pub judged-listed : (layout : Layout) (block stamps numbers : List ℕ) (passed : Bool) (root count : ℕ) → Fits layout (length block)
+    → Validated layout block stamps passed → passed ≡ true → root ≡ rootWord layout block
+    → Listed numbers count (take stageCells (unstamped layout root stamps)) → Judged layout block numbers true count
+judged-listed layout block stamps numbers passed root count f validated yes-sound root-is listed =
+    let same : unstamped layout root stamps ≡ free layout block =
+    ap (λ (r : ℕ). unstamped layout r stamps) root-is ∙ unstamped-free layout block stamps (f .most) (omega (arith, f .least)) (validated .stamped yes-sound) in
+    record {
+      verdict = sym yes-sound ∙ validated .verdict;
+      listed = λ _. subst (λ (l : List ℕ). Listed numbers count (take stageCells l)) same listed;
+    }
 
-pub unstamped-most : (layout : Layout) (root : ℕ) (stamps : List ℕ) → length (unstamped layout root stamps) ≤ layout .cells
-unfolding unstamped allocationOrder
-unstamped-most layout root stamps = omega (arith, select-most (unmarked stamps) (layout .cells - 1 - trailerCells layout) 1)
+pub judged-unsound : (layout : Layout) (block stamps numbers : List ℕ) (passed : Bool) → Validated layout block stamps passed → passed ≡ false
+    → Judged layout block numbers false 0
+judged-unsound layout block stamps numbers passed validated not-sound =
+    record { verdict = sym not-sound ∙ validated .verdict; listed = λ e. absurd-bool (sym e) }

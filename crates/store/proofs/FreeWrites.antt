@@ -1,4 +1,4 @@
--- The writes of an insertion before its last, the root word, touch only cells that were free.
+-- The writes of a commit before its last, the root word, touch only cells that were free.
 use mathlib.Core.List.{List, [], _∷_, _++_}
 use Prim.Native.Nat.{ℕ, zero, suc, _+_, _*_, _/_, _≤_}
 use native.Mathlib.Omega.{arith}
@@ -12,7 +12,7 @@ use Rattle.updates.proofs.Claims.{numbers}
 use Rattle.updates.proofs.Commit.{numbers-free}
 use Rattle.blocks.specs.Trailer.{layoutOf}
 use Rattle.store.specs.Free.{free}
-use Rattle.store.specs.Insert.{numbering, blockBuild}
+use Rattle.store.specs.Committed.{numbering}
 
 -- every write is into a cell of a list
 abbrev pub WritesInto : List ℕ → List Write → Type 0
@@ -39,9 +39,9 @@ into-build cells number (newest ∷ rest) within =
     (into-build cells number rest (λ c h. within c (omega (arith, h, occurrences-later c (number (length rest)) (numbers number rest)))))
     (into-words cells (number (length rest)) newest 8 0 (omega arith) (within (number (length rest)) (occurrences-here (number (length rest)) (numbers number rest))))
 
--- an insertion that fits writes its cells into free ones
-pub writes-free : (b key : List ℕ) (value : ℕ) → length (blockBuild b key value .cells) ≤ length (free (layoutOf b) b)
-    → WritesInto (free (layoutOf b) b) (buildWrites (numbering b) (blockBuild b key value .cells))
-writes-free b key value enough =
-    into-build (free (layoutOf b) b) (numbering b) (blockBuild b key value .cells)
-    (λ c h. omega (arith, h, numbers-free (layoutOf b) (free (layoutOf b) b) (blockBuild b key value .cells) enough c))
+-- a build that fits is written into free cells
+pub writes-free : (b : List ℕ) (cells : List (List ℕ)) → length cells ≤ length (free (layoutOf b) b)
+    → WritesInto (free (layoutOf b) b) (buildWrites (numbering b) cells)
+writes-free b cells enough =
+    into-build (free (layoutOf b) b) (numbering b) cells
+    (λ c h. omega (arith, h, numbers-free (layoutOf b) (free (layoutOf b) b) cells enough c))

@@ -29,12 +29,13 @@ use Rattle.blocks.specs.Tables.{Exactly}
 use Rattle.blocks.proofs.Trailer.{sized, either-left, either-right}
 use Rattle.blocks.proofs.Roots.{root-reachable}
 use Rattle.store.specs.Free.{free}
-use Rattle.store.specs.Insert.{cellsToInsert, noRoom, insertRefusals, numbering, blockBuild, insert}
+use Rattle.store.specs.Insert.{cellsToInsert, noRoom, insertRefusals, blockBuild, insert}
+use Rattle.store.specs.Committed.{numbering, committed}
 use Rattle.store.specs.Laid.{Laid, Lacks, Finds, MayInsert}
 use Rattle.store.proofs.CallAnswers.{insert-answers}
 use Rattle.store.proofs.Free.{free-usable, free-once, free-reached}
 use Rattle.blocks.proofs.After.{After, slotShown}
-use Rattle.store.proofs.ChangeCall.{Change, changedBlock, change-after, change-laid}
+use Rattle.store.proofs.ChangeCall.{Change, change-after, change-laid}
 
 -- a new key has 1 to as many bytes as the limit, and a value fits
 pub key-some : (key : List ℕ) → badNewKey key ≡ false → 1 ≤ length key
@@ -79,7 +80,7 @@ module _ (b key : List ℕ) (value : ℕ) where
 
   -- the answer is the first refusal's number; the block and the count are told by it
   pub insert-done : firstRefusal (insertRefusals b key value) ≡ 0
-      → insert b key value ≡ record { answer = 0; count = length (blockBuild b key value .cells); block = changedBlock b (blockBuild b key value) }
+      → insert b key value ≡ record { answer = 0; count = length (blockBuild b key value .cells); block = committed b (blockBuild b key value) }
   unfolding insert
   insert-done e = rw (eq-eqb (firstRefusal (insertRefusals b key value)) 0 e)
 

@@ -9,12 +9,11 @@ use borrow.Author.Tests.{lt-ltb, le-ltb}
 use Rattle.nodes.specs.Layout.{Layout}
 use Rattle.blocks.specs.Trailer.{badSize, layoutOf}
 use Rattle.blocks.specs.Sound.{soundWith, sound}
-use Rattle.blocks.specs.Stamps.{Validated}
 use Rattle.blocks.specs.Refusal.{badKey, badNewKey, badValue, Inserted}
 use Rattle.store.specs.Insert.{insert}
-use Rattle.store.specs.Insertable.{Insertable}
+use Rattle.store.specs.Changeable.{Judged, Changeable}
 use Rattle.store.proofs.CallAnswers.{insert-answers}
-use Rattle.store.proofs.InsertCall.{insert-number, insert-answer, insert-refused, insert-refused-count}
+use Rattle.store.proofs.InsertCall.{key-fits, insert-number, insert-answer, insert-refused, insert-refused-count}
 
 -- an insertion that is refused: the number, a zero and the block as it was
 abbrev pub refusedInsert : ℕ → List ℕ → Inserted
@@ -30,9 +29,9 @@ module _ (b key : List ℕ) (value : ℕ) where
   insert-size bad = refused-as 1 (insert-number b key value ∙ insert-answers b key value .0 .given (tt, bad)) (λ e. omega arith)
 
   module _ (size : badSize b ≡ false) where
-    module _ (layout : Layout) (stamps : List ℕ) (passed : Bool) (stated : layout ≡ layoutOf b) (validated : Validated layout b stamps passed) where
+    module _ (layout : Layout) (numbers : List ℕ) (passed : Bool) (count : ℕ) (stated : layout ≡ layoutOf b) (judged : Judged layout b numbers passed count) where
       told : sound b ≡ passed
-      told = sym (validated .verdict ∙ ap (λ (l : Layout). soundWith l b) stated)
+      told = sym (judged .verdict ∙ ap (λ (l : Layout). soundWith l b) stated)
 
       pub insert-unsound : passed ≡ false → insert b key value ≡ refusedInsert 2 b
       insert-unsound f =
@@ -50,14 +49,10 @@ module _ (b key : List ℕ) (value : ℕ) where
           insert-value over = refused-as 4 (insert-answer b key value size (told ∙ t) ∙ rw (good, lt-ltb 2147483647 value over)) (λ e. omega arith)
 
           -- none of these applies
-          pub is-insertable : value ≤ 2147483647 → Insertable layout b stamps key value
+          pub insert-asks : value ≤ 2147483647 → Changeable layout b numbers count key × (badNewKey key ≡ false) × (badValue value ≡ false)
           unfolding badNewKey badValue
-          is-insertable within =
-              record {
-                stated = stated;
-                size = size;
-                valid = told ∙ t;
-                stamped = validated .stamped t;
-                good-key = good;
-                good-value = le-ltb 2147483647 value within;
-              }
+          insert-asks within = (
+            record { stated = stated; size = size; valid = told ∙ t; listed = judged .listed t; short = key-fits key good },
+            good,
+            le-ltb 2147483647 value within,
+          )

@@ -12,6 +12,7 @@ pub mod SnapshotSteps
 pub mod FreeSteps
 pub mod CommitSteps
 pub mod InsertRefused
+pub mod ChangeCode
 pub mod InsertCode
 pub mod FreeWrites
 pub mod WriteCalls

@@ -5,15 +5,13 @@ use Prim.Native.Nat.{ℕ}
 use lib.Dec.{ltb, eqb}
 use lib.ListN.{length}
 use Rattle.cells.specs.Memory.{memoryOf}
-use Rattle.cells.specs.Writes.{Write, written}
 use Rattle.updates.specs.Built.{Built}
 use Rattle.updates.specs.Build.{build, cellsNeeded}
-use Rattle.staging.specs.Numbering.{numberFrom}
-use Rattle.updates.specs.Commit.{buildWrites}
-use Rattle.blocks.specs.Trailer.{layoutOf, trailerAt, rootWord}
+use Rattle.blocks.specs.Trailer.{layoutOf, rootWord}
 use Rattle.blocks.specs.Refusal.{Refusal, refusal, firstRefusal, Inserted, badNewKey, badValue}
 use Rattle.blocks.specs.Read.{blockRefusals}
 use Rattle.store.specs.Free.{free}
+use Rattle.store.specs.Committed.{numbering, committed}
 
 -- how many cells are free in a block, and how many an insertion into it takes
 abbrev pub cellsFree : List ℕ → ℕ
@@ -30,20 +28,11 @@ abbrev pub insertRefusals : List ℕ → List ℕ → ℕ → List Refusal
 insertRefusals block key value =
     blockRefusals block ++ (refusal 3 (badNewKey key) ∷ refusal 4 (badValue value) ∷ refusal 7 (noRoom block key) ∷ [])
 
--- the cell numbers that an insertion into a block allocates, by place
-abbrev pub numbering : List ℕ → ℕ → ℕ
-numbering block = numberFrom (layoutOf block) (free (layoutOf block) block)
-
 -- the build of an insertion into a block
 unfoldable pub blockBuild : List ℕ → List ℕ → ℕ → Built
 blockBuild block key value =
     let layout = layoutOf block in
     build layout (numbering block) (memoryOf block) (rootWord layout block) key value
-
--- the cells in the order allocated, eight words each in rising position, then the root word; 01: "The root word is then set."
-unfoldable pub insertWrites : List ℕ → Built → List Write
-insertWrites block b =
-    buildWrites (numbering block) (b .cells) ++ (record { at = trailerAt (layoutOf block); word = b .word } ∷ [])
 
 -- 01: "The answer counts the cells taken."
 unfoldable pub insert : List ℕ → List ℕ → ℕ → Inserted
@@ -51,5 +40,5 @@ insert block key value =
     let answer = firstRefusal (insertRefusals block key value) in
     let b = blockBuild block key value in
     cond (eqb answer 0)
-    (record { answer = 0; count = length (b .cells); block = written block (insertWrites block b) })
+    (record { answer = 0; count = length (b .cells); block = committed block b })
     (record { answer = answer; count = 0; block = block })

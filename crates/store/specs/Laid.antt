@@ -17,7 +17,8 @@ use Rattle.blocks.specs.Trailer.{badSize, layoutOf, rootWord}
 use Rattle.blocks.specs.Sound.{sound}
 use Rattle.blocks.specs.Refusal.{badNewKey, badValue}
 use Rattle.store.specs.Free.{free}
-use Rattle.store.specs.Insert.{cellsFree, numbering}
+use Rattle.store.specs.Insert.{cellsFree}
+use Rattle.store.specs.Committed.{numbering}
 
 -- the cells that a block's root reaches
 abbrev pub rootReaches : List ℕ → List ℕ

@@ -7,4 +7,4 @@ pub mod Computing
 pub mod Examples
 pub mod Unstamped
 pub mod Committed
-pub mod Insertable
+pub mod Changeable

@@ -1,12 +1,24 @@
-// The cells that an insertion may allocate.
+// The cells that a change of a block may allocate.
 ghost use mathlib.Core.Path.{_≡_};
 ghost use Prim.Native.Nat.{_≤_, _<_};
-ghost use lib.ListN.{length, set};
-ghost use Rattle.store.specs.Unstamped.{unstamped, Listed};
+ghost use lib.ListN.{length, set, take};
 ghost use Rattle.nodes.specs.Layout.{cellLimit};
+ghost use Rattle.staging.specs.Stage.{stageCells};
+ghost use Rattle.blocks.specs.Fits.{Fits};
+ghost use Rattle.store.specs.Unstamped.{unstamped, Listed};
+ghost use Rattle.store.specs.Changeable.{Judged};
+use blocks::trailer_fields::root_word;
+use blocks::validate::is_sound;
 use nodes::layout::CELL_LIMIT;
 use nodes::layout::Layout;
 use nodes::layout::trailer_cells;
+use staging::stage::STAGE_CELLS;
+
+// Whether a block is sound, and how many of its free cells are listed.
+pub struct FreeList {
+    pub sound: bool,
+    pub count: usize,
+}
 
 // Writes an element of a list of numbers.
 fn put_number(numbers: &mut [u16], place: usize, number: u16)
@@ -16,21 +28,25 @@ fn put_number(numbers: &mut [u16], place: usize, number: u16)
     numbers[place] = number;
 }
 
-// Lists the usable cells without a stamp in the order in which they are allocated, and tells how many they are.
-pub fn free_cells(
+// Lists the usable cells without a stamp in the order in which they are allocated, up to as many as a build can take, and
+// tells how many are listed.
+fn free_cells(
     layout: Layout,
     root: u32,
     stamps: &[u8; CELL_LIMIT],
-    numbers: &mut [u16; CELL_LIMIT],
+    numbers: &mut [u16; STAGE_CELLS],
 ) -> usize
     requires { ⌜ (1 ≤ layout .cells) × (layout .cells ≤ cellLimit) ⌝ }
-    ensures { λ r. ⌜ Listed (now (numbers .exit)) r (unstamped layout root (now (stamps .entry))) ⌝ }
+    ensures { λ r. ⌜ Listed (now (numbers .exit)) r (take stageCells (unstamped layout root (now (stamps .entry)))) ⌝ }
 {
     let cells = layout.cells;
     let end = cells - trailer_cells(layout);
     let mut count: usize = 0;
     let mut cell: usize = 1;
     while cell < end {
+        if count == STAGE_CELLS {
+            return count;
+        }
         if stamps[cell] == 0 {
             put_number(numbers, count, cell as u16);
             count += 1;
@@ -38,4 +54,21 @@ pub fn free_cells(
         cell += 1;
     }
     count
+}
+
+// Judges a block and lists its free cells; the stamps are not needed any longer then.
+pub fn free_list(layout: Layout, block: &[u8], numbers: &mut [u16; STAGE_CELLS]) -> FreeList
+    requires { ⌜ Fits layout (length (now block)) ⌝ }
+    ensures { λ r. ⌜ Judged layout (now (block .entry)) (now (numbers .exit)) (r .sound) (r .count) ⌝ }
+{
+    let mut stamps = [0u8; CELL_LIMIT];
+    if !is_sound(layout, block, &mut stamps) {
+        return FreeList {
+            sound: false,
+            count: 0,
+        };
+    }
+    let root = root_word(layout, block);
+    let count = free_cells(layout, root, &stamps, numbers);
+    FreeList { sound: true, count }
 }

@@ -1,90 +1,69 @@
 // Insertion of a pair into a block.
 ghost use mathlib.Core.Path.{_≡_};
-ghost use Prim.Native.Nat.{_≤_};
-ghost use lib.ListN.{length, getD};
-ghost use Rattle.cells.specs.Writes.{written};
-ghost use Rattle.updates.specs.Commit.{buildWrites};
-ghost use Rattle.staging.specs.Stage.{stageCells, staged};
-ghost use Rattle.updates.specs.Staged.{builtOf};
+ghost use mathlib.Core.Bool.{false};
 ghost use Rattle.blocks.specs.Answers.{insertedOutcome};
-ghost use Rattle.blocks.specs.Fits.{Fits};
-ghost use Rattle.store.specs.Committed.{Inside, commitWrites};
-ghost use Rattle.store.specs.Insert.{insert};
-ghost use Rattle.store.specs.Insertable.{Insertable};
-use crate::free_cells::free_cells;
+ghost use Rattle.blocks.specs.Refusal.{badNewKey, badValue};
+ghost use Rattle.store.specs.Insert.{blockBuild, insert};
+ghost use Rattle.store.specs.Changeable.{Changeable, InStage};
+use crate::committing::commit;
+use crate::free_cells::free_list;
 use blocks::answer::InsertAnswer;
 use blocks::answer::Refusal;
 use blocks::key::is_bad_key;
 use blocks::trailer_fields::is_bad_size;
 use blocks::trailer_fields::layout_of;
 use blocks::trailer_fields::root_word;
-use blocks::trailer_fields::trailer_at;
-use blocks::validate::is_sound;
-use cells::put_word;
-use nodes::layout::CELL_LIMIT;
 use nodes::layout::Layout;
 use staging::stage::Made;
+use staging::stage::STAGE_CELLS;
 use staging::stage::STAGE_SIZE;
-use staging::stage::copy_cell;
 use updates::build::build;
 
-// Writes the staged cells, in the order allocated, into the block at their numbers.
-fn commit_cells(
-    block: &mut [u8],
-    stage: &[u8; STAGE_SIZE],
-    numbers: &[u16; CELL_LIMIT],
-    count: usize,
-)
-    requires { ⌜ (count ≤ stageCells) × Inside (now numbers) count (length (now block)) ⌝ }
-    ensures { λ _. ⌜ now (block .exit) ≡ written (now (block .entry)) (buildWrites (λ i. getD (now (numbers .entry)) i 0) (staged (now (stage .entry)) count)) ⌝ }
-{
-    let mut i: usize = 0;
-    while i < count {
-        let number = numbers[i] as usize;
-        copy_cell(block, number, stage, i);
-        i += 1;
-    }
+// What is built in the stage, and whether as many cells are free.
+pub struct Staged {
+    pub made: Made,
+    pub fits: bool,
 }
 
-// Writes a build into the block: its cells, and then the root word.
-fn commit(
+// Builds an insertion in the stage; the block is only read.
+pub fn stage_insertion(
     layout: Layout,
-    block: &mut [u8],
-    stage: &[u8; STAGE_SIZE],
-    numbers: &[u16; CELL_LIMIT],
-    made: Made,
-)
-    requires { ⌜ Fits layout (length (now block)) × (made .count ≤ stageCells) × Inside (now numbers) (made .count) (length (now block)) ⌝ }
-    ensures { λ _. ⌜ now (block .exit) ≡ written (now (block .entry)) (commitWrites layout (λ i. getD (now (numbers .entry)) i 0) (builtOf made (now (stage .entry)))) ⌝ }
+    block: &[u8],
+    numbers: &[u16; STAGE_CELLS],
+    free: usize,
+    stage: &mut [u8; STAGE_SIZE],
+    key: &[u8],
+    value: u32,
+) -> Staged
+    requires { ⌜ Changeable layout (now block) (now numbers) free (now key) ⌝ }
+    ensures { λ r. ⌜ InStage layout (now (block .entry)) (blockBuild (now (block .entry)) (now (key .entry)) value) (r .made) (now (stage .exit)) (r .fits) ⌝ }
 {
-    let count = made.count;
-    let word = made.word;
-    let at = trailer_at(layout);
-    commit_cells(block, stage, numbers, count);
-    put_word(block, at, word);
+    let root = root_word(layout, block);
+    let made = build(layout, block, numbers, free, stage, key, root, value);
+    let fits = made.count <= free;
+    Staged { made, fits }
 }
 
 // Inserts a valid pair into a sound block, if enough cells are free.
 fn insert_valid(
     layout: Layout,
     block: &mut [u8],
-    stamps: &[u8; CELL_LIMIT],
+    numbers: &[u16; STAGE_CELLS],
+    free: usize,
     key: &[u8],
     value: u32,
 ) -> InsertAnswer
-    requires { ⌜ Insertable layout (now block) (now stamps) (now key) value ⌝ }
+    requires { ⌜ Changeable layout (now block) (now numbers) free (now key) × (badNewKey (now key) ≡ false) × (badValue value ≡ false) ⌝ }
     ensures { λ r. ⌜ insert (now (block .entry)) (now (key .entry)) value ≡ insertedOutcome r (now (block .exit)) ⌝ }
 {
-    let root = root_word(layout, block);
-    let mut numbers = [0u16; CELL_LIMIT];
-    let free = free_cells(layout, root, stamps, &mut numbers);
     let mut stage = [0u8; STAGE_SIZE];
-    let made = build(layout, block, &numbers, free, &mut stage, key, root, value);
-    let count = made.count;
-    if free < count {
+    let staged = stage_insertion(layout, block, numbers, free, &mut stage, key, value);
+    if !staged.fits {
         return InsertAnswer::Refused(Refusal::NoRoom);
     }
-    commit(layout, block, &stage, &numbers, made);
+    let made = staged.made;
+    let count = made.count;
+    commit(layout, block, &stage, numbers, made);
     InsertAnswer::Done(count as u32)
 }
 
@@ -96,8 +75,9 @@ pub fn insert(block: &mut [u8], key: &[u8], value: u32) -> InsertAnswer
         return InsertAnswer::Refused(Refusal::BadSize);
     }
     let layout = layout_of(block);
-    let mut stamps = [0u8; CELL_LIMIT];
-    if !is_sound(layout, block, &mut stamps) {
+    let mut numbers = [0u16; STAGE_CELLS];
+    let free = free_list(layout, block, &mut numbers);
+    if !free.sound {
         return InsertAnswer::Refused(Refusal::Unsound);
     }
     if is_bad_key(key) {
@@ -106,5 +86,6 @@ pub fn insert(block: &mut [u8], key: &[u8], value: u32) -> InsertAnswer
     if 2147483647 < value {
         return InsertAnswer::Refused(Refusal::BadValue);
     }
-    insert_valid(layout, block, &stamps, key, value)
+    let count = free.count;
+    insert_valid(layout, block, &numbers, count, key, value)
 }

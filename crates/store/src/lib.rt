@@ -1,4 +1,5 @@
 // The calls that change a block.
+pub mod committing;
 pub mod formatting;
 pub mod free_cells;
 pub mod inserting;

@@ -6,7 +6,7 @@ use native.Mathlib.Decide.{ℕ-discrete}
 use native.Mathlib.Omega.{arith}
 use native.Mathlib.Nat.{sub-zero}
 use native.Mathlib.Numerals.{add-one}
-use Prim.Native.Nat.{ℕ, zero, suc, _+_, _-_, _≤_, _<_}
+use Prim.Native.Nat.{ℕ, zero, suc, _+_, _-_, _*_, _≤_, _<_}
 use lib.ListN.{length, getD, set, drop, length-drop, drop-of-length-le}
 use lib.Seq.{drop-cons, getD-set-same, getD-set-other}
 use Rattle.cells.specs.Memory.{Memory}
@@ -18,11 +18,9 @@ use Rattle.trees.specs.Tree.{tree}
 use Rattle.trees.proofs.Tree.{tree-cut, tree-below}
 use Rattle.updates.specs.Built.{Built, allocate}
 use Rattle.updates.specs.SetChild.{setChild}
-use Rattle.updates.specs.Build.{wordAside, putBack, childOf, pathCopy, valueAt, build}
+use Rattle.updates.specs.Build.{wordAside, putBack, childOf, pathCopy}
 use Rattle.updates.specs.Staged.{Fitting, HasTree, nodeCopy, reached, Path}
-use Rattle.updates.proofs.Bound.{build-bound}
-use Rattle.updates.proofs.Aside.{aside}
-use Rattle.updates.proofs.Aside.{child-of}
+use Rattle.updates.proofs.Aside.{aside, child-of}
 
 -- a word that has a tree names a node, and so does the word without its value
 module _ (layout : Layout) (m : Memory) (word left : ℕ) (has : HasTree layout m word left) where
@@ -124,39 +122,39 @@ module _ (layout : Layout) (number : ℕ → ℕ) (m : Memory) where
         → Fitting (nodeCopy layout number m word x below) → Fitting (putBack layout number held placed)
     back-fits placed held is aside-is fits = subst Fitting (sym (copy-is placed held is aside-is)) fits
 
-  -- the key's end, its beginning, and one character
-  module _ (word value : ℕ) (key : List ℕ) where
-    pub build-end : (end : ℕ) (all : Built) → end ≡ reached layout m word key (length key) → all ≡ valueAt layout number m value (pointer layout end) end
-        → all ≡ build layout number m (reached layout m word key (length key)) (drop (length key) key) value
-    unfolding build pathCopy
-    build-end end all ends is =
-        is ∙ ap (λ (w : ℕ). valueAt layout number m value (pointer layout w) w) ends
-        ∙ sym (ap (λ (k : List ℕ). build layout number m (reached layout m word key (length key)) k value) (drop-of-length-le key {i = length key} (omega arith)))
+  -- a path copied, whatever the rule at its end: the key's end, its beginning, and one character
+  module _ (atEnd : ℕ → Built) (word : ℕ) (key : List ℕ) where
+    pub copied-end : (end : ℕ) (all : Built) → end ≡ reached layout m word key (length key) → all ≡ atEnd end
+        → all ≡ pathCopy layout number m atEnd (reached layout m word key (length key)) (drop (length key) key)
+    unfolding pathCopy
+    copied-end end all ends is =
+        is ∙ ap atEnd ends
+        ∙ sym (ap (pathCopy layout number m atEnd (reached layout m word key (length key))) (drop-of-length-le key {i = length key} (omega arith)))
 
-    pub build-whole : (i : ℕ) (all : Built) → i ≤ 0 → all ≡ build layout number m (reached layout m word key i) (drop i key) value
-        → all ≡ build layout number m word key value
+    pub copied-whole : (i : ℕ) (all : Built) → i ≤ 0 → all ≡ pathCopy layout number m atEnd (reached layout m word key i) (drop i key)
+        → all ≡ pathCopy layout number m atEnd word key
     unfolding reached
-    build-whole i all none-left is =
+    copied-whole i all none-left is =
         let first : i ≡ 0 = omega (arith, none-left) in
-        is ∙ ap (λ (j : ℕ). build layout number m (reached layout m word key j) (drop j key) value) first
+        is ∙ ap (λ (j : ℕ). pathCopy layout number m atEnd (reached layout m word key j) (drop j key)) first
 
     module _ (array : List ℕ) (path : Path layout m word key (length key) array) (next i : ℕ) (one : next ≡ i + 1) (most : next ≤ length key)
-        (below : Built) (below-is : below ≡ build layout number m (reached layout m word key next) (drop next key) value) where
-      copy-build : nodeCopy layout number m (getD array i 0) (getD key i 0) below ≡ build layout number m (reached layout m word key i) (drop i key) value
-      unfolding build pathCopy
-      copy-build =
+        (below : Built) (below-is : below ≡ pathCopy layout number m atEnd (reached layout m word key next) (drop next key)) where
+      copied-node : nodeCopy layout number m (getD array i 0) (getD key i 0) below ≡ pathCopy layout number m atEnd (reached layout m word key i) (drop i key)
+      unfolding pathCopy
+      copied-node =
           ap (λ (w : ℕ). nodeCopy layout number m w (getD key i 0) below) (path .each i (omega arith))
           ∙ ap (nodeCopy layout number m (reached layout m word key i) (getD key i 0))
-          (below-is ∙ ap (λ (j : ℕ). build layout number m (reached layout m word key j) (drop j key) value) one
-          ∙ ap (λ (w : ℕ). build layout number m w (drop (i + 1) key) value) (reached-more layout m word key i))
-          ∙ sym (ap (λ (k : List ℕ). build layout number m (reached layout m word key i) k value)
+          (below-is ∙ ap (λ (j : ℕ). pathCopy layout number m atEnd (reached layout m word key j) (drop j key)) one
+          ∙ ap (λ (w : ℕ). pathCopy layout number m atEnd w (drop (i + 1) key)) (reached-more layout m word key i))
+          ∙ sym (ap (pathCopy layout number m atEnd (reached layout m word key i))
           (drop-cons key i 0 (omega arith) ∙ ap (λ (n : ℕ). getD key i 0 ∷ drop n key) (sym (add-one i))))
 
-      pub copy-fits : length key ≤ keyLimit → Fitting (nodeCopy layout number m (getD array i 0) (getD key i 0) below)
-      copy-fits few =
-          subst Fitting (sym copy-build)
-          (omega (arith, few, build-bound number layout m (reached layout m word key i) (drop i key) value, length-drop i key))
+      pub node-fits : length key ≤ keyLimit → ((w : ℕ) (k : List ℕ) → length (pathCopy layout number m atEnd w k .cells) ≤ 4 * length k + 10)
+          → Fitting (nodeCopy layout number m (getD array i 0) (getD key i 0) below)
+      node-fits few bound =
+          subst Fitting (sym copied-node) (omega (arith, few, bound (reached layout m word key i) (drop i key), length-drop i key))
 
-      pub build-more : (all : Built) → all ≡ nodeCopy layout number m (getD array i 0) (getD key i 0) below
-          → all ≡ build layout number m (reached layout m word key i) (drop i key) value
-      build-more all is = is ∙ copy-build
+      pub copied-more : (all : Built) → all ≡ nodeCopy layout number m (getD array i 0) (getD key i 0) below
+          → all ≡ pathCopy layout number m atEnd (reached layout m word key i) (drop i key)
+      copied-more all is = is ∙ copied-node

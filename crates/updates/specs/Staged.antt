@@ -13,7 +13,7 @@ use Rattle.trees.specs.Coded.{Grown}
 use Rattle.updates.specs.Built.{Built}
 use Rattle.updates.specs.SplitBuild.{Row}
 use Rattle.updates.specs.SetChild.{setChild}
-use Rattle.updates.specs.Build.{wordAside, putBack, childOf}
+use Rattle.updates.specs.Build.{wordAside, putBack, childOf, valueAt}
 use Rattle.staging.specs.Stage.{stageCells, staged}
 use Rattle.staging.specs.declared.stage.Made.{Made}
 
@@ -47,6 +47,10 @@ pub record HasTree (layout : Layout) (m : Memory) (word left : ℕ) : Type 0 whe
   pub depth : ℕ
   pub deep : left ≤ depth
   pub found : Grown layout m depth word
+
+-- what an insertion makes of the word at the key's end
+abbrev pub insertedAt : Layout → (ℕ → ℕ) → Memory → ℕ → ℕ → Built
+insertedAt layout number m value word = valueAt layout number m value (pointer layout word) word
 
 -- one node of a path copied, over what is built below it
 abbrev pub nodeCopy : Layout → (ℕ → ℕ) → Memory → ℕ → ℕ → Built → Built

@@ -9,8 +9,7 @@ ghost use Rattle.nodes.specs.Pointer.{pointer};
 ghost use Rattle.nodes.specs.Node.{Node, read};
 ghost use Rattle.updates.specs.SetChild.{setChild};
 ghost use Rattle.updates.specs.Build.{wordAside, childOf, build};
-ghost use Rattle.staging.specs.Numbering.{numberFrom};
-ghost use Rattle.staging.specs.Numbering.{Numbered};
+ghost use Rattle.staging.specs.Numbering.{numberFrom, Numbered};
 ghost use Rattle.updates.specs.Staged.{builtOf, Fitting, HasTree, nodeCopy, reached, Path};
 use crate::chain::chain_over;
 use crate::chain::chain_set;
@@ -19,7 +18,6 @@ use crate::prefix::put_back;
 use crate::sparse_set::sparse_set;
 use crate::split::split_set;
 use cells::cell;
-use nodes::layout::CELL_LIMIT;
 use nodes::layout::KEY_LIMIT;
 use nodes::layout::Layout;
 use nodes::pointer::Pointer;
@@ -29,6 +27,7 @@ use nodes::step::ChildStep;
 use nodes::step::child_step;
 use nodes::value::value_at;
 use staging::stage::Made;
+use staging::stage::STAGE_CELLS;
 use staging::stage::STAGE_SIZE;
 
 // The child word of a character of a node that is valid; NONE, where the rest of a new key goes on, is known to have none.
@@ -64,7 +63,7 @@ fn word_aside(layout: Layout, block: &[u8], word: u32) -> u32
 pub fn set_child(
     layout: Layout,
     block: &[u8],
-    numbers: &[u16; CELL_LIMIT],
+    numbers: &[u16; STAGE_CELLS],
     free: usize,
     stage: &mut [u8; STAGE_SIZE],
     word: u32,
@@ -89,7 +88,7 @@ pub fn set_child(
 fn copy_node(
     layout: Layout,
     block: &[u8],
-    numbers: &[u16; CELL_LIMIT],
+    numbers: &[u16; STAGE_CELLS],
     free: usize,
     stage: &mut [u8; STAGE_SIZE],
     word: u32,
@@ -133,7 +132,7 @@ fn descend(layout: Layout, block: &[u8], key: &[u8], word: u32, path: &mut [u32;
 pub fn build(
     layout: Layout,
     block: &[u8],
-    numbers: &[u16; CELL_LIMIT],
+    numbers: &[u16; STAGE_CELLS],
     free: usize,
     stage: &mut [u8; STAGE_SIZE],
     key: &[u8],

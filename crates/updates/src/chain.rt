@@ -6,17 +6,16 @@ ghost use Rattle.cells.specs.Memory.{memoryOf};
 ghost use Rattle.staging.specs.NewCells.{chainCell};
 ghost use Rattle.updates.specs.Built.{room, allocate, chainOver};
 ghost use Rattle.updates.specs.SetChild.{chainSet};
-ghost use Rattle.staging.specs.Numbering.{numberFrom};
+ghost use Rattle.staging.specs.Numbering.{numberFrom, Numbered};
 ghost use Rattle.staging.specs.Stage.{stageCells, staged};
-ghost use Rattle.staging.specs.Numbering.{Numbered};
 ghost use Rattle.updates.specs.Staged.{builtOf, Fitting};
 use cells::cell;
 use nodes::chains::chain_child;
-use nodes::layout::CELL_LIMIT;
 use nodes::layout::Layout;
 use staging::new_cells::put_chain;
 use staging::new_cells::put_pair;
 use staging::stage::Made;
+use staging::stage::STAGE_CELLS;
 use staging::stage::STAGE_SIZE;
 use staging::stage::allocated_as;
 use staging::stage::number_at;
@@ -43,7 +42,7 @@ fn room_before(own: bool, word: u32) -> usize
 // A chain of one character in a new cell.
 fn new_chain(
     layout: Layout,
-    numbers: &[u16; CELL_LIMIT],
+    numbers: &[u16; STAGE_CELLS],
     free: usize,
     stage: &mut [u8; STAGE_SIZE],
     x: u8,
@@ -60,7 +59,7 @@ fn new_chain(
 // A character over a new child: in the byte before it, or in a new cell.
 pub fn chain_over(
     layout: Layout,
-    numbers: &[u16; CELL_LIMIT],
+    numbers: &[u16; STAGE_CELLS],
     free: usize,
     stage: &mut [u8; STAGE_SIZE],
     x: u8,
@@ -92,7 +91,7 @@ pub fn chain_over(
 pub fn chain_set(
     layout: Layout,
     block: &[u8],
-    numbers: &[u16; CELL_LIMIT],
+    numbers: &[u16; STAGE_CELLS],
     free: usize,
     stage: &mut [u8; STAGE_SIZE],
     number: usize,

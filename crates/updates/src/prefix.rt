@@ -3,17 +3,14 @@ ghost use mathlib.Core.Path.{_≡_};
 ghost use Prim.Native.Nat.{_*_, _≤_, _<_};
 ghost use lib.ListN.{length, take};
 ghost use Rattle.cells.specs.Memory.{memoryOf};
-ghost use Rattle.nodes.specs.Pointer.{pointer};
 ghost use Rattle.nodes.specs.Coded.{heldOf};
 ghost use Rattle.staging.specs.NewCells.{prefixCell};
 ghost use Rattle.updates.specs.Built.{allocate};
-ghost use Rattle.updates.specs.Build.{putBack, valueAt};
-ghost use Rattle.staging.specs.Numbering.{numberFrom};
+ghost use Rattle.updates.specs.Build.{putBack};
+ghost use Rattle.staging.specs.Numbering.{numberFrom, Numbered};
 ghost use Rattle.staging.specs.Stage.{stageCells, staged};
-ghost use Rattle.staging.specs.Numbering.{Numbered};
-ghost use Rattle.updates.specs.Staged.{builtOf, leafMade, Fitting};
+ghost use Rattle.updates.specs.Staged.{builtOf, leafMade, insertedAt, Fitting};
 use cells::cell;
-use nodes::layout::CELL_LIMIT;
 use nodes::layout::Layout;
 use nodes::pointer::Pointer;
 use nodes::pointer::leaf_word;
@@ -22,13 +19,14 @@ use nodes::prefix::linked_word;
 use nodes::value::Value;
 use staging::new_cells::put_prefix;
 use staging::stage::Made;
+use staging::stage::STAGE_CELLS;
 use staging::stage::STAGE_SIZE;
 use staging::stage::allocated_as;
 
 // A value over a node, in a new cell.
 fn new_prefix(
     layout: Layout,
-    numbers: &[u16; CELL_LIMIT],
+    numbers: &[u16; STAGE_CELLS],
     free: usize,
     stage: &mut [u8; STAGE_SIZE],
     value: u32,
@@ -45,7 +43,7 @@ fn new_prefix(
 // A value that was set aside put back.
 pub fn put_back(
     layout: Layout,
-    numbers: &[u16; CELL_LIMIT],
+    numbers: &[u16; STAGE_CELLS],
     free: usize,
     stage: &mut [u8; STAGE_SIZE],
     held: Value,
@@ -79,14 +77,14 @@ fn leaf_alone(value: u32) -> Made
 pub fn at_end(
     layout: Layout,
     block: &[u8],
-    numbers: &[u16; CELL_LIMIT],
+    numbers: &[u16; STAGE_CELLS],
     free: usize,
     stage: &mut [u8; STAGE_SIZE],
     word: u32,
     value: u32,
 ) -> Made
     requires { ⌜ Numbered layout free × (layout .cells * 32 ≤ length (now block)) ⌝ }
-    ensures { λ r. ⌜ builtOf r (now (stage .exit)) ≡ valueAt layout (numberFrom layout (take free (now (numbers .entry)))) (memoryOf (now (block .entry))) value (pointer layout word) word ⌝ }
+    ensures { λ r. ⌜ builtOf r (now (stage .exit)) ≡ insertedAt layout (numberFrom layout (take free (now (numbers .entry)))) (memoryOf (now (block .entry))) value word ⌝ }
 {
     let named = pointer_of(layout, word);
     match named {

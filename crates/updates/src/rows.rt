@@ -4,14 +4,13 @@ ghost use Prim.Native.Nat.{_+_, _*_, _≤_, _<_};
 ghost use lib.ListN.{length, getD, take};
 ghost use Rattle.nodes.specs.Sparse.{someWord};
 ghost use Rattle.updates.specs.SplitBuild.{tableRow, midRow, splitOf};
-ghost use Rattle.staging.specs.Numbering.{numberFrom};
+ghost use Rattle.staging.specs.Numbering.{numberFrom, Numbered};
 ghost use Rattle.staging.specs.Stage.{staged};
-ghost use Rattle.staging.specs.Numbering.{Numbered};
 ghost use Rattle.updates.specs.Staged.{builtOf, Fitting, Rowed, RowFitting};
-use nodes::layout::CELL_LIMIT;
 use nodes::layout::Layout;
 use staging::new_cells::put_words;
 use staging::stage::Made;
+use staging::stage::STAGE_CELLS;
 use staging::stage::STAGE_SIZE;
 use staging::stage::allocated_as;
 
@@ -40,7 +39,7 @@ fn some_of(words: &[u32], base: usize) -> bool
 // A cell of eight words if one of them is a pointer.
 fn table_row(
     layout: Layout,
-    numbers: &[u16; CELL_LIMIT],
+    numbers: &[u16; STAGE_CELLS],
     free: usize,
     stage: &mut [u8; STAGE_SIZE],
     words: &[u32],
@@ -64,7 +63,7 @@ fn table_row(
 // The ends of the characters with these two upper bits, then their mid.
 fn mid_row(
     layout: Layout,
-    numbers: &[u16; CELL_LIMIT],
+    numbers: &[u16; STAGE_CELLS],
     free: usize,
     stage: &mut [u8; STAGE_SIZE],
     children: &[u32; 256],
@@ -89,7 +88,7 @@ fn mid_row(
 // The four mids, then the head.
 pub fn split_of(
     layout: Layout,
-    numbers: &[u16; CELL_LIMIT],
+    numbers: &[u16; STAGE_CELLS],
     free: usize,
     stage: &mut [u8; STAGE_SIZE],
     children: &[u32; 256],

@@ -6,18 +6,17 @@ ghost use lib.ListN.{length, take};
 ghost use Rattle.cells.specs.Memory.{memoryOf};
 ghost use Rattle.nodes.specs.Sparse.{sparseCount, positionOf, sparseChild, validSparse};
 ghost use Rattle.updates.specs.SetChild.{withChild, sparseSet};
-ghost use Rattle.staging.specs.Numbering.{numberFrom};
-ghost use Rattle.staging.specs.Numbering.{Numbered};
+ghost use Rattle.staging.specs.Numbering.{numberFrom, Numbered};
 ghost use Rattle.updates.specs.Staged.{builtOf, Fitting, Children};
 use crate::rows::split_of;
 use cells::cell;
-use nodes::layout::CELL_LIMIT;
 use nodes::layout::Layout;
 use nodes::sparse::sparse_child;
 use nodes::sparse::sparse_count;
 use staging::sparse::put_appended;
 use staging::sparse::put_replaced;
 use staging::stage::Made;
+use staging::stage::STAGE_CELLS;
 use staging::stage::STAGE_SIZE;
 use staging::stage::allocated_as;
 
@@ -55,7 +54,7 @@ fn fill_children(children: &mut [u32], cell: &[u8], x: u8, word: u32)
 pub fn sparse_set(
     layout: Layout,
     block: &[u8],
-    numbers: &[u16; CELL_LIMIT],
+    numbers: &[u16; STAGE_CELLS],
     free: usize,
     stage: &mut [u8; STAGE_SIZE],
     number: usize,

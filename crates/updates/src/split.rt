@@ -10,16 +10,15 @@ ghost use Rattle.nodes.specs.Split.{wordBelow, headCells};
 ghost use Rattle.staging.specs.NewCells.{tableCopy, headCopy};
 ghost use Rattle.updates.specs.Built.{allocate};
 ghost use Rattle.updates.specs.SplitBuild.{splitCopied};
-ghost use Rattle.staging.specs.Numbering.{numberFrom};
+ghost use Rattle.staging.specs.Numbering.{numberFrom, Numbered};
 ghost use Rattle.staging.specs.Stage.{stageCells, staged};
-ghost use Rattle.staging.specs.Numbering.{Numbered};
 ghost use Rattle.updates.specs.Staged.{builtOf, Fitting};
 use cells::word_at;
-use nodes::layout::CELL_LIMIT;
 use nodes::layout::Layout;
 use staging::new_cells::put_head_copy;
 use staging::new_cells::put_table_copy;
 use staging::stage::Made;
+use staging::stage::STAGE_CELLS;
 use staging::stage::STAGE_SIZE;
 use staging::stage::allocated_as;
 
@@ -39,7 +38,7 @@ fn word_below(block: &[u8], word: u32, i: usize) -> u32
 fn table_set(
     layout: Layout,
     block: &[u8],
-    numbers: &[u16; CELL_LIMIT],
+    numbers: &[u16; STAGE_CELLS],
     free: usize,
     stage: &mut [u8; STAGE_SIZE],
     word: u32,
@@ -59,7 +58,7 @@ fn table_set(
 fn head_set(
     layout: Layout,
     block: &[u8],
-    numbers: &[u16; CELL_LIMIT],
+    numbers: &[u16; STAGE_CELLS],
     free: usize,
     stage: &mut [u8; STAGE_SIZE],
     number: usize,
@@ -79,7 +78,7 @@ fn head_set(
 pub fn split_set(
     layout: Layout,
     block: &[u8],
-    numbers: &[u16; CELL_LIMIT],
+    numbers: &[u16; STAGE_CELLS],
     free: usize,
     stage: &mut [u8; STAGE_SIZE],
     number: usize,

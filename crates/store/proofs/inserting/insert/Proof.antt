@@ -1,11 +1,10 @@
 -- The answers 1 to 4 in their order, and else the insertion of a valid pair.
-use mathlib.Core.Path.{refl, sym, _∙_}
-use borrow.Author.Tests.{not-true, not-false}
-use Rattle.cells.specs.Bytes.{zeros}
 use Rattle.blocks.proofs.Trailer.{has-trailer}
-use Rattle.blocks.proofs.ValidateSteps.{layout-fits}
-use Rattle.store.proofs.InsertRefused.{insert-size, insert-unsound, insert-key, insert-value, is-insertable}
+use mathlib.Core.Path.{sym, _∙_}
 use borrow.Author.Needs.{needs}
+use borrow.Author.Tests.{not-true, not-false}
+use Rattle.blocks.proofs.ValidateSteps.{layout-fits}
+use Rattle.store.proofs.InsertRefused.{insert-size, insert-unsound, insert-key, insert-value, insert-asks}
 use Rattle.store.proofs.inserting.insert.Statement.{statement}
 use Rattle.store.proofs.inserting.insert.Tie as tie
 
@@ -21,21 +20,20 @@ returns c = insert-size _ _ _ (sym (c .before .is-bad-size .ensures) ∙ c .if1 
 layout-of-requires : tie.Need-layout-of-requires
 layout-of-requires c κs = has-trailer _ (sym (c .before .before .is-bad-size .ensures) ∙ c .before .if1 .left)
 
-is-sound-requires : tie.Need-is-sound-requires
-unfolding zeros
-is-sound-requires c κs =
+free-list-requires : tie.Need-free-list-requires
+free-list-requires c κs =
     let sized = c .before .before .before .before in
-    (layout-fits _ _ (sym (sized .before .is-bad-size .ensures) ∙ sized .if1 .left) (c .before .before .layout-of .ensures), refl)
+    layout-fits _ _ (sym (sized .before .is-bad-size .ensures) ∙ sized .if1 .left) (c .before .before .layout-of .ensures)
 
 same-length-2 : tie.Need-same-length-2
 same-length-2 c = search needs
 
 returns-2 : tie.Need-returns-2
 returns-2 c =
-    let judged = c .before in
+    let judged = c .before .before in
     let sized = judged .before .before .before .before .before in
-    insert-unsound _ _ _ (sym (sized .before .is-bad-size .ensures) ∙ sized .if1 .left) _ _ _ (judged .before .before .before .layout-of .ensures) (judged .is-sound .ensures)
-    (not-true _ (c .if2 .taken))
+    insert-unsound _ _ _ (sym (sized .before .is-bad-size .ensures) ∙ sized .if1 .left) _ _ _ _ (judged .before .before .before .layout-of .ensures)
+    (judged .free-list .ensures) (not-true _ (c .if2 .taken))
 
 is-bad-key-requires : tie.Need-is-bad-key-requires
 is-bad-key-requires c κs = search needs
@@ -45,27 +43,27 @@ same-length-3 c = search needs
 
 returns-3 : tie.Need-returns-3
 returns-3 c =
-    let judged = c .before .before .before in
+    let judged = c .before .before .before .before in
     let sized = judged .before .before .before .before .before in
-    insert-key _ _ _ (sym (sized .before .is-bad-size .ensures) ∙ sized .if1 .left) _ _ _ (judged .before .before .before .layout-of .ensures) (judged .is-sound .ensures)
-    (not-false _ (c .before .before .if2 .left)) (sym (c .before .is-bad-key .ensures) ∙ c .if3 .taken)
+    insert-key _ _ _ (sym (sized .before .is-bad-size .ensures) ∙ sized .if1 .left) _ _ _ _ (judged .before .before .before .layout-of .ensures)
+    (judged .free-list .ensures) (not-false _ (c .before .before .if2 .left)) (sym (c .before .is-bad-key .ensures) ∙ c .if3 .taken)
 
 same-length-4 : tie.Need-same-length-4
 same-length-4 c = search needs
 
 returns-4 : tie.Need-returns-4
 returns-4 c =
-    let judged = c .before .before .before .before in
+    let judged = c .before .before .before .before .before in
     let sized = judged .before .before .before .before .before in
-    insert-value _ _ _ (sym (sized .before .is-bad-size .ensures) ∙ sized .if1 .left) _ _ _ (judged .before .before .before .layout-of .ensures) (judged .is-sound .ensures)
-    (not-false _ (c .before .before .before .if2 .left)) (sym (c .before .before .is-bad-key .ensures) ∙ c .before .if3 .left) (c .if4 .taken)
+    insert-value _ _ _ (sym (sized .before .is-bad-size .ensures) ∙ sized .if1 .left) _ _ _ _ (judged .before .before .before .layout-of .ensures)
+    (judged .free-list .ensures) (not-false _ (c .before .before .before .if2 .left)) (sym (c .before .before .is-bad-key .ensures) ∙ c .before .if3 .left) (c .if4 .taken)
 
 insert-valid-requires : tie.Need-insert-valid-requires
 insert-valid-requires c κs =
-    let judged = c .before .before .before .before .before .before in
+    let judged = c .before .before .before .before .before .before .before in
     let sized = judged .before .before .before .before .before in
-    is-insertable _ _ _ (sym (sized .before .is-bad-size .ensures) ∙ sized .if1 .left) _ _ _ (judged .before .before .before .layout-of .ensures) (judged .is-sound .ensures)
-    (not-false _ (c .before .before .before .before .before .if2 .left)) (sym (c .before .before .before .before .is-bad-key .ensures) ∙ c .before .before .before .if3 .left) (c .before .before .if4 .left)
+    insert-asks _ _ _ (sym (sized .before .is-bad-size .ensures) ∙ sized .if1 .left) _ _ _ _ (judged .before .before .before .layout-of .ensures)
+    (judged .free-list .ensures) (not-false _ (c .before .before .before .before .before .if2 .left)) (sym (c .before .before .before .before .is-bad-key .ensures) ∙ c .before .before .before .if3 .left) (c .before .before .if4 .left)
 
 same-length-5 : tie.Need-same-length-5
 same-length-5 c = search needs
@@ -81,7 +79,7 @@ insert-spec =
     same-length
     returns
     layout-of-requires
-    is-sound-requires
+    free-list-requires
     same-length-2
     returns-2
     is-bad-key-requires

@@ -1,21 +1,24 @@
--- Up again: what is built so far is the build from the word reached and the rest of the key.
+-- Up again: what is built so far is the path copied from the word reached by the rest of the key.
 use mathlib.Core.Path.{_≡_}
 use native.Mathlib.Omega.{arith}
 use Prim.Native.Nat.{_-_, _≤_}
 use lib.ListN.{length, take, drop}
 use borrow.Author.Needs.{needs}
 use Rattle.cells.specs.Memory.{memoryOf}
-use Rattle.updates.specs.Build.{build}
+use Rattle.updates.specs.Build.{pathCopy, build}
 use Rattle.staging.specs.Numbering.{numberFrom}
-use Rattle.updates.specs.Staged.{builtOf, reached}
-use Rattle.updates.proofs.StagedDescent.{path-read, build-end, build-whole, copy-fits, build-more}
+use Rattle.updates.specs.Staged.{builtOf, insertedAt, reached}
+use Rattle.updates.proofs.StagedDescent.{path-read, copied-end, copied-whole, node-fits, copied-more}
+use Rattle.updates.proofs.Bound.{build-bound}
 use Rattle.updates.proofs.build.build.Statement.{statement}
 use Rattle.updates.proofs.build.build.Tie as tie
 
 abbrev Inv-loop : tie.InvT-loop
 Inv-loop layout block numbers free stage₀ key word value path end made₀ i₀ stage made i =
     (i ≤ length key)
-    × (builtOf made stage ≡ build layout (numberFrom layout (take free numbers)) (memoryOf block) (reached layout (memoryOf block) word key i) (drop i key) value)
+    × (builtOf made stage
+    ≡ pathCopy layout (numberFrom layout (take free numbers)) (memoryOf block) (insertedAt layout (numberFrom layout (take free numbers)) (memoryOf block) value)
+    (reached layout (memoryOf block) word key i) (drop i key))
 
 abbrev μ-loop : tie.MeasureT-loop
 μ-loop layout block numbers free stage₀ key word value path end made₀ i₀ stage made i = i
@@ -27,7 +30,7 @@ at-end-requires : tie.Need-at-end-requires Inv-loop μ-loop
 at-end-requires c κs = search needs
 
 loop-holds : tie.Need-loop-holds Inv-loop μ-loop
-loop-holds c = (omega arith, build-end _ _ _ _ _ _ _ _ (c .before .before .descend .ensures .0) (c .at-end .ensures))
+loop-holds c = (omega arith, copied-end _ _ _ _ _ _ _ _ (c .before .before .descend .ensures .0) (c .at-end .ensures))
 
 sub-i : tie.Need-sub-i Inv-loop μ-loop
 sub-i c = search needs
@@ -42,13 +45,15 @@ shared-slice-read-copy-node : tie.Need-shared-slice-read-copy-node Inv-loop μ-l
 shared-slice-read-copy-node c = search needs
 
 copy-node-requires : tie.Need-copy-node-requires Inv-loop μ-loop
+unfolding build
 copy-node-requires c κs =
     let turn = c .before .before .before in
     let path = c .before .before .before .before .before .before .descend .ensures .1 in (
       search needs,
       search needs,
       path-read _ _ _ _ _ (turn .loop .i - 1) path (omega arith),
-      copy-fits _ _ _ _ _ _ _ path (turn .loop .i) _ (omega arith) (turn .loop .inv .0) _ (turn .loop .inv .1) (c .before .before .before .before .before .before .before .before .before .before .pre .2),
+      node-fits _ _ _ _ _ _ _ path (turn .loop .i) _ (omega arith) (turn .loop .inv .0) _ (turn .loop .inv .1) (c .before .before .before .before .before .before .before .before .before .before .pre .2)
+          (λ w k. build-bound _ _ _ w k _),
     )
 
 loop-less : tie.Need-loop-less Inv-loop μ-loop
@@ -58,11 +63,12 @@ loop-again : tie.Need-loop-again Inv-loop μ-loop
 loop-again c =
     let turn = c .before .before .before .before in (
       omega arith,
-      build-more _ _ _ _ _ _ _ (c .before .before .before .before .before .before .before .descend .ensures .1) (turn .loop .i) _ (omega arith) (turn .loop .inv .0) _ (turn .loop .inv .1) _ (c .copy-node .ensures),
+      copied-more _ _ _ _ _ _ _ (c .before .before .before .before .before .before .before .descend .ensures .1) (turn .loop .i) _ (omega arith) (turn .loop .inv .0) _ (turn .loop .inv .1) _ (c .copy-node .ensures),
     )
 
 returns : tie.Need-returns Inv-loop μ-loop
-returns c = build-whole _ _ _ _ _ _ (c .before .loop .i) _ (omega arith) (c .before .loop .inv .1)
+unfolding build
+returns c = copied-whole _ _ _ _ _ _ (c .before .loop .i) _ (omega arith) (c .before .loop .inv .1)
 
 pub build-spec : {M : Type 1} → statement M
 build-spec =

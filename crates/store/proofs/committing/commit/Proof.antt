@@ -1,8 +1,8 @@
 -- The cells written, and then the root word.
 use borrow.Author.Needs.{needs}
 use Rattle.store.proofs.CommitSteps.{commit-root}
-use Rattle.store.proofs.inserting.commit.Statement.{statement}
-use Rattle.store.proofs.inserting.commit.Tie as tie
+use Rattle.store.proofs.committing.commit.Statement.{statement}
+use Rattle.store.proofs.committing.commit.Tie as tie
 
 trailer-at-requires : tie.Need-trailer-at-requires
 trailer-at-requires c κs = search needs

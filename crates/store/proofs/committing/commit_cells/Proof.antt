@@ -8,8 +8,8 @@ use Rattle.cells.specs.Writes.{written}
 use Rattle.updates.specs.Commit.{buildWrites}
 use Rattle.staging.specs.Stage.{staged}
 use Rattle.store.proofs.CommitSteps.{commit-none, commit-more, commit-all}
-use Rattle.store.proofs.inserting.commit_cells.Statement.{statement}
-use Rattle.store.proofs.inserting.commit_cells.Tie as tie
+use Rattle.store.proofs.committing.commit_cells.Statement.{statement}
+use Rattle.store.proofs.committing.commit_cells.Tie as tie
 
 abbrev Inv-loop : tie.InvT-loop
 Inv-loop block₀ stage numbers count i₀ block i =

@@ -1,0 +1,101 @@
+-- The code of any change of a block: what the build may ask for, and that what stands in the stage is committed as the
+-- definition says, where its cells are free.
+use mathlib.Core.Path.{_≡_, sym, ap, _∙_}
+use mathlib.Core.List.{List, [], _∷_, _++_}
+use mathlib.Core.Bool.{Bool, true}
+use Prim.Native.Nat.{ℕ, _-_, _*_, _≤_, _<_}
+use native.Mathlib.Decide.{decLe}
+use native.Mathlib.Omega.{arith}
+use lib.Dec.{leb}
+use lib.ListN.{length, getD, length-take}
+use lib.Seq.{getD-take}
+use borrow.Author.Tests.{le-leb, lt-leb, leb-true}
+use Rattle.cells.specs.Memory.{memoryOf}
+use Rattle.cells.proofs.Occurrences.{occurrences-at}
+use Rattle.nodes.specs.Layout.{Layout, keyLimit}
+use Rattle.nodes.proofs.Pointers.{usable-inside}
+use Rattle.trees.specs.Tree.{tree}
+use Rattle.staging.specs.Numbering.{numberFrom, Numbered}
+use Rattle.staging.specs.Stage.{stageCells, staged}
+use Rattle.staging.specs.declared.stage.Made.{Made}
+use Rattle.staging.proofs.StageLaws.{staged-length, number-listed}
+use Rattle.updates.specs.Built.{Built}
+use Rattle.updates.specs.Commit.{buildWrites}
+use Rattle.updates.specs.Staged.{builtOf, HasTree}
+use Rattle.blocks.specs.Fits.{Fits}
+use Rattle.blocks.specs.Trailer.{trailerAt, layoutOf, rootWord}
+use Rattle.blocks.specs.Sound.{soundWith}
+use Rattle.blocks.proofs.ValidateSteps.{layout-fits}
+use Rattle.blocks.proofs.Roots.{root-parts, sound-parts}
+use Rattle.store.specs.Free.{free}
+use Rattle.store.specs.Committed.{Inside, numbering, commitWrites}
+use Rattle.store.specs.Changeable.{Changeable, InStage}
+use Rattle.store.proofs.Free.{free-usable}
+use Rattle.store.proofs.CommitSteps.{writes-same}
+
+module _ (layout : Layout) (b numbers : List ℕ) (count : ℕ) (key : List ℕ) (p : Changeable layout b numbers count key) where
+  pub changeable-fits : Fits layout (length b)
+  changeable-fits = layout-fits b layout (p .size) (p .stated)
+
+  -- what a build asks for: a numbering, a block of the layout's size, a key that is not over long and a tree for it
+  pub build-ready : (root : ℕ) → root ≡ rootWord layout b
+      → Numbered layout count × (layout .cells * 32 ≤ length b) × (length key ≤ keyLimit) × HasTree layout (memoryOf b) root (length key)
+  build-ready root root-is =
+      let f = changeable-fits in
+      let valid : soundWith layout b ≡ true = ap (λ (l : Layout). soundWith l b) (p .stated) ∙ p .valid in
+      let parts = root-parts layout (memoryOf b) (rootWord layout b) (sound-parts layout b valid .root) in (
+        record { some = omega (arith, f .least); most = f .most; listed = omega (arith, p .listed .many, length-take stageCells (free layout b)) },
+        omega (arith, f .whole),
+        p .short,
+        record {
+          depth = keyLimit;
+          deep = p .short;
+          found = (parts .cells, ap (tree layout (memoryOf b) keyLimit) root-is ∙ parts .found);
+        },
+      )
+
+  -- the numbers listed are those of the free cells
+  number-is : (i : ℕ) → i < count → getD numbers i 0 ≡ numbering b i
+  unfolding numberFrom
+  number-is i below =
+      let inside : count ≤ length numbers = omega (arith, p .listed .many, ap (λ (l : List ℕ). length l) (p .listed .are), length-take count numbers) in
+      let first : i < stageCells = omega (arith, below, p .listed .many, length-take stageCells (free layout b)) in
+      number-listed layout numbers count i below (omega (arith, below, inside))
+      ∙ ap (λ (l : List ℕ). numberFrom layout l i) (p .listed .are)
+      ∙ getD-take stageCells (free layout b) i (layout .cells - 1) first
+      ∙ ap (λ (l : Layout). numberFrom l (free l b) i) (p .stated)
+
+  -- as many cells as a build can take are listed where they are free
+  pub fits-same : (n : ℕ) → n ≤ stageCells → leb n count ≡ leb n (length (free layout b))
+  fits-same n most =
+      let many = p .listed .many ∙ length-take stageCells (free layout b) in
+      elim (decLe n count) [
+        | yes within ↦ le-leb n count within ∙ sym (le-leb n (length (free layout b)) (omega (arith, within, many)))
+        | no over ↦ lt-leb n count (omega (arith, over)) ∙ sym (lt-leb n (length (free layout b)) (omega (arith, over, most, many)))
+      ]
+
+  module _ (x : Built) (made : Made) (stage : List ℕ) (fits : Bool) (s : InStage layout b x made stage fits) where
+    pub made-count : made .count ≡ length (x .cells)
+    made-count = sym (staged-length stage (made .count)) ∙ ap (λ (y : Built). length (y .cells)) (s .built)
+
+    module _ (most : made .count ≤ stageCells) (enough : fits ≡ true) where
+      listed-all : made .count ≤ count
+      listed-all = leb-true (made .count) count (fits-same (made .count) most ∙ sym (s .fitting) ∙ enough)
+
+      -- the cells taken lie in the block
+      pub taken-inside : Inside numbers (made .count) (length b)
+      taken-inside i below =
+          let f = changeable-fits in
+          let here = number-is i (omega (arith, below, listed-all)) ∙ ap (λ (l : Layout). numberFrom l (free l b) i) (sym (p .stated)) in
+          let u = usable-inside layout (numberFrom layout (free layout b) i)
+          (free-usable layout b (numberFrom layout (free layout b) i) (unfold numberFrom in occurrences-at (free layout b) i _ (omega (arith, below, listed-all, p .listed .many, length-take stageCells (free layout b))))) in
+          omega (arith, here, u, f .whole)
+
+      -- and what is committed is the build, at the numbering of the block
+      pub committed-as : commitWrites layout (λ i. getD numbers i 0) (builtOf made stage) ≡ commitWrites (layoutOf b) (numbering b) x
+      unfolding commitWrites
+      committed-as =
+          ap (λ (l : Layout). buildWrites (λ i. getD numbers i 0) (staged stage (made .count)) ++ (record { at = trailerAt l; word = made .word } ∷ [])) (p .stated)
+          ∙ ap (λ ws. ws ++ (record { at = trailerAt (layoutOf b); word = made .word } ∷ []))
+          (writes-same (λ i. getD numbers i 0) (numbering b) (staged stage (made .count)) (λ i below. number-is i (omega (arith, below, listed-all, staged-length stage (made .count)))))
+          ∙ ap (commitWrites (layoutOf b) (numbering b)) (s .built)

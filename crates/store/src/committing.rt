@@ -1,0 +1,53 @@
+// A build written from the stage into its block.
+ghost use mathlib.Core.Path.{_≡_};
+ghost use Prim.Native.Nat.{_≤_};
+ghost use lib.ListN.{length, getD};
+ghost use Rattle.cells.specs.Writes.{written};
+ghost use Rattle.staging.specs.Stage.{stageCells, staged};
+ghost use Rattle.updates.specs.Commit.{buildWrites};
+ghost use Rattle.updates.specs.Staged.{builtOf};
+ghost use Rattle.blocks.specs.Fits.{Fits};
+ghost use Rattle.store.specs.Committed.{Inside, commitWrites};
+use blocks::trailer_fields::trailer_at;
+use cells::put_word;
+use nodes::layout::Layout;
+use staging::stage::Made;
+use staging::stage::STAGE_CELLS;
+use staging::stage::STAGE_SIZE;
+use staging::stage::copy_cell;
+
+// Writes the staged cells, in the order allocated, into the block at their numbers.
+fn commit_cells(
+    block: &mut [u8],
+    stage: &[u8; STAGE_SIZE],
+    numbers: &[u16; STAGE_CELLS],
+    count: usize,
+)
+    requires { ⌜ (count ≤ stageCells) × Inside (now numbers) count (length (now block)) ⌝ }
+    ensures { λ _. ⌜ now (block .exit) ≡ written (now (block .entry)) (buildWrites (λ i. getD (now (numbers .entry)) i 0) (staged (now (stage .entry)) count)) ⌝ }
+{
+    let mut i: usize = 0;
+    while i < count {
+        let number = numbers[i] as usize;
+        copy_cell(block, number, stage, i);
+        i += 1;
+    }
+}
+
+// Writes a build into the block: its cells, and then the root word.
+pub fn commit(
+    layout: Layout,
+    block: &mut [u8],
+    stage: &[u8; STAGE_SIZE],
+    numbers: &[u16; STAGE_CELLS],
+    made: Made,
+)
+    requires { ⌜ Fits layout (length (now block)) × (made .count ≤ stageCells) × Inside (now numbers) (made .count) (length (now block)) ⌝ }
+    ensures { λ _. ⌜ now (block .exit) ≡ written (now (block .entry)) (commitWrites layout (λ i. getD (now (numbers .entry)) i 0) (builtOf made (now (stage .entry)))) ⌝ }
+{
+    let count = made.count;
+    let word = made.word;
+    let at = trailer_at(layout);
+    commit_cells(block, stage, numbers, count);
+    put_word(block, at, word);
+}
