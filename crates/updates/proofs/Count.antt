@@ -71,8 +71,7 @@ any-characters : (key : List ℕ) → Characters Any key
 any-characters [] = tt
 any-characters (x ∷ key) = (tt, any-characters key)
 
--- two words both NONE or both not, with as much room before them and the same first byte used, and the same where so many
--- cells are within a limit
+-- two words both NONE or both not, with equal room and first byte used, and the same where so many cells are within a limit
 record WordsAlike (Within : ℕ → Type 0) (count word word′ : ℕ) : Type 0 where
   bothNone : eqb word 0 ≡ eqb word′ 0
   room : (own : Bool) → room own word ≡ room own word′

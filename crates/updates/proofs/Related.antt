@@ -1,5 +1,4 @@
--- Two builds of one change, under two numberings, are related wherever the words of new cells are: the law over every
--- step of a build, of which the counts, the bytes and the numbers of a build are instances.
+-- Two builds of one change under two numberings: one law over every step, of which counts, bytes and numbers are instances.
 use mathlib.Core.Path.{_≡_, refl, ap, _∙_, subst}
 use mathlib.Core.Bool.{Bool, true, false, cond}
 use mathlib.Core.List.{List, [], _∷_}
