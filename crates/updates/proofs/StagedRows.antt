@@ -97,22 +97,6 @@ module _ (make : ℕ → List (List ℕ) → Row) (grows : (i : ℕ) (cells : Li
   rows-first zero less i cells all e fits = absurd (omega arith)
   rows-first (suc count) less i cells all e fits = omega (arith, fits, rows-grow count (i + 1) (make i cells .cells))
 
--- rows of the same tables are the same
-pub rows-agree : (make make′ : ℕ → List (List ℕ) → Row) (count i : ℕ) (cells : List (List ℕ))
-    → ((j : ℕ) (l : List (List ℕ)) → i ≤ j → j < i + count → SameRow (make j l) (make′ j l)) → SameRow (rows make count i cells) (rows make′ count i cells)
-unfolding rows
-rows-agree make make′ zero i cells same = record { words = λ q. refl; cells = refl }
-rows-agree make make′ (suc count) i cells same =
-    let here = same i cells (omega arith) (omega arith) in
-    let later = rows-agree make make′ count (i + 1) (make i cells .cells) (λ j l low high. same j l (omega arith) (omega arith)) in
-    let moved : rows make′ count (i + 1) (make i cells .cells) ≡ rows make′ count (i + 1) (make′ i cells .cells) =
-    ap (rows make′ count (i + 1)) (here .cells) in
-    record {
-      words = λ q. ap (λ (w : ℕ). cond (eqb q i) w (rows make count (i + 1) (make i cells .cells) .words q)) (here .words 0)
-          ∙ ap (cond (eqb q i) (make′ i cells .words 0)) (later .words q ∙ ap (λ (r : Row). r .words q) moved);
-      cells = later .cells ∙ ap (λ (r : Row). r .cells) moved;
-    }
-
 -- rows made so far: their words stand in an array, and what is left to make makes up the whole
 pub record Making (slot : ℕ → ℕ) (goal rest : Row) (j : ℕ) (array : List ℕ) : Type 0 where
   pub cells : goal .cells ≡ rest .cells

@@ -15,11 +15,10 @@ use Rattle.updates.specs.Built.{Built, allocate}
 use Rattle.updates.specs.SplitBuild.{splitOf}
 use Rattle.updates.specs.SetChild.{withChild, sparseSet}
 use Rattle.staging.specs.Stage.{stageCells, staged, Put, allocated}
-use Rattle.updates.specs.Staged.{builtOf, Fitting, Children}
+use Rattle.updates.specs.Staged.{builtOf, Fitting}
 use Rattle.staging.specs.declared.stage.Made.{Made}
 use Rattle.updates.proofs.StagedCell.{put-allocate}
 use Rattle.updates.proofs.StagedChains.{allocate-fits}
-use Rattle.updates.proofs.StagedSplitOf.{split-agree}
 
 -- the positions walked from one on
 module _ (bytes : List ℕ) (x : ℕ) where
@@ -44,7 +43,7 @@ module _ (bytes : List ℕ) (x : ℕ) where
   position-past zero p e = refl
   position-past (suc left) p e = absurd (omega arith)
 
--- the child words of the characters so far
+-- the words so far
 pub fill-next : (array : List ℕ) (child : ℕ → ℕ) (y word : ℕ) → ((q : ℕ) → q < y → getD array q 0 ≡ child q) → word ≡ child y → y < length array
     → (q : ℕ) → q < y + 1 → getD (set array y word) q 0 ≡ child q
 fill-next array child y word so-far is inside q below = elim (ℕ-discrete q y) [
@@ -53,16 +52,12 @@ fill-next array child y word so-far is inside q below = elim (ℕ-discrete q y) 
 ]
 
 -- one of them replaced
-pub fill-one : (array : List ℕ) (child : ℕ → ℕ) (count x word : ℕ) → ((q : ℕ) → q < count → getD array q 0 ≡ child q) → x < length array → 256 ≤ count
-    → Children (set array x word) (withChild child x word)
-fill-one array child count x word so-far inside all =
-    record {
-      each = λ y near. elim (ℕ-discrete y x) [
-        | yes here ↦
-            rw (eq-eqb y x here) (ap (λ (k : ℕ). getD (set array x word) k 0) here ∙ getD-set-same array x word 0 inside)
-        | no other ↦ rw (ne-eqb y x other) (getD-set-other array x y word 0 other ∙ so-far y (omega arith))
-      ];
-    }
+module _ (child : ℕ → ℕ) (x word y : ℕ) where
+  pub with-here : y ≡ x → word ≡ withChild child x word y
+  with-here here = rw (eq-eqb y x here)
+
+  pub with-other : (other : ℕ) → y ≢ x → other ≡ child y → other ≡ withChild child x word y
+  with-other other apart is = rw (ne-eqb y x apart) is
 
 -- the three ways
 module _ (number : ℕ → ℕ) (bytes : List ℕ) (x : ℕ) (b : Built) (many position : ℕ)
@@ -104,11 +99,10 @@ module _ (number : ℕ → ℕ) (block bytes : List ℕ) (cell x : ℕ) (below :
       → sparseSet number (memoryOf block cell) x (builtOf below stage) ≡ allocate number 30 (appendedCell (memoryOf block cell) x (below .word)) (staged stage (below .count))
   appended-here = way-appended number (memoryOf block cell) x (builtOf below stage) many position counted-here placed-here
 
-  split-here : (array : List ℕ) → many ≤ position → 6 ≤ many → Children array (withChild (sparseChild bytes) x (below .word))
-      → splitOf number (λ y. getD array y 0) (staged stage (below .count)) ≡ sparseSet number (memoryOf block cell) x (builtOf below stage)
-  split-here array past full children =
-      split-agree number (λ y. getD array y 0) (withChild (sparseChild (memoryOf block cell)) x (below .word))
-      (λ y near. children .each y near ∙ ap (λ (s : List ℕ). withChild (sparseChild s) x (below .word) y) read) (staged stage (below .count))
+  split-here : many ≤ position → 6 ≤ many
+      → splitOf number (withChild (sparseChild bytes) x (below .word)) (staged stage (below .count)) ≡ sparseSet number (memoryOf block cell) x (builtOf below stage)
+  split-here past full =
+      ap (λ (s : List ℕ). splitOf number (withChild (sparseChild s) x (below .word)) (staged stage (below .count))) read
       ∙ sym (way-split number (memoryOf block cell) x (builtOf below stage) many position counted-here placed-here past full)
 
   -- replaced
@@ -128,10 +122,10 @@ module _ (number : ℕ → ℕ) (block bytes : List ℕ) (cell x : ℕ) (below :
   appended-is made after past room put took = put-allocate put number 30 made took ∙ sym (appended-here past room)
 
   -- in a split
-  pub seventh-fits : (array : List ℕ) → many ≤ position → 6 ≤ many → Children array (withChild (sparseChild bytes) x (below .word))
-      → Fitting (sparseSet number (memoryOf block cell) x (builtOf below stage)) → Fitting (splitOf number (λ y. getD array y 0) (staged stage (below .count)))
-  seventh-fits array past full children fits = subst Fitting (sym (split-here array past full children)) fits
+  pub seventh-fits : many ≤ position → 6 ≤ many → Fitting (sparseSet number (memoryOf block cell) x (builtOf below stage))
+      → Fitting (splitOf number (withChild (sparseChild bytes) x (below .word)) (staged stage (below .count)))
+  seventh-fits past full fits = subst Fitting (sym (split-here past full)) fits
 
-  pub seventh-is : (array : List ℕ) (all : Built) → many ≤ position → 6 ≤ many → Children array (withChild (sparseChild bytes) x (below .word))
-      → all ≡ splitOf number (λ y. getD array y 0) (staged stage (below .count)) → all ≡ sparseSet number (memoryOf block cell) x (builtOf below stage)
-  seventh-is array all past full children is = is ∙ split-here array past full children
+  pub seventh-is : (all : Built) → many ≤ position → 6 ≤ many → all ≡ splitOf number (withChild (sparseChild bytes) x (below .word)) (staged stage (below .count))
+      → all ≡ sparseSet number (memoryOf block cell) x (builtOf below stage)
+  seventh-is all past full is = is ∙ split-here past full

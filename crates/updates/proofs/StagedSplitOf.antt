@@ -1,4 +1,4 @@
--- A split made in the stage, of the children that stand in an array.
+-- A split made in the stage, of any children, the words of eight of them at a time in an array.
 use mathlib.Core.Path.{_≡_, sym, ap, _∙_, subst}
 use mathlib.Core.List.{List}
 use native.Mathlib.Omega.{arith}
@@ -8,11 +8,11 @@ use Rattle.staging.specs.NewCells.{blank, withWords}
 use Rattle.updates.specs.Built.{allocate}
 use Rattle.updates.specs.SplitBuild.{Row, tableRow, rows, endRow, midRow, splitOf}
 use Rattle.staging.specs.Stage.{stageCells, staged, Put, allocated}
-use Rattle.updates.specs.Staged.{builtOf, Fitting, Rowed, RowFitting}
+use Rattle.updates.specs.Staged.{builtOf, Fitting, Rowed, RowFitting, Words}
 use Rattle.staging.specs.declared.stage.Made.{Made}
 use Rattle.staging.proofs.StageLaws.{staged-length}
 use Rattle.updates.proofs.StagedCell.{put-allocate}
-use Rattle.updates.proofs.StagedRows.{SameRow, words-agree, table-agree, table-grows, rows-grow, rows-first, rows-agree, Making, making-more, making-cells}
+use Rattle.updates.proofs.StagedRows.{SameRow, words-agree, table-agree, table-grows, rows-grow, rows-first, Making, making-more, making-cells}
 
 -- where an end's word and where a mid's word stand in their arrays
 abbrev pub endSlot : ℕ → ℕ
@@ -45,16 +45,27 @@ module _ (number : ℕ → ℕ) (child : ℕ → ℕ) where
     ends-fit fits = omega (arith, fits, table-grows number (ends .words) (ends .cells))
 
     module _ (left j : ℕ) (cells : List (List ℕ)) (array : List ℕ) (so-far : Making endSlot ends (rows (endRow number child i) left j cells) j array) where
-      pub end-fits : (less : ℕ) → RowFitting (midRow number child i before) → left ≡ less + 1 → RowFitting (tableRow number (λ k. child (64 * i + 8 * j + k)) cells)
-      unfolding endRow
-      end-fits less fits e =
-          rows-first (endRow number child i) (end-grows i) left less j cells stageCells e (omega (arith, ends-fit fits, ap (λ (l : List (List ℕ)). length l) (so-far .cells)))
+      -- the next end, of the words in an array
+      module _ (words : List ℕ) (filled : Words words child (64 * i + 8 * j)) where
+        end-same : SameRow (tableRow number (λ k. getD words (0 + k) 0) cells) (endRow number child i j cells)
+        unfolding endRow
+        end-same =
+            table-agree number (λ k. getD words (0 + k) 0) (λ k. child (64 * i + 8 * j + k)) cells
+            (λ p near. let plain : 0 + p ≡ p = omega arith in ap (λ (k : ℕ). getD words k 0) plain ∙ filled .each p near)
 
-      pub end-more : (less word : ℕ) (cells′ : List (List ℕ)) → Rowed (tableRow number (λ k. child (64 * i + 8 * j + k)) cells) word cells′
-          → j < length array → left ≡ less + 1 → Making endSlot ends (rows (endRow number child i) less (j + 1) cells′) (j + 1) (set array j word)
-      unfolding endRow
-      end-more less word cells′ made inside e =
-          making-more (endRow number child i) endSlot (λ p q other. other) ends left less j cells cells′ array word so-far made inside e
+        pub end-fits : (less : ℕ) → RowFitting (midRow number child i before) → left ≡ less + 1 → RowFitting (tableRow number (λ k. getD words (0 + k) 0) cells)
+        end-fits less fits e =
+            omega (
+              arith,
+              ap (λ (l : List (List ℕ)). length l) (end-same .cells),
+              rows-first (endRow number child i) (end-grows i) left less j cells stageCells e (omega (arith, ends-fit fits, ap (λ (l : List (List ℕ)). length l) (so-far .cells))),
+            )
+
+        pub end-more : (less word : ℕ) (cells′ : List (List ℕ)) → Rowed (tableRow number (λ k. getD words (0 + k) 0) cells) word cells′
+            → j < length array → left ≡ less + 1 → Making endSlot ends (rows (endRow number child i) less (j + 1) cells′) (j + 1) (set array j word)
+        end-more less word cells′ made inside e =
+            making-more (endRow number child i) endSlot (λ p q other. other) ends left less j cells cells′ array word so-far
+            (record { first = made .first ∙ end-same .words 0; stands = made .stands ∙ end-same .cells }) inside e
 
       -- all made: the mid over them
       all-cells : left ≡ 0 → ends .cells ≡ cells
@@ -119,26 +130,3 @@ module _ (number : ℕ → ℕ) (child : ℕ → ℕ) where
       split-of-is made stage after count is e all put took =
           put-allocate put number 28 made took
           ∙ ap (allocate number 28 (withWords (λ p. getD array (0 + p) 0) 4 4 blank)) (sym is) ∙ split-built e all
-
--- a split is told by the children of the characters
-module _ (number : ℕ → ℕ) (f g : ℕ → ℕ) (same : (y : ℕ) → y < 256 → f y ≡ g y) where
-  end-agree : (i j : ℕ) (cells : List (List ℕ)) → i < 4 → j < 8 → SameRow (endRow number f i j cells) (endRow number g i j cells)
-  unfolding endRow
-  end-agree i j cells high middle = table-agree number _ _ cells (λ k low. same (64 * i + 8 * j + k) (omega arith))
-
-  mid-agree : (i : ℕ) (cells : List (List ℕ)) → i < 4 → SameRow (midRow number f i cells) (midRow number g i cells)
-  unfolding midRow
-  mid-agree i cells high =
-      let ends-same = rows-agree (endRow number f i) (endRow number g i) 8 0 cells (λ j l low less. end-agree i j l high (omega arith)) in
-      subst (λ (l : List (List ℕ)). SameRow (tableRow number (rows (endRow number f i) 8 0 cells .words) (rows (endRow number f i) 8 0 cells .cells)) (tableRow number (rows (endRow number g i) 8 0 cells .words) l))
-      (ends-same .cells)
-      (table-agree number (rows (endRow number f i) 8 0 cells .words) (rows (endRow number g i) 8 0 cells .words) (rows (endRow number f i) 8 0 cells .cells)
-      (λ p near. ends-same .words p))
-
-  pub split-agree : (cells : List (List ℕ)) → splitOf number f cells ≡ splitOf number g cells
-  unfolding splitOf
-  split-agree cells =
-      let mids-same = rows-agree (midRow number f) (midRow number g) 4 0 cells (λ i l low less. mid-agree i l (omega arith)) in
-      ap (allocate number 28 (withWords (λ p. rows (midRow number f) 4 0 cells .words (p - 4)) 4 4 blank)) (mids-same .cells)
-      ∙ ap (λ (s : List ℕ). allocate number 28 s (rows (midRow number g) 4 0 cells .cells))
-      (words-agree (λ p. rows (midRow number f) 4 0 cells .words (p - 4)) (λ p. rows (midRow number g) 4 0 cells .words (p - 4)) 4 4 blank (λ p low high. mids-same .words (p - 4)))

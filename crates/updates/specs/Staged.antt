@@ -2,7 +2,7 @@
 use mathlib.Core.Path.{_≡_}
 use mathlib.Core.Bool.{false}
 use mathlib.Core.List.{List}
-use Prim.Native.Nat.{ℕ, zero, suc, _-_, _≤_, _<_}
+use Prim.Native.Nat.{ℕ, zero, suc, _+_, _-_, _≤_, _<_}
 use lib.ListN.{length, getD}
 use Rattle.cells.specs.Memory.{Memory}
 use Rattle.nodes.specs.Layout.{Layout}
@@ -38,9 +38,9 @@ pub record Rowed (row : Row) (word : ℕ) (cells : List (List ℕ)) : Type 0 whe
 abbrev pub RowFitting : Row → Type 0
 RowFitting row = length (row .cells) ≤ stageCells
 
--- an array that holds the child word of each character
-pub record Children (array : List ℕ) (child : ℕ → ℕ) : Type 0 where
-  pub each : (y : ℕ) → y < 256 → getD array y 0 ≡ child y
+-- an array that holds the child words of eight characters from one on
+pub record Words (array : List ℕ) (child : ℕ → ℕ) (from : ℕ) : Type 0 where
+  pub each : (k : ℕ) → k < 8 → getD array k 0 ≡ child (from + k)
 
 -- a word has a tree, as deep as so many characters at least
 pub record HasTree (layout : Layout) (m : Memory) (word left : ℕ) : Type 0 where

@@ -1,13 +1,15 @@
-// A split made of any children: each mid's ends in rising order, then that mid, the head last.
+// A split made of the children of a sparse cell and one more: each mid's ends in rising order, then that mid, the head last.
 ghost use mathlib.Core.Path.{_≡_};
 ghost use Prim.Native.Nat.{_+_, _*_, _≤_, _<_};
 ghost use lib.ListN.{length, getD, take};
-ghost use Rattle.nodes.specs.Sparse.{someWord};
+ghost use Rattle.nodes.specs.Sparse.{sparseChild, someWord};
+ghost use Rattle.updates.specs.SetChild.{withChild};
 ghost use Rattle.updates.specs.SplitBuild.{tableRow, midRow, splitOf};
 ghost use Rattle.staging.specs.Numbering.{numberFrom, Numbered};
 ghost use Rattle.staging.specs.Stage.{staged};
-ghost use Rattle.updates.specs.Staged.{builtOf, Fitting, Rowed, RowFitting};
+ghost use Rattle.updates.specs.Staged.{builtOf, Fitting, Rowed, RowFitting, Words};
 use nodes::layout::Layout;
+use nodes::sparse::sparse_child;
 use staging::new_cells::put_words;
 use staging::stage::Made;
 use staging::stage::STAGE_CELLS;
@@ -60,24 +62,52 @@ fn table_row(
     }
 }
 
+// The child word of a character, with that of one character replaced.
+fn child_with(cell: &[u8], x: u8, word: u32, y: u8) -> u32
+    requires { ⌜ length (now cell) ≡ 32 ⌝ }
+    ensures { λ r. ⌜ r ≡ withChild (sparseChild (now (cell .entry))) x word y ⌝ }
+{
+    if y == x {
+        return word;
+    }
+    sparse_child(cell, y)
+}
+
+// The child words of eight characters from one on.
+fn fill_words(words: &mut [u32], cell: &[u8], x: u8, word: u32, from: usize)
+    requires { ⌜ (8 ≤ length (now words)) × (length (now cell) ≡ 32) × (from + 8 ≤ 256) ⌝ }
+    ensures { λ _. ⌜ Words (now (words .exit)) (withChild (sparseChild (now (cell .entry))) x word) from ⌝ }
+{
+    let mut k: usize = 0;
+    while k < 8 {
+        let child = child_with(cell, x, word, (from + k) as u8);
+        words[k] = child;
+        k += 1;
+    }
+}
+
 // The ends of the characters with these two upper bits, then their mid.
 fn mid_row(
     layout: Layout,
     numbers: &[u16; STAGE_CELLS],
     free: usize,
     stage: &mut [u8; STAGE_SIZE],
-    children: &[u32; 256],
+    cell: &[u8],
+    x: u8,
+    word: u32,
     i: usize,
     count: usize,
 ) -> Placed
-    requires { ⌜ Numbered layout free × (i < 4) × RowFitting (midRow (numberFrom layout (take free (now numbers))) (λ y. getD (now children) y 0) i (staged (now stage) count)) ⌝ }
-    ensures { λ r. ⌜ Rowed (midRow (numberFrom layout (take free (now (numbers .entry)))) (λ y. getD (now (children .entry)) y 0) i (staged (now (stage .entry)) count)) (r .word) (staged (now (stage .exit)) (r .count)) ⌝ }
+    requires { ⌜ Numbered layout free × (length (now cell) ≡ 32) × (i < 4) × RowFitting (midRow (numberFrom layout (take free (now numbers))) (withChild (sparseChild (now cell)) x word) i (staged (now stage) count)) ⌝ }
+    ensures { λ r. ⌜ Rowed (midRow (numberFrom layout (take free (now (numbers .entry)))) (withChild (sparseChild (now (cell .entry))) x word) i (staged (now (stage .entry)) count)) (r .word) (staged (now (stage .exit)) (r .count)) ⌝ }
 {
     let mut ends = [0u32; 8];
     let mut at = count;
     let mut j: usize = 0;
     while j < 8 {
-        let row = table_row(layout, numbers, free, stage, children, 64 * i + 8 * j, at);
+        let mut words = [0u32; 8];
+        fill_words(&mut words, cell, x, word, 64 * i + 8 * j);
+        let row = table_row(layout, numbers, free, stage, &words, 0, at);
         ends[j] = row.word;
         at = row.count;
         j += 1;
@@ -91,17 +121,19 @@ pub fn split_of(
     numbers: &[u16; STAGE_CELLS],
     free: usize,
     stage: &mut [u8; STAGE_SIZE],
-    children: &[u32; 256],
+    cell: &[u8],
+    x: u8,
+    word: u32,
     count: usize,
 ) -> Made
-    requires { ⌜ Numbered layout free × Fitting (splitOf (numberFrom layout (take free (now numbers))) (λ y. getD (now children) y 0) (staged (now stage) count)) ⌝ }
-    ensures { λ r. ⌜ builtOf r (now (stage .exit)) ≡ splitOf (numberFrom layout (take free (now (numbers .entry)))) (λ y. getD (now (children .entry)) y 0) (staged (now (stage .entry)) count) ⌝ }
+    requires { ⌜ Numbered layout free × (length (now cell) ≡ 32) × Fitting (splitOf (numberFrom layout (take free (now numbers))) (withChild (sparseChild (now cell)) x word) (staged (now stage) count)) ⌝ }
+    ensures { λ r. ⌜ builtOf r (now (stage .exit)) ≡ splitOf (numberFrom layout (take free (now (numbers .entry)))) (withChild (sparseChild (now (cell .entry))) x word) (staged (now (stage .entry)) count) ⌝ }
 {
     let mut mids = [0u32; 8];
     let mut at = count;
     let mut i: usize = 0;
     while i < 4 {
-        let row = mid_row(layout, numbers, free, stage, children, i, at);
+        let row = mid_row(layout, numbers, free, stage, cell, x, word, i, at);
         mids[4 + i] = row.word;
         at = row.count;
         i += 1;

@@ -4,14 +4,13 @@ ghost use mathlib.Core.Bool.{true};
 ghost use Prim.Native.Nat.{_+_, _*_, _≤_, _<_};
 ghost use lib.ListN.{length, take};
 ghost use Rattle.cells.specs.Memory.{memoryOf};
-ghost use Rattle.nodes.specs.Sparse.{sparseCount, positionOf, sparseChild, validSparse};
-ghost use Rattle.updates.specs.SetChild.{withChild, sparseSet};
+ghost use Rattle.nodes.specs.Sparse.{sparseCount, positionOf, validSparse};
+ghost use Rattle.updates.specs.SetChild.{sparseSet};
 ghost use Rattle.staging.specs.Numbering.{numberFrom, Numbered};
-ghost use Rattle.updates.specs.Staged.{builtOf, Fitting, Children};
+ghost use Rattle.updates.specs.Staged.{builtOf, Fitting};
 use crate::rows::split_of;
 use cells::cell;
 use nodes::layout::Layout;
-use nodes::sparse::sparse_child;
 use nodes::sparse::sparse_count;
 use staging::sparse::put_appended;
 use staging::sparse::put_replaced;
@@ -34,20 +33,6 @@ fn position_of(cell: &[u8], x: u8) -> usize
         position += 1;
     }
     position
-}
-
-// The child word of each character, with that of one character replaced.
-fn fill_children(children: &mut [u32], cell: &[u8], x: u8, word: u32)
-    requires { ⌜ (256 ≤ length (now children)) × (length (now cell) ≡ 32) ⌝ }
-    ensures { λ _. ⌜ Children (now (children .exit)) (withChild (sparseChild (now (cell .entry))) x word) ⌝ }
-{
-    let mut y: usize = 0;
-    while y < 256 {
-        let child = sparse_child(cell, y as u8);
-        children[y] = child;
-        y += 1;
-    }
-    children[x as usize] = word;
 }
 
 // A copy with the child in it, or a split where the cell is full.
@@ -77,7 +62,5 @@ pub fn sparse_set(
         put_appended(stage, count, block, number, x, word);
         return allocated_as(layout, numbers, free, 30, count);
     }
-    let mut children = [0u32; 256];
-    fill_children(&mut children, bytes, x, word);
-    split_of(layout, numbers, free, stage, &children, count)
+    split_of(layout, numbers, free, stage, bytes, x, word, count)
 }

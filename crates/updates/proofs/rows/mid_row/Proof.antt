@@ -2,39 +2,52 @@
 use mathlib.Core.Path.{_≡_, refl}
 use native.Mathlib.Omega.{arith}
 use Prim.Native.Nat.{_-_, _≤_}
-use lib.ListN.{length, getD, take}
+use lib.ListN.{length, take}
 use borrow.Author.Needs.{needs}
-use Rattle.updates.specs.SplitBuild.{rows, endRow}
+use Rattle.nodes.specs.Sparse.{sparseChild}
 use Rattle.staging.specs.Numbering.{numberFrom}
 use Rattle.staging.specs.Stage.{staged}
+use Rattle.updates.specs.SetChild.{withChild}
+use Rattle.updates.specs.SplitBuild.{rows, endRow}
 use Rattle.updates.proofs.StagedRows.{Making, making-start}
 use Rattle.updates.proofs.StagedSplitOf.{endSlot, end-fits, end-more, mid-fits, mid-is}
 use Rattle.updates.proofs.rows.mid_row.Statement.{statement}
 use Rattle.updates.proofs.rows.mid_row.Tie as tie
 
 abbrev Inv-loop : tie.InvT-loop
-Inv-loop layout numbers free stage₀ children i count ends₀ at₀ j₀ stage ends at j =
+Inv-loop layout numbers free stage₀ cell x word i count ends₀ at₀ j₀ stage ends at j =
     (j ≤ 8) × (length ends ≡ 8)
-    × Making endSlot (rows (endRow (numberFrom layout (take free numbers)) (λ y. getD children y 0) i) 8 0 (staged stage₀ count))
-    (rows (endRow (numberFrom layout (take free numbers)) (λ y. getD children y 0) i) (8 - j) j (staged stage at)) j ends
+    × Making endSlot (rows (endRow (numberFrom layout (take free numbers)) (withChild (sparseChild cell) x word) i) 8 0 (staged stage₀ count))
+    (rows (endRow (numberFrom layout (take free numbers)) (withChild (sparseChild cell) x word) i) (8 - j) j (staged stage at)) j ends
 
 abbrev μ-loop : tie.MeasureT-loop
-μ-loop layout numbers free stage₀ children i count ends₀ at₀ j₀ stage ends at j = 8 - j
+μ-loop layout numbers free stage₀ cell x word i count ends₀ at₀ j₀ stage ends at j = 8 - j
 
 loop-holds : tie.Need-loop-holds Inv-loop μ-loop
 loop-holds c = (omega arith, refl, making-start _ _ _)
 
-mul-table-row : tie.Need-mul-table-row Inv-loop μ-loop
-mul-table-row c = search needs
+slice-aggregate-fill-words : tie.Need-slice-aggregate-fill-words Inv-loop μ-loop
+slice-aggregate-fill-words c = search needs
 
-mul-table-row-2 : tie.Need-mul-table-row-2 Inv-loop μ-loop
-mul-table-row-2 c = search needs
+mul-fill-words : tie.Need-mul-fill-words Inv-loop μ-loop
+mul-fill-words c = search needs
 
-add-table-row : tie.Need-add-table-row Inv-loop μ-loop
-add-table-row c = search needs
+mul-fill-words-2 : tie.Need-mul-fill-words-2 Inv-loop μ-loop
+mul-fill-words-2 c = search needs
+
+add-fill-words : tie.Need-add-fill-words Inv-loop μ-loop
+add-fill-words c = search needs
+
+fill-words-requires : tie.Need-fill-words-requires Inv-loop μ-loop
+fill-words-requires c κs = (search needs, search needs, omega arith)
+
+slice-aggregate-table-row : tie.Need-slice-aggregate-table-row Inv-loop μ-loop
+slice-aggregate-table-row c = search needs
 
 table-row-requires : tie.Need-table-row-requires Inv-loop μ-loop
-table-row-requires c κs = (search needs, omega arith, end-fits _ _ _ _ _ _ _ _ (c .before .before .before .loop .inv .2) (7 - c .before .before .before .loop .j) (c .before .before .before .before .pre .2) (omega arith))
+table-row-requires c κs =
+    let turn = c .before .before .before .before .before .before .loop in
+    (search needs, search needs, end-fits _ _ _ _ _ (turn .j) _ _ (turn .inv .2) _ (c .before .before .before .fill-words .ensures) (7 - turn .j) (c .before .before .before .before .before .before .before .before .pre .3) (omega arith))
 
 mul-ends : tie.Need-mul-ends Inv-loop μ-loop
 mul-ends c = search needs
@@ -49,13 +62,15 @@ loop-less : tie.Need-loop-less Inv-loop μ-loop
 loop-less c = search needs
 
 loop-again : tie.Need-loop-again Inv-loop μ-loop
-loop-again c = (omega arith, search needs, end-more _ _ _ _ _ _ _ _ (c .before .before .before .before .loop .inv .2) _ _ _ (c .table-row .ensures) (omega arith) (omega arith))
+loop-again c =
+    let turn = c .before .before .before .before .before .before .before .loop in
+    (omega arith, search needs, end-more _ _ _ _ _ (turn .j) _ _ (turn .inv .2) _ (c .before .before .before .before .fill-words .ensures) _ _ _ (c .table-row .ensures) (omega arith) (omega arith))
 
-slice-aggregate-table-row : tie.Need-slice-aggregate-table-row Inv-loop μ-loop
-slice-aggregate-table-row c = search needs
+slice-aggregate-table-row-2 : tie.Need-slice-aggregate-table-row-2 Inv-loop μ-loop
+slice-aggregate-table-row-2 c = search needs
 
 table-row-requires-2 : tie.Need-table-row-requires-2 Inv-loop μ-loop
-table-row-requires-2 c κs = (search needs, omega arith, mid-fits _ _ _ _ _ _ _ _ (c .before .before .before .loop .inv .2) (omega arith) (omega arith) (c .before .before .before .before .pre .2))
+table-row-requires-2 c κs = (search needs, omega arith, mid-fits _ _ _ _ _ _ _ _ (c .before .before .before .loop .inv .2) (omega arith) (omega arith) (c .before .before .before .before .before .pre .3))
 
 returns : tie.Need-returns Inv-loop μ-loop
 returns c = mid-is _ _ _ _ _ _ _ _ (c .before .before .before .before .loop .inv .2) _ _ (omega arith) (omega arith) (c .table-row2 .ensures)
@@ -67,15 +82,18 @@ mid-row-spec =
     Inv-loop
     μ-loop
     loop-holds
-    mul-table-row
-    mul-table-row-2
-    add-table-row
+    slice-aggregate-fill-words
+    mul-fill-words
+    mul-fill-words-2
+    add-fill-words
+    fill-words-requires
+    slice-aggregate-table-row
     table-row-requires
     mul-ends
     array-write-ends
     add-j
     loop-less
     loop-again
-    slice-aggregate-table-row
+    slice-aggregate-table-row-2
     table-row-requires-2
     returns)

@@ -2,8 +2,10 @@
 use mathlib.Core.Path.{_≡_, refl}
 use native.Mathlib.Omega.{arith}
 use Prim.Native.Nat.{_-_, _≤_}
-use lib.ListN.{length, getD, take}
+use lib.ListN.{length, take}
 use borrow.Author.Needs.{needs}
+use Rattle.nodes.specs.Sparse.{sparseChild}
+use Rattle.updates.specs.SetChild.{withChild}
 use Rattle.updates.specs.SplitBuild.{rows, midRow}
 use Rattle.staging.specs.Numbering.{numberFrom}
 use Rattle.staging.specs.Stage.{staged}
@@ -13,19 +15,19 @@ use Rattle.updates.proofs.rows.split_of.Statement.{statement}
 use Rattle.updates.proofs.rows.split_of.Tie as tie
 
 abbrev Inv-loop : tie.InvT-loop
-Inv-loop layout numbers free stage₀ children count mids₀ at₀ i₀ stage mids at i =
+Inv-loop layout numbers free stage₀ cell x word count mids₀ at₀ i₀ stage mids at i =
     (i ≤ 4) × (length mids ≡ 8)
-    × Making midSlot (rows (midRow (numberFrom layout (take free numbers)) (λ y. getD children y 0)) 4 0 (staged stage₀ count))
-    (rows (midRow (numberFrom layout (take free numbers)) (λ y. getD children y 0)) (4 - i) i (staged stage at)) i mids
+    × Making midSlot (rows (midRow (numberFrom layout (take free numbers)) (withChild (sparseChild cell) x word)) 4 0 (staged stage₀ count))
+    (rows (midRow (numberFrom layout (take free numbers)) (withChild (sparseChild cell) x word)) (4 - i) i (staged stage at)) i mids
 
 abbrev μ-loop : tie.MeasureT-loop
-μ-loop layout numbers free stage₀ children count mids₀ at₀ i₀ stage mids at i = 4 - i
+μ-loop layout numbers free stage₀ cell x word count mids₀ at₀ i₀ stage mids at i = 4 - i
 
 loop-holds : tie.Need-loop-holds Inv-loop μ-loop
 loop-holds c = (omega arith, refl, making-start _ _ _)
 
 mid-row-requires : tie.Need-mid-row-requires Inv-loop μ-loop
-mid-row-requires c κs = (search needs, omega arith, mids-first-fits _ _ _ _ _ _ _ (c .before .before .loop .inv .2) (3 - c .before .before .loop .i) (c .before .before .before .pre .1) (omega arith))
+mid-row-requires c κs = (search needs, search needs, omega arith, mids-first-fits _ _ _ _ _ _ _ (c .before .before .loop .inv .2) (3 - c .before .before .loop .i) (c .before .before .before .before .pre .2) (omega arith))
 
 add-mids : tie.Need-add-mids Inv-loop μ-loop
 add-mids c = search needs
@@ -49,10 +51,10 @@ slice-aggregate-put-words : tie.Need-slice-aggregate-put-words Inv-loop μ-loop
 slice-aggregate-put-words c = search needs
 
 put-words-requires : tie.Need-put-words-requires Inv-loop μ-loop
-put-words-requires c κs = (head-fits _ _ _ _ _ _ _ (c .before .before .before .loop .inv .2) _ _ refl (omega arith) (c .before .before .before .before .pre .1), omega arith, omega arith)
+put-words-requires c κs = (head-fits _ _ _ _ _ _ _ (c .before .before .before .loop .inv .2) _ _ refl (omega arith) (c .before .before .before .before .before .pre .2), omega arith, omega arith)
 
 allocated-as-requires : tie.Need-allocated-as-requires Inv-loop μ-loop
-allocated-as-requires c κs = (search needs, omega arith, head-fits _ _ _ _ _ _ _ (c .before .before .before .before .loop .inv .2) _ _ refl (omega arith) (c .before .before .before .before .before .pre .1))
+allocated-as-requires c κs = (search needs, omega arith, head-fits _ _ _ _ _ _ _ (c .before .before .before .before .loop .inv .2) _ _ refl (omega arith) (c .before .before .before .before .before .before .pre .2))
 
 returns : tie.Need-returns Inv-loop μ-loop
 returns c = split-of-is _ _ _ _ _ _ _ (c .before .before .before .before .before .loop .inv .2) _ _ _ _ refl (omega arith) (omega arith) (c .before .put-words .ensures) (c .allocated-as .ensures)

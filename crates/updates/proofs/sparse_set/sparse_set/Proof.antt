@@ -36,17 +36,11 @@ allocated-as-requires-2 c κs = (search needs, search needs, appended-fits _ _ _
 returns-2 : tie.Need-returns-2
 returns-2 c = appended-is _ _ _ _ _ _ _ _ _ (c .before .before .before .before .before .before .before .cell .ensures) (c .before .before .before .before .before .before .sparse-count .ensures) (c .before .before .before .before .before .position-of .ensures) _ _ (c .before .before .before .before .if1 .left) (c .before .before .before .if2 .taken) (c .before .put-appended .ensures) (c .allocated-as2 .ensures)
 
-slice-aggregate-fill-children : tie.Need-slice-aggregate-fill-children
-slice-aggregate-fill-children c = search needs
-
-fill-children-requires : tie.Need-fill-children-requires
-fill-children-requires c κs = (search needs, ap length (c .before .before .before .before .before .cell .ensures) ∙ memory-length _ _)
-
 split-of-requires : tie.Need-split-of-requires
-split-of-requires c κs = (search needs, seventh-fits _ _ _ _ _ _ _ _ _ (c .before .before .before .before .before .before .before .before .before .cell .ensures) (c .before .before .before .before .before .before .before .before .sparse-count .ensures) (c .before .before .before .before .before .before .before .position-of .ensures) _ (c .before .before .before .before .before .before .if1 .left) (c .before .before .before .before .before .if2 .left) (c .before .before .before .fill-children .ensures) (c .before .before .before .before .before .before .before .before .before .before .before .pre .3))
+split-of-requires c κs = (search needs, ap length (c .before .before .before .before .before .cell .ensures) ∙ memory-length _ _, seventh-fits _ _ _ _ _ _ _ _ _ (c .before .before .before .before .before .cell .ensures) (c .before .before .before .before .sparse-count .ensures) (c .before .before .before .position-of .ensures) (c .before .before .if1 .left) (c .before .if2 .left) (c .before .before .before .before .before .before .before .pre .3))
 
 returns-3 : tie.Need-returns-3
-returns-3 c = seventh-is _ _ _ _ _ _ _ _ _ (c .before .before .before .before .before .before .before .before .before .before .cell .ensures) (c .before .before .before .before .before .before .before .before .before .sparse-count .ensures) (c .before .before .before .before .before .before .before .before .position-of .ensures) _ _ (c .before .before .before .before .before .before .before .if1 .left) (c .before .before .before .before .before .before .if2 .left) (c .before .before .before .before .fill-children .ensures) (c .split-of .ensures)
+returns-3 c = seventh-is _ _ _ _ _ _ _ _ _ (c .before .before .before .before .before .before .cell .ensures) (c .before .before .before .before .before .sparse-count .ensures) (c .before .before .before .before .position-of .ensures) _ (c .before .before .before .if1 .left) (c .before .before .if2 .left) (c .split-of .ensures)
 
 pub sparse-set-spec : {M : Type 1} → statement M
 sparse-set-spec =
@@ -61,7 +55,5 @@ sparse-set-spec =
     put-appended-requires
     allocated-as-requires-2
     returns-2
-    slice-aggregate-fill-children
-    fill-children-requires
     split-of-requires
     returns-3)
