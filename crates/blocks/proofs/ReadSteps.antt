@@ -3,13 +3,13 @@ use mathlib.Core.Path.{_≡_, refl, sym, ap, _∙_}
 use mathlib.Core.Logic.{_≢_}
 use mathlib.Core.Bool.{true, false}
 use mathlib.Core.List.{List, _++_}
-use Prim.Native.Nat.{ℕ, _*_, _≤_}
+use Prim.Native.Nat.{ℕ}
 use native.Mathlib.Omega.{arith}
 use lib.ListN.{length}
 use borrow.Author.Tests.{not-false}
 use Rattle.cells.specs.Memory.{memoryOf}
 use Rattle.cells.specs.Occurrences.{occurrences}
-use Rattle.nodes.specs.Layout.{Layout, keyLimit, cellLimit}
+use Rattle.nodes.specs.Layout.{Layout, keyLimit, Covered}
 use Rattle.trees.specs.Tree.{tree}
 use Rattle.trees.specs.Lookup.{lookup}
 use Rattle.trees.specs.Coded.{Grown}
@@ -47,8 +47,8 @@ module _ (b : List ℕ) (done : validate b ≡ 0) where
     pub block-fits : Fits layout (length b)
     block-fits = layout-fits b layout block-size e
 
-    pub block-room : (layout .cells * 32 ≤ length b) × (layout .cells ≤ cellLimit)
-    block-room = (omega (arith, block-fits .whole), block-fits .most)
+    pub block-covered : Covered layout b
+    block-covered = record { fits = omega (arith, block-fits .whole); small = block-fits .most }
 
     module _ (word : ℕ) (is : word ≡ rootWord layout b) where
       pub root-grown : Grown layout (memoryOf b) keyLimit word

@@ -6,7 +6,7 @@ ghost use Rattle.cells.specs.Memory.{memoryOf};
 ghost use Rattle.nodes.specs.Step.{chainStep, sparseStep, splitStep, plainStep, prefixStep};
 ghost use Rattle.nodes.specs.LeastChild.{firstStep, leastStep};
 ghost use Rattle.nodes.specs.Coded.{pointerOf, Named, leastOf};
-ghost use Rattle.nodes.specs.Layout.{cellLimit};
+ghost use Rattle.nodes.specs.Layout.{cellLimit, Covered};
 use crate::chains::chain_child;
 use crate::layout::Layout;
 use crate::pointer::Pointer;
@@ -101,7 +101,7 @@ fn split_least(layout: Layout, block: &[u8], number: usize, from: usize) -> Leas
 
 // The least at a chain, sparse or split; any other is broken where one of these is called for.
 fn plain_least(layout: Layout, block: &[u8], pointer: Pointer, from: usize) -> Least
-    requires { ⌜ (layout .cells * 32 ≤ length (now block)) × (layout .cells ≤ cellLimit) × (from < 256) × Named layout pointer ⌝ }
+    requires { ⌜ Covered layout (now block) × (from < 256) × Named layout pointer ⌝ }
     ensures { λ r. ⌜ leastOf r ≡ firstStep (plainStep layout (memoryOf (now (block .entry))) (pointerOf pointer)) (256 - from) from ⌝ }
 {
     match pointer {
@@ -114,7 +114,7 @@ fn plain_least(layout: Layout, block: &[u8], pointer: Pointer, from: usize) -> L
 
 // The least at a prefix: it is the least at the node linked.
 fn prefix_least(layout: Layout, block: &[u8], number: usize, from: usize) -> Least
-    requires { ⌜ (layout .cells * 32 ≤ length (now block)) × (layout .cells ≤ cellLimit) × (number < layout .cells) × (from < 256) ⌝ }
+    requires { ⌜ Covered layout (now block) × (number < layout .cells) × (from < 256) ⌝ }
     ensures { λ r. ⌜ leastOf r ≡ firstStep (prefixStep layout (memoryOf (now (block .entry))) number) (256 - from) from ⌝ }
 {
     let bytes = cell(block, number);
@@ -127,7 +127,7 @@ fn prefix_least(layout: Layout, block: &[u8], number: usize, from: usize) -> Lea
 
 // The least character from one on that the node a word names has a child for.
 pub fn least_child(layout: Layout, block: &[u8], word: u32, from: usize) -> Least
-    requires { ⌜ (layout .cells * 32 ≤ length (now block)) × (layout .cells ≤ cellLimit) ⌝ }
+    requires { ⌜ Covered layout (now block) ⌝ }
     ensures { λ r. ⌜ leastOf r ≡ leastStep layout (memoryOf (now (block .entry))) word from ⌝ }
 {
     if 256 <= from {

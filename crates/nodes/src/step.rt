@@ -3,7 +3,7 @@ ghost use mathlib.Core.Path.{_≡_};
 ghost use Prim.Native.Nat.{_*_, _<_, _≤_};
 ghost use lib.ListN.{length};
 ghost use Rattle.cells.specs.Memory.{memoryOf};
-ghost use Rattle.nodes.specs.Layout.{cellLimit};
+ghost use Rattle.nodes.specs.Layout.{cellLimit, Covered};
 ghost use Rattle.nodes.specs.Step.{wordStep, chainStep, sparseStep, tableStep, splitStep, plainStep, prefixStep, childStep};
 ghost use Rattle.nodes.specs.Coded.{pointerOf, Named, stepOf};
 use crate::chains::chain_child;
@@ -100,7 +100,7 @@ fn split_step(layout: Layout, block: &[u8], number: usize, character: u8) -> Chi
 
 // A step at a chain, sparse or split; any other is broken where one of these is called for.
 fn plain_step(layout: Layout, block: &[u8], pointer: Pointer, character: u8) -> ChildStep
-    requires { ⌜ (layout .cells * 32 ≤ length (now block)) × (layout .cells ≤ cellLimit) × Named layout pointer ⌝ }
+    requires { ⌜ Covered layout (now block) × Named layout pointer ⌝ }
     ensures { λ r. ⌜ stepOf r ≡ plainStep layout (memoryOf (now (block .entry))) (pointerOf pointer) character ⌝ }
 {
     match pointer {
@@ -113,7 +113,7 @@ fn plain_step(layout: Layout, block: &[u8], pointer: Pointer, character: u8) -> 
 
 // A step at a prefix: it is the step at the node linked.
 fn prefix_step(layout: Layout, block: &[u8], number: usize, character: u8) -> ChildStep
-    requires { ⌜ (layout .cells * 32 ≤ length (now block)) × (layout .cells ≤ cellLimit) × (number < layout .cells) ⌝ }
+    requires { ⌜ Covered layout (now block) × (number < layout .cells) ⌝ }
     ensures { λ r. ⌜ stepOf r ≡ prefixStep layout (memoryOf (now (block .entry))) number character ⌝ }
 {
     let bytes = cell(block, number);
@@ -126,7 +126,7 @@ fn prefix_step(layout: Layout, block: &[u8], number: usize, character: u8) -> Ch
 
 // The step from the node that a word names to its child of a character.
 pub fn child_step(layout: Layout, block: &[u8], word: u32, character: u8) -> ChildStep
-    requires { ⌜ (layout .cells * 32 ≤ length (now block)) × (layout .cells ≤ cellLimit) ⌝ }
+    requires { ⌜ Covered layout (now block) ⌝ }
     ensures { λ r. ⌜ stepOf r ≡ childStep layout (memoryOf (now (block .entry))) word character ⌝ }
 {
     let pointer = pointer_of(layout, word);

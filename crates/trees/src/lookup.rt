@@ -1,9 +1,7 @@
 // The value of a key in the tree of a word.
 ghost use mathlib.Core.Path.{_≡_};
-ghost use Prim.Native.Nat.{_*_, _≤_};
-ghost use lib.ListN.{length};
 ghost use Rattle.cells.specs.Memory.{memoryOf};
-ghost use Rattle.nodes.specs.Layout.{keyLimit, cellLimit};
+ghost use Rattle.nodes.specs.Layout.{keyLimit, Covered};
 ghost use Rattle.trees.specs.Lookup.{lookup};
 ghost use Rattle.trees.specs.Coded.{Grown, lookupOf};
 use nodes::layout::Layout;
@@ -19,7 +17,7 @@ pub enum Lookup {
 
 // Follows the key's characters from a word; a step that finds no child ends the look-up at once.
 pub fn look_up(layout: Layout, block: &[u8], word: u32, key: &[u8]) -> Lookup
-    requires { ⌜ (layout .cells * 32 ≤ length (now block)) × (layout .cells ≤ cellLimit) × Grown layout (memoryOf (now block)) keyLimit word ⌝ }
+    requires { ⌜ Covered layout (now block) × Grown layout (memoryOf (now block)) keyLimit word ⌝ }
     ensures { λ r. ⌜ lookupOf r ≡ lookup layout (memoryOf (now (block .entry))) word (now (key .entry)) ⌝ }
 {
     let mut node = word;

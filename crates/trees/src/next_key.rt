@@ -1,9 +1,9 @@
 // The least key greater than a given one.
 ghost use mathlib.Core.Path.{_≡_};
-ghost use Prim.Native.Nat.{_+_, _-_, _*_, _≤_, _<_};
+ghost use Prim.Native.Nat.{_+_, _-_, _≤_, _<_};
 ghost use lib.ListN.{length, drop, set};
 ghost use Rattle.cells.specs.Memory.{memoryOf};
-ghost use Rattle.nodes.specs.Layout.{keyLimit, cellLimit};
+ghost use Rattle.nodes.specs.Layout.{keyLimit, Covered};
 ghost use Rattle.trees.specs.NextWalk.{nextFrom};
 ghost use Rattle.trees.specs.Coded.{Grown, keyBelow, Told};
 use nodes::layout::KEY_LIMIT;
@@ -39,7 +39,7 @@ fn first_below(
     at: usize,
     out: &mut [u8; KEY_LIMIT],
 ) -> NextStep
-    requires { ⌜ (layout .cells * 32 ≤ length (now block)) × (layout .cells ≤ cellLimit) × (at ≤ keyLimit) × Grown layout (memoryOf (now block)) (keyLimit - at) word ⌝ }
+    requires { ⌜ Covered layout (now block) × (at ≤ keyLimit) × Grown layout (memoryOf (now block)) (keyLimit - at) word ⌝ }
     ensures { λ r. ⌜ Told (now (out .exit)) at r (keyBelow layout (memoryOf (now (block .entry))) (keyLimit - (at + 1)) word from) ⌝ }
 {
     let Least::Found(character, child) = least_child(layout, block, word, from) else {
@@ -78,7 +78,7 @@ fn next_from(
     i: usize,
     out: &mut [u8; KEY_LIMIT],
 ) -> NextStep
-    requires { ⌜ (layout .cells * 32 ≤ length (now block)) × (layout .cells ≤ cellLimit) × (i ≤ keyLimit) × Grown layout (memoryOf (now block)) (keyLimit - i) word ⌝ }
+    requires { ⌜ Covered layout (now block) × (i ≤ keyLimit) × Grown layout (memoryOf (now block)) (keyLimit - i) word ⌝ }
     ensures { λ r. ⌜ Told (now (out .exit)) i r (nextFrom layout (memoryOf (now (block .entry))) (keyLimit - i) word (drop i (now (key .entry)))) ⌝ }
 {
     if key.len() <= i {
@@ -108,7 +108,7 @@ pub fn next_after(
     key: &[u8],
     out: &mut [u8; KEY_LIMIT],
 ) -> NextStep
-    requires { ⌜ (layout .cells * 32 ≤ length (now block)) × (layout .cells ≤ cellLimit) × Grown layout (memoryOf (now block)) keyLimit word ⌝ }
+    requires { ⌜ Covered layout (now block) × Grown layout (memoryOf (now block)) keyLimit word ⌝ }
     ensures { λ r. ⌜ Told (now (out .exit)) 0 r (nextFrom layout (memoryOf (now (block .entry))) keyLimit word (now (key .entry))) ⌝ }
 {
     next_from(layout, block, word, key, 0, out)

@@ -1,8 +1,7 @@
 // Cells visited over an array of stamps, one byte for each cell.
-ghost use Prim.Native.Nat.{_*_, _≤_, _<_};
-ghost use lib.ListN.{length};
+ghost use Prim.Native.Nat.{_<_};
 ghost use Rattle.cells.specs.Memory.{memoryOf};
-ghost use Rattle.nodes.specs.Layout.{cellLimit};
+ghost use Rattle.nodes.specs.Layout.{cellLimit, Covered};
 ghost use Rattle.nodes.specs.Split.{endCells};
 ghost use Rattle.trees.specs.Visit.{Judged, cellIf};
 use cells::cell;
@@ -35,7 +34,7 @@ pub fn stamp_table(
     stamp: u8,
     word: u32,
 ) -> bool
-    requires { ⌜ (layout .cells ≤ cellLimit) × (layout .cells * 32 ≤ length (now block)) ⌝ }
+    requires { ⌜ Covered layout (now block) ⌝ }
     ensures { λ r. ⌜ Judged (endCells layout (memoryOf (now (block .entry))) word) stamp (now (stamps .entry)) (now (stamps .exit)) r ⌝ }
 {
     let Pointer::Split(number) = pointer_of(layout, word) else {

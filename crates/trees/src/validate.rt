@@ -1,11 +1,10 @@
 // Validation of one root's tree: the checks of a node, of the cells of a split and of a child call each other, the depth left falling.
-ghost use Prim.Native.Nat.{_+_, _*_, _≤_, _<_};
-ghost use lib.ListN.{length};
+ghost use Prim.Native.Nat.{_<_};
 ghost use Rattle.cells.specs.Memory.{memoryOf};
 ghost use Rattle.trees.specs.Root.{rootTree};
 ghost use Rattle.trees.specs.Visit.{Judged};
 ghost use Rattle.trees.specs.Parts.{childTree, plainTree, splitTables};
-ghost use Rattle.nodes.specs.Layout.{cellLimit};
+ghost use Rattle.nodes.specs.Layout.{Covered};
 use crate::stamps::stamp_cell;
 use crate::stamps::stamp_table;
 use cells::cell;
@@ -31,7 +30,7 @@ fn node_check(
     word: u32,
     depth: usize,
 ) -> bool
-    requires { ⌜ (layout .cells ≤ cellLimit) × (layout .cells * 32 ≤ length (now block)) ⌝ }
+    requires { ⌜ Covered layout (now block) ⌝ }
     ensures { λ r. ⌜ Judged (plainTree layout (memoryOf (now (block .entry))) depth word) stamp (now (stamps .entry)) (now (stamps .exit)) r ⌝ }
 {
     match pointer_of(layout, word) {
@@ -79,7 +78,7 @@ fn split_check(
     number: usize,
     depth: usize,
 ) -> bool
-    requires { ⌜ (layout .cells ≤ cellLimit) × (layout .cells * 32 ≤ length (now block)) × (number < layout .cells) ⌝ }
+    requires { ⌜ Covered layout (now block) × (number < layout .cells) ⌝ }
     ensures { λ r. ⌜ Judged (splitTables layout (memoryOf (now (block .entry))) depth number) stamp (now (stamps .entry)) (now (stamps .exit)) r ⌝ }
 {
     let head = number * 32 + 16;
@@ -121,7 +120,7 @@ fn child_check(
     word: u32,
     depth: usize,
 ) -> bool
-    requires { ⌜ (layout .cells ≤ cellLimit) × (layout .cells * 32 ≤ length (now block)) ⌝ }
+    requires { ⌜ Covered layout (now block) ⌝ }
     ensures { λ r. ⌜ Judged (childTree layout (memoryOf (now (block .entry))) depth word) stamp (now (stamps .entry)) (now (stamps .exit)) r ⌝ }
 {
     if word == 0 {
@@ -152,7 +151,7 @@ pub fn root_check(
     stamp: u8,
     word: u32,
 ) -> bool
-    requires { ⌜ (layout .cells ≤ cellLimit) × (layout .cells * 32 ≤ length (now block)) ⌝ }
+    requires { ⌜ Covered layout (now block) ⌝ }
     ensures { λ r. ⌜ Judged (rootTree layout (memoryOf (now (block .entry))) word) stamp (now (stamps .entry)) (now (stamps .exit)) r ⌝ }
 {
     if word == 0 {

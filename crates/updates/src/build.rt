@@ -4,7 +4,7 @@ ghost use mathlib.Core.Option.{some};
 ghost use Prim.Native.Nat.{_*_, _≤_, _<_};
 ghost use lib.ListN.{length, take, set};
 ghost use Rattle.cells.specs.Memory.{memoryOf};
-ghost use Rattle.nodes.specs.Layout.{keyLimit, cellLimit};
+ghost use Rattle.nodes.specs.Layout.{keyLimit, Covered};
 ghost use Rattle.nodes.specs.Pointer.{pointer};
 ghost use Rattle.nodes.specs.Node.{Node, read};
 ghost use Rattle.updates.specs.SetChild.{setChild};
@@ -32,7 +32,7 @@ use staging::stage::STAGE_SIZE;
 
 // The child word of a character of a node that is valid; NONE, where the rest of a new key goes on, is known to have none.
 fn child_word(layout: Layout, block: &[u8], word: u32, x: u8) -> u32
-    requires { ⌜ (layout .cells * 32 ≤ length (now block)) × (layout .cells ≤ cellLimit) × ((node : Node) × (read layout (memoryOf (now block)) word ≡ some node)) ⌝ }
+    requires { ⌜ Covered layout (now block) × ((node : Node) × (read layout (memoryOf (now block)) word ≡ some node)) ⌝ }
     ensures { λ r. ⌜ r ≡ childOf (read layout (memoryOf (now (block .entry))) word) x ⌝ }
 {
     if word == 0 {
@@ -115,7 +115,7 @@ fn put_word_of(path: &mut [u32; KEY_LIMIT], at: usize, word: u32)
 
 // Down by a key: the word of the node before each character, and the word at the key's end.
 fn descend(layout: Layout, block: &[u8], key: &[u8], word: u32, path: &mut [u32; KEY_LIMIT]) -> u32
-    requires { ⌜ (layout .cells * 32 ≤ length (now block)) × (layout .cells ≤ cellLimit) × (length (now key) ≤ keyLimit) × HasTree layout (memoryOf (now block)) word (length (now key)) ⌝ }
+    requires { ⌜ Covered layout (now block) × (length (now key) ≤ keyLimit) × HasTree layout (memoryOf (now block)) word (length (now key)) ⌝ }
     ensures { λ r. ⌜ (r ≡ reached layout (memoryOf (now (block .entry))) word (now (key .entry)) (length (now (key .entry)))) × Path layout (memoryOf (now (block .entry))) word (now (key .entry)) (length (now (key .entry))) (now (path .exit)) ⌝ }
 {
     let mut at = word;

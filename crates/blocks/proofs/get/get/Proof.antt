@@ -2,7 +2,7 @@ use mathlib.Core.Path.{sym, ap, _∙_}
 use Rattle.trees.specs.Coded.{lookupOf}
 use Rattle.blocks.specs.Answers.{changeNumber}
 use Rattle.blocks.proofs.Trailer.{has-trailer}
-use Rattle.blocks.proofs.ReadSteps.{block-size, block-fits, block-room, root-grown, shown-is}
+use Rattle.blocks.proofs.ReadSteps.{block-size, block-fits, block-covered, root-grown, shown-is}
 use Rattle.blocks.proofs.RefusalSteps.{refusal-number}
 use Rattle.blocks.proofs.GetSteps.{get-refused, get-bad-key, get-missing, get-value}
 use borrow.Author.Needs.{needs}
@@ -34,7 +34,7 @@ root-word-requires : tie.Need-root-word-requires
 root-word-requires c κs = block-fits _ (c .before .before .before .before .before .validate .ensures ∙ ap changeNumber (c .before .before .before .enum-told .given .1)) _ (c .layout-of .ensures)
 
 look-up-requires : tie.Need-look-up-requires
-look-up-requires c κs = (block-room _ (c .before .before .before .before .before .before .validate .ensures ∙ ap changeNumber (c .before .before .before .before .enum-told .given .1)) _ (c .before .layout-of .ensures) .0, block-room _ (c .before .before .before .before .before .before .validate .ensures ∙ ap changeNumber (c .before .before .before .before .enum-told .given .1)) _ (c .before .layout-of .ensures) .1, root-grown _ (c .before .before .before .before .before .before .validate .ensures ∙ ap changeNumber (c .before .before .before .before .enum-told .given .1)) _ (c .before .layout-of .ensures) _ (c .root-word .ensures))
+look-up-requires c κs = (block-covered _ (c .before .before .before .before .before .before .validate .ensures ∙ ap changeNumber (c .before .before .before .before .enum-told .given .1)) _ (c .before .layout-of .ensures), root-grown _ (c .before .before .before .before .before .before .validate .ensures ∙ ap changeNumber (c .before .before .before .before .enum-told .given .1)) _ (c .before .layout-of .ensures) _ (c .root-word .ensures))
 
 enum-known-value : tie.Need-enum-known-value
 enum-known-value c = search needs

@@ -2,7 +2,7 @@ use mathlib.Core.Path.{refl, sym, ap, _∙_}
 use borrow.Author.Tests.{not-true, not-false}
 use Rattle.blocks.specs.Answers.{changeNumber}
 use Rattle.blocks.proofs.Trailer.{has-trailer}
-use Rattle.blocks.proofs.ReadSteps.{block-size, block-fits, block-room, root-grown}
+use Rattle.blocks.proofs.ReadSteps.{block-size, block-fits, block-covered, root-grown}
 use Rattle.blocks.proofs.RefusalSteps.{refusal-number}
 use Rattle.blocks.proofs.NextSteps.{next-refused, next-over-long, next-missing, next-found}
 use borrow.Author.Needs.{needs}
@@ -40,7 +40,7 @@ root-word-requires : tie.Need-root-word-requires
 root-word-requires c κs = block-fits _ (c .before .before .before .before .before .validate .ensures ∙ ap changeNumber (c .before .before .before .enum-told .given .1)) _ (c .layout-of .ensures)
 
 next-after-requires : tie.Need-next-after-requires
-next-after-requires c κs = (block-room _ (c .before .before .before .before .before .before .before .validate .ensures ∙ ap changeNumber (c .before .before .before .before .before .enum-told .given .1)) _ (c .before .before .layout-of .ensures) .0, block-room _ (c .before .before .before .before .before .before .before .validate .ensures ∙ ap changeNumber (c .before .before .before .before .before .enum-told .given .1)) _ (c .before .before .layout-of .ensures) .1, root-grown _ (c .before .before .before .before .before .before .before .validate .ensures ∙ ap changeNumber (c .before .before .before .before .before .enum-told .given .1)) _ (c .before .before .layout-of .ensures) _ (c .before .root-word .ensures))
+next-after-requires c κs = (block-covered _ (c .before .before .before .before .before .before .before .validate .ensures ∙ ap changeNumber (c .before .before .before .before .before .enum-told .given .1)) _ (c .before .before .layout-of .ensures), root-grown _ (c .before .before .before .before .before .before .before .validate .ensures ∙ ap changeNumber (c .before .before .before .before .before .enum-told .given .1)) _ (c .before .before .layout-of .ensures) _ (c .before .root-word .ensures))
 
 refused-next-requires-3 : tie.Need-refused-next-requires-3
 refused-next-requires-3 c κs = search needs

@@ -20,7 +20,7 @@ enum-known-pointer : tie.Need-enum-known-pointer
 enum-known-pointer c = search needs
 
 prefix-least-requires : tie.Need-prefix-least-requires
-prefix-least-requires c κs = (c .before .before .before .before .before .before .pre .0, c .before .before .before .before .before .before .pre .1, prefix-facts _ _ _ (c .before .before .before .pointer-of .ensures) _ (c .before .pointer .given .1) .2, c .before .before .before .before .if1 .left)
+prefix-least-requires c κs = (c .before .before .before .before .before .before .pre, prefix-facts _ _ _ (c .before .before .before .pointer-of .ensures) _ (c .before .pointer .given .1) .2, c .before .before .before .before .if1 .left)
 
 plain-least-requires : tie.Need-plain-least-requires
 plain-least-requires c κs = search needs

@@ -13,7 +13,7 @@ is-valid-prefix-requires : tie.Need-is-valid-prefix-requires
 is-valid-prefix-requires c κs = cell-length _ _ _ (c .cell .ensures)
 
 returns : tie.Need-returns
-returns c = prefix-least-broken _ _ _ _ _ (c .before .before .cell .ensures) _ (c .before .is-valid-prefix .ensures) (c .before .before .before .before .pre .3) (not-true _ (c .if1 .taken))
+returns c = prefix-least-broken _ _ _ _ _ (c .before .before .cell .ensures) _ (c .before .is-valid-prefix .ensures) (c .before .before .before .before .pre .2) (not-true _ (c .if1 .taken))
 
 linked-word-requires : tie.Need-linked-word-requires
 linked-word-requires c κs = omega (arith, cell-length _ _ _ (c .before .before .cell .ensures))
@@ -22,7 +22,7 @@ pointer-of-requires : tie.Need-pointer-of-requires
 pointer-of-requires c κs = search needs
 
 plain-least-requires : tie.Need-plain-least-requires
-plain-least-requires c κs = (c .before .before .before .before .before .before .pre .0, c .before .before .before .before .before .before .pre .1, c .before .before .before .before .before .before .pre .3, (_, c .pointer-of .ensures))
+plain-least-requires c κs = (c .before .before .before .before .before .before .pre .0, c .before .before .before .before .before .before .pre .2, (_, c .pointer-of .ensures))
 
 returns-2 : tie.Need-returns-2
 returns-2 c = prefix-least-taken _ _ _ _ _ (c .before .before .before .before .before .cell .ensures) _ (c .before .before .before .before .is-valid-prefix .ensures) (not-false _ (c .before .before .before .if1 .left)) _ (c .before .before .linked-word .ensures) (c .before .pointer-of .result) (c .before .pointer-of .ensures) _ (c .plain-least .ensures)

@@ -17,10 +17,10 @@ enum-known-pointer : tie.Need-enum-known-pointer
 enum-known-pointer c = search needs
 
 prefix-step-requires : tie.Need-prefix-step-requires
-prefix-step-requires c κs = (c .before .before .before .before .before .pre .0, c .before .before .before .before .before .pre .1, prefix-facts _ _ _ (c .before .before .before .pointer-of .ensures) _ (c .before .pointer .given .1) .2)
+prefix-step-requires c κs = (c .before .before .before .before .before .pre, prefix-facts _ _ _ (c .before .before .before .pointer-of .ensures) _ (c .before .pointer .given .1) .2)
 
 plain-step-requires : tie.Need-plain-step-requires
-plain-step-requires c κs = (c .before .before .before .pre .0, c .before .before .before .pre .1, (_, c .before .pointer-of .ensures))
+plain-step-requires c κs = (c .before .before .before .pre, (_, c .before .pointer-of .ensures))
 
 returns : tie.Need-returns
 returns c = step-nothing _ _ _ _ _ (c .before .before .pointer-of .ensures) (c .enum-told .given .1)

@@ -10,17 +10,17 @@ enum-known-pointer : tie.Need-enum-known-pointer
 enum-known-pointer c = search needs
 
 cell-requires : tie.Need-cell-requires
-cell-requires c κs = omega (arith, chain-facts _ _ _ (c .before .before .before .before .pre .2 .1) _ _ (c .before .pointer .given .1) .3)
+cell-requires c κs = omega (arith, chain-facts _ _ _ (c .before .before .before .before .pre .1 .1) _ _ (c .before .pointer .given .1) .3)
 
 chain-step-requires : tie.Need-chain-step-requires
-chain-step-requires c κs = let facts = chain-facts _ _ _ (c .before .before .before .before .before .pre .2 .1) _ _ (c .before .before .pointer .given .1) in
+chain-step-requires c κs = let facts = chain-facts _ _ _ (c .before .before .before .before .before .pre .1 .1) _ _ (c .before .before .pointer .given .1) in
     (cell-length _ _ _ (c .cell .ensures), omega (arith, facts .3), facts .2)
 
 enum-known-pointer-2 : tie.Need-enum-known-pointer-2
 enum-known-pointer-2 c = search needs
 
 cell-requires-2 : tie.Need-cell-requires-2
-cell-requires-2 c κs = omega (arith, sparse-facts _ _ _ (c .before .before .before .before .pre .2 .1) _ (c .before .pointer2 .given .1) .2)
+cell-requires-2 c κs = omega (arith, sparse-facts _ _ _ (c .before .before .before .before .pre .1 .1) _ (c .before .pointer2 .given .1) .2)
 
 sparse-step-requires : tie.Need-sparse-step-requires
 sparse-step-requires c κs = cell-length _ _ _ (c .cell2 .ensures)
@@ -29,7 +29,7 @@ enum-known-pointer-3 : tie.Need-enum-known-pointer-3
 enum-known-pointer-3 c = search needs
 
 split-step-requires : tie.Need-split-step-requires
-split-step-requires c κs = (c .before .before .before .before .pre .0, split-facts _ _ _ (c .before .before .before .before .pre .2 .1) _ (c .before .pointer3 .given .1) .2)
+split-step-requires c κs = (c .before .before .before .before .pre .0 .fits, split-facts _ _ _ (c .before .before .before .before .pre .1 .1) _ (c .before .pointer3 .given .1) .2)
 
 returns : tie.Need-returns
 returns c = plain-chain _ _ _ _ _ _ _ (c .before .before .before .pointer .given .1) _ (c .before .cell .ensures) (c .chain-step .ensures)

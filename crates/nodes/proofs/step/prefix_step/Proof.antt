@@ -21,7 +21,7 @@ pointer-of-requires : tie.Need-pointer-of-requires
 pointer-of-requires c κs = search needs
 
 plain-step-requires : tie.Need-plain-step-requires
-plain-step-requires c κs = (c .before .before .before .before .before .before .pre .0, c .before .before .before .before .before .before .pre .1, (_, c .pointer-of .ensures))
+plain-step-requires c κs = (c .before .before .before .before .before .before .pre .0, (_, c .pointer-of .ensures))
 
 returns-2 : tie.Need-returns-2
 returns-2 c = prefix-taken _ _ _ _ _ (c .before .before .before .before .before .cell .ensures) _ (c .before .before .before .before .is-valid-prefix .ensures) (not-false _ (c .before .before .before .if1 .left)) _ (c .before .before .linked-word .ensures) (c .before .pointer-of .result) (c .before .pointer-of .ensures) _ (c .plain-step .ensures)

@@ -49,7 +49,7 @@ first-below-enum-known-character : (t : ℕ) → first-below-lts.Need-enum-known
 first-below-enum-known-character t c = search needs
 
 first-below-returns : (t : ℕ) → first-below-lts.Need-returns (first-below-told t) (first-below-at t) first-below.Post
-first-below-returns t c = first-missing _ _ _ _ _ (c .before .before .before .pre .1 .2) (c .before .before .before .pre .1 .3) (c .before .least-child .result) (c .before .least-child .ensures) (c .match .keys2) _
+first-below-returns t c = first-missing _ _ _ _ _ (c .before .before .before .pre .1 .1) (c .before .before .before .pre .1 .2) (c .before .least-child .result) (c .before .least-child .ensures) (c .match .keys2) _
 
 first-below-value-at-requires : (t : ℕ) → first-below-lts.Need-value-at-requires (first-below-told t) (first-below-at t) first-below.Post
 first-below-value-at-requires t c κs = search needs
@@ -61,21 +61,21 @@ first-below-enum-told-2 : (t : ℕ) → first-below-lts.Need-enum-told-2 (first-
 first-below-enum-told-2 t c = search needs
 
 first-below-put-character-requires : (t : ℕ) → first-below-lts.Need-put-character-requires (first-below-told t) (first-below-at t) first-below.Post
-first-below-put-character-requires t c κs = first-grown _ _ _ _ _ (c .before .before .before .before .before .before .before .before .before .pre .1 .2) (c .before .before .before .before .before .before .before .before .before .pre .1 .3) (c .before .before .before .before .before .before .before .least-child .result) (c .before .before .before .before .before .before .before .least-child .ensures) _ _ (c .before .before .before .before .before .character .given .1) .0
+first-below-put-character-requires t c κs = first-grown _ _ _ _ _ (c .before .before .before .before .before .before .before .before .before .pre .1 .1) (c .before .before .before .before .before .before .before .before .before .pre .1 .2) (c .before .before .before .before .before .before .before .least-child .result) (c .before .before .before .before .before .before .before .least-child .ensures) _ _ (c .before .before .before .before .before .character .given .1) .0
 
 first-below-returns-2 : (t : ℕ) → first-below-lts.Need-returns-2 (first-below-told t) (first-below-at t) first-below.Post
-first-below-returns-2 t c = first-one-written _ _ _ _ _ (c .before .before .before .before .before .before .before .before .before .before .pre .1 .2) (c .before .before .before .before .before .before .before .before .before .before .pre .1 .3) (c .before .before .before .before .before .before .before .before .least-child .result) (c .before .before .before .before .before .before .before .before .least-child .ensures) _ _ (c .before .before .before .before .before .before .character .given .1) _ (ap heldOf (sym (c .before .before .enum-told2 .given .1)) ∙ c .before .before .before .before .value-at .ensures) (c .before .before .before .before .before .before .before .before .before .before .args .out .now) _ (c .put-character .ensures)
+first-below-returns-2 t c = first-one-written _ _ _ _ _ (c .before .before .before .before .before .before .before .before .before .before .pre .1 .1) (c .before .before .before .before .before .before .before .before .before .before .pre .1 .2) (c .before .before .before .before .before .before .before .before .least-child .result) (c .before .before .before .before .before .before .before .before .least-child .ensures) _ _ (c .before .before .before .before .before .before .character .given .1) _ (ap heldOf (sym (c .before .before .enum-told2 .given .1)) ∙ c .before .before .before .before .value-at .ensures) (c .before .before .before .before .before .before .before .before .before .before .args .out .now) _ (c .put-character .ensures)
 
 first-below-add-first-below : (t : ℕ) → first-below-lts.Need-add-first-below (first-below-told t) (first-below-at t) first-below.Post
 first-below-add-first-below t c = search needs
 
 first-below-first-below-requires : (t : ℕ) → first-below-lts.Need-first-below-requires (first-below-told t) (first-below-at t) first-below.Post
 first-below-first-below-requires t c κs =
-    let child = first-grown _ _ _ _ _ (c .before .before .before .before .before .before .before .before .before .pre .1 .2) (c .before .before .before .before .before .before .before .before .before .pre .1 .3) (c .before .before .before .before .before .before .before .least-child .result) (c .before .before .before .before .before .before .before .least-child .ensures) _ _ (c .before .before .before .before .before .character .given .1) in
-    (omega (arith, child .0), (search needs, search needs, omega (arith, child .0), child .1))
+    let child = first-grown _ _ _ _ _ (c .before .before .before .before .before .before .before .before .before .pre .1 .1) (c .before .before .before .before .before .before .before .before .before .pre .1 .2) (c .before .before .before .before .before .before .before .least-child .result) (c .before .before .before .before .before .before .before .least-child .ensures) _ _ (c .before .before .before .before .before .character .given .1) in
+    (omega (arith, child .0), (search needs, omega (arith, child .0), child .1))
 
 first-below-returns-3 : (t : ℕ) → first-below-lts.Need-returns-3 (first-below-told t) (first-below-at t) first-below.Post
-first-below-returns-3 t c = first-deeper-none _ _ _ _ _ (c .before .before .before .before .before .before .before .before .before .before .before .before .pre .1 .2) (c .before .before .before .before .before .before .before .before .before .before .before .before .pre .1 .3) (c .before .before .before .before .before .before .before .before .before .before .least-child .result) (c .before .before .before .before .before .before .before .before .before .before .least-child .ensures) _ _ (c .before .before .before .before .before .before .before .before .character .given .1) (ap heldOf (sym (c .before .before .before .before .enum-told .given .1)) ∙ c .before .before .before .before .before .before .value-at .ensures) _ _ (c .before .before .first-below .ensures) (not-true _ (c .if1 .taken))
+first-below-returns-3 t c = first-deeper-none _ _ _ _ _ (c .before .before .before .before .before .before .before .before .before .before .before .before .pre .1 .1) (c .before .before .before .before .before .before .before .before .before .before .before .before .pre .1 .2) (c .before .before .before .before .before .before .before .before .before .before .least-child .result) (c .before .before .before .before .before .before .before .before .before .before .least-child .ensures) _ _ (c .before .before .before .before .before .before .before .before .character .given .1) (ap heldOf (sym (c .before .before .before .before .enum-told .given .1)) ∙ c .before .before .before .before .before .before .value-at .ensures) _ _ (c .before .before .first-below .ensures) (not-true _ (c .if1 .taken))
 
 first-below-put-character-requires-2 : (t : ℕ) → first-below-lts.Need-put-character-requires-2 (first-below-told t) (first-below-at t) first-below.Post
 first-below-put-character-requires-2 t c κs = search needs
@@ -84,7 +84,7 @@ first-below-add-t14 : (t : ℕ) → first-below-lts.Need-add-t14 (first-below-to
 first-below-add-t14 t c = search needs
 
 first-below-returns-4 : (t : ℕ) → first-below-lts.Need-returns-4 (first-below-told t) (first-below-at t) first-below.Post
-first-below-returns-4 t c = first-deeper-written _ _ _ _ _ (c .before .before .before .before .before .before .before .before .before .before .before .before .before .before .before .pre .1 .2) (c .before .before .before .before .before .before .before .before .before .before .before .before .before .before .before .pre .1 .3) (c .before .before .before .before .before .before .before .before .before .before .before .before .before .least-child .result) (c .before .before .before .before .before .before .before .before .before .before .before .before .before .least-child .ensures) _ _ (c .before .before .before .before .before .before .before .before .before .before .before .character .given .1) (ap heldOf (sym (c .before .before .before .before .before .before .before .enum-told .given .1)) ∙ c .before .before .before .before .before .before .before .before .before .value-at .ensures) _ _ (c .before .before .before .before .before .first-below .ensures) (not-false _ (c .before .before .before .if1 .left)) _ refl _ (c .before .put-character2 .ensures)
+first-below-returns-4 t c = first-deeper-written _ _ _ _ _ (c .before .before .before .before .before .before .before .before .before .before .before .before .before .before .before .pre .1 .1) (c .before .before .before .before .before .before .before .before .before .before .before .before .before .before .before .pre .1 .2) (c .before .before .before .before .before .before .before .before .before .before .before .before .before .least-child .result) (c .before .before .before .before .before .before .before .before .before .before .before .before .before .least-child .ensures) _ _ (c .before .before .before .before .before .before .before .before .before .before .before .character .given .1) (ap heldOf (sym (c .before .before .before .before .before .before .before .enum-told .given .1)) ∙ c .before .before .before .before .before .before .before .before .before .value-at .ensures) _ _ (c .before .before .before .before .before .first-below .ensures) (not-false _ (c .before .before .before .if1 .left)) _ refl _ (c .before .put-character2 .ensures)
 
 pub +first-below-spec : {M : Type 1} → statement M
 +first-below-spec = close μ-first-below λ t. first-below-lts.spec (first-below-told t) (first-below-at t) first-below.Post

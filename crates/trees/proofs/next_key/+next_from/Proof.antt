@@ -44,7 +44,7 @@ next-from-first-below-requires : (t : ℕ) → next-from-lts.Need-first-below-re
 next-from-first-below-requires t c κs = search needs
 
 next-from-returns : (t : ℕ) → next-from-lts.Need-returns (next-from-told t) (next-from-at t) next-from.Post
-next-from-returns t c = next-ended _ _ _ _ _ (c .before .before .before .before .before .pre .1 .3) (c .before .before .if1 .taken) _ _ (c .first-below .ensures)
+next-from-returns t c = next-ended _ _ _ _ _ (c .before .before .before .before .before .pre .1 .2) (c .before .before .if1 .taken) _ _ (c .first-below .ensures)
 
 next-from-shared-slice-read-character : (t : ℕ) → next-from-lts.Need-shared-slice-read-character (next-from-told t) (next-from-at t) next-from.Post
 next-from-shared-slice-read-character t c = search needs
@@ -65,21 +65,21 @@ next-from-first-below-requires-2 : (t : ℕ) → next-from-lts.Need-first-below-
 next-from-first-below-requires-2 t c κs = search needs
 
 next-from-returns-2 : (t : ℕ) → next-from-lts.Need-returns-2 (next-from-told t) (next-from-at t) next-from.Post
-next-from-returns-2 t c = next-missing _ _ _ _ _ (c .before .before .before .before .before .before .before .before .pre .1 .3) (c .before .before .before .before .before .if1 .left) (c .before .before .before .before .shared-slice-known3 .given (c .before .before .before .before .before .before .before .before .args .i) .fits) (c .before .before .before .child-step .result) (c .before .before .before .child-step .ensures) (c .before .before .match .keys2) _ _ (c .first-below2 .ensures)
+next-from-returns-2 t c = next-missing _ _ _ _ _ (c .before .before .before .before .before .before .before .before .pre .1 .2) (c .before .before .before .before .before .if1 .left) (c .before .before .before .before .shared-slice-known3 .given (c .before .before .before .before .before .before .before .before .args .i) .fits) (c .before .before .before .child-step .result) (c .before .before .before .child-step .ensures) (c .before .before .match .keys2) _ _ (c .first-below2 .ensures)
 
 next-from-add-next-from : (t : ℕ) → next-from-lts.Need-add-next-from (next-from-told t) (next-from-at t) next-from.Post
 next-from-add-next-from t c = search needs
 
 next-from-next-from-requires : (t : ℕ) → next-from-lts.Need-next-from-requires (next-from-told t) (next-from-at t) next-from.Post
 next-from-next-from-requires t c κs =
-    let child = next-room _ _ _ _ (c .before .before .before .before .before .before .before .before .before .args .key .now) (c .before .before .before .before .before .before .before .before .before .pre .1 .3) (c .before .before .before .before .before .before .if1 .left) (c .before .before .before .before .before .shared-slice-known3 .given (c .before .before .before .before .before .before .before .before .before .args .i) .fits) (c .before .before .before .before .child-step .result) (c .before .before .before .before .child-step .ensures) _ (c .before .before .child .given .1) in
-    (omega arith, (search needs, search needs, omega (arith, child .0), child .1))
+    let child = next-room _ _ _ _ (c .before .before .before .before .before .before .before .before .before .args .key .now) (c .before .before .before .before .before .before .before .before .before .pre .1 .2) (c .before .before .before .before .before .before .if1 .left) (c .before .before .before .before .before .shared-slice-known3 .given (c .before .before .before .before .before .before .before .before .before .args .i) .fits) (c .before .before .before .before .child-step .result) (c .before .before .before .before .child-step .ensures) _ (c .before .before .child .given .1) in
+    (omega arith, (search needs, omega (arith, child .0), child .1))
 
 next-from-first-below-requires-3 : (t : ℕ) → next-from-lts.Need-first-below-requires-3 (next-from-told t) (next-from-at t) next-from.Post
 next-from-first-below-requires-3 t c κs = search needs
 
 next-from-returns-3 : (t : ℕ) → next-from-lts.Need-returns-3 (next-from-told t) (next-from-at t) next-from.Post
-next-from-returns-3 t c = next-later _ _ _ _ _ (c .before .before .before .before .before .before .before .before .before .before .before .before .before .before .pre .1 .3) (c .before .before .before .before .before .before .before .before .before .before .before .if1 .left) (c .before .before .before .before .before .before .before .before .before .before .shared-slice-known3 .given (c .before .before .before .before .before .before .before .before .before .before .before .before .before .before .args .i) .fits) (c .before .before .before .before .before .before .before .before .before .child-step .result) (c .before .before .before .before .before .before .before .before .before .child-step .ensures) _ (c .before .before .before .before .before .before .before .child .given .1) _ _ (c .before .before .before .before .next-from .ensures) (not-true _ (c .before .before .if2 .taken)) _ _ (c .first-below3 .ensures)
+next-from-returns-3 t c = next-later _ _ _ _ _ (c .before .before .before .before .before .before .before .before .before .before .before .before .before .before .pre .1 .2) (c .before .before .before .before .before .before .before .before .before .before .before .if1 .left) (c .before .before .before .before .before .before .before .before .before .before .shared-slice-known3 .given (c .before .before .before .before .before .before .before .before .before .before .before .before .before .before .args .i) .fits) (c .before .before .before .before .before .before .before .before .before .child-step .result) (c .before .before .before .before .before .before .before .before .before .child-step .ensures) _ (c .before .before .before .before .before .before .before .child .given .1) _ _ (c .before .before .before .before .next-from .ensures) (not-true _ (c .before .before .if2 .taken)) _ _ (c .first-below3 .ensures)
 
 next-from-put-character-requires : (t : ℕ) → next-from-lts.Need-put-character-requires (next-from-told t) (next-from-at t) next-from.Post
 next-from-put-character-requires t c κs = search needs
@@ -88,7 +88,7 @@ next-from-add-t11 : (t : ℕ) → next-from-lts.Need-add-t11 (next-from-told t) 
 next-from-add-t11 t c = search needs
 
 next-from-returns-4 : (t : ℕ) → next-from-lts.Need-returns-4 (next-from-told t) (next-from-at t) next-from.Post
-next-from-returns-4 t c = next-written _ _ _ _ _ (c .before .before .before .before .before .before .before .before .before .before .before .before .before .before .before .pre .1 .3) (c .before .before .before .before .before .before .before .before .before .before .before .before .if1 .left) (c .before .before .before .before .before .before .before .before .before .before .before .shared-slice-known3 .given (c .before .before .before .before .before .before .before .before .before .before .before .before .before .before .before .args .i) .fits) (c .before .before .before .before .before .before .before .before .before .before .child-step .result) (c .before .before .before .before .before .before .before .before .before .before .child-step .ensures) _ (c .before .before .before .before .before .before .before .before .child .given .1) _ _ (c .before .before .before .before .before .next-from .ensures) (not-false _ (c .before .before .before .if2 .left)) _ refl _ (c .before .put-character .ensures)
+next-from-returns-4 t c = next-written _ _ _ _ _ (c .before .before .before .before .before .before .before .before .before .before .before .before .before .before .before .pre .1 .2) (c .before .before .before .before .before .before .before .before .before .before .before .before .if1 .left) (c .before .before .before .before .before .before .before .before .before .before .before .shared-slice-known3 .given (c .before .before .before .before .before .before .before .before .before .before .before .before .before .before .before .args .i) .fits) (c .before .before .before .before .before .before .before .before .before .before .child-step .result) (c .before .before .before .before .before .before .before .before .before .before .child-step .ensures) _ (c .before .before .before .before .before .before .before .before .child .given .1) _ _ (c .before .before .before .before .before .next-from .ensures) (not-false _ (c .before .before .before .if2 .left)) _ refl _ (c .before .put-character .ensures)
 
 pub +next-from-spec : {M : Type 1} → statement M
 +next-from-spec = close μ-next-from λ t. next-from-lts.spec (next-from-told t) (next-from-at t) next-from.Post

@@ -5,7 +5,7 @@ use Rattle.trees.proofs.next_key.next_after.Statement.{statement}
 use Rattle.trees.proofs.next_key.next_after.Tie as tie
 
 next-from-requires : tie.Need-next-from-requires
-next-from-requires c κs = (search needs, search needs, omega arith, c .before .before .before .pre .2)
+next-from-requires c κs = (search needs, omega arith, c .before .before .before .pre .1)
 
 returns : tie.Need-returns
 returns c = c .next-from .ensures

@@ -19,13 +19,13 @@ enum-told-2 : tie.Need-enum-told-2
 enum-told-2 c = search needs
 
 returns-2 : tie.Need-returns-2
-returns-2 c = child-found _ _ _ _ _ (c .before .before .before .before .before .before .pre .2 .1) _ (c .before .before .before .child-step .ensures) (search needs) _ (c .before .step .given .1)
+returns-2 c = child-found _ _ _ _ _ (c .before .before .before .before .before .before .pre .1 .1) _ (c .before .before .before .child-step .ensures) (search needs) _ (c .before .step .given .1)
 
 returns-3 : tie.Need-returns-3
-returns-3 c = child-missing _ _ _ _ _ (c .before .before .before .before .before .pre .2 .1) _ (c .before .before .child-step .ensures) (search needs) (c .enum-told .given .1)
+returns-3 c = child-missing _ _ _ _ _ (c .before .before .before .before .before .pre .1 .1) _ (c .before .before .child-step .ensures) (search needs) (c .enum-told .given .1)
 
 returns-4 : tie.Need-returns-4
-returns-4 c = child-broken _ _ _ _ _ (c .before .before .before .before .before .pre .2 .1) _ (c .before .before .child-step .ensures) (search needs) (c .enum-told2 .given .1)
+returns-4 c = child-broken _ _ _ _ _ (c .before .before .before .before .before .pre .1 .1) _ (c .before .before .child-step .ensures) (search needs) (c .enum-told2 .given .1)
 
 pub child-word-spec : {M : Type 1} → statement M
 child-word-spec =

@@ -15,7 +15,7 @@ abbrev μ-loop : tie.MeasureT-loop
 μ-loop layout block key word path₀ at₀ i₀ path at i = length key - i
 
 loop-holds : tie.Need-loop-holds Inv-loop μ-loop
-loop-holds c = (omega arith, down-none _ _ _ _ _ (c .before .before .pre .3))
+loop-holds c = (omega arith, down-none _ _ _ _ _ (c .before .before .pre .2))
 
 put-word-of-requires : tie.Need-put-word-of-requires Inv-loop μ-loop
 put-word-of-requires c κs = search needs
@@ -24,7 +24,7 @@ shared-slice-read-child-word : tie.Need-shared-slice-read-child-word Inv-loop μ
 shared-slice-read-child-word c = search needs
 
 child-word-requires : tie.Need-child-word-requires Inv-loop μ-loop
-child-word-requires c κs = (search needs, search needs, tree-read _ _ _ _ (c .before .before .before .before .loop .inv .1 .2))
+child-word-requires c κs = (search needs, tree-read _ _ _ _ (c .before .before .before .before .loop .inv .1 .2))
 
 add-i : tie.Need-add-i Inv-loop μ-loop
 add-i c = search needs

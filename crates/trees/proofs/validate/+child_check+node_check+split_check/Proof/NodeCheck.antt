@@ -41,7 +41,7 @@ module _ (t : ℕ) where
   sub-run c = omega (arith, chain-facts _ _ _ (c .before .before .before .pointer-of .ensures) _ _ (c .before .number .given .1) .2)
 
   pub returns : lts.Need-returns (node-told t) (node-check-at t) reads.Post Inv-loop μ-loop
-  returns c = judged-none _ _ _ _ (chain-deep _ _ (c .before .before .before .before .before .before .pre .1 .0) _ _ _ _ (coded-chain _ _ _ (c .before .before .before .before .pointer-of .ensures) _ _ (c .before .before .number .given .1)) (cell-bytes _ (c .before .before .before .before .before .shared-slice-known .given) _) (c .if1 .taken))
+  returns c = judged-none _ _ _ _ (chain-deep _ _ (c .before .before .before .before .before .before .pre .1 .small) _ _ _ _ (coded-chain _ _ _ (c .before .before .before .before .pointer-of .ensures) _ _ (c .before .before .number .given .1)) (cell-bytes _ (c .before .before .before .before .before .shared-slice-known .given) _) (c .if1 .taken))
 
   pub mul-word-at : lts.Need-mul-word-at (node-told t) (node-check-at t) reads.Post Inv-loop μ-loop
   mul-word-at c = omega (arith, chain-facts _ _ _ (c .before .before .before .before .pointer-of .ensures) _ _ (c .before .before .number .given .1) .3)
@@ -56,7 +56,7 @@ module _ (t : ℕ) where
   stamp-cell-requires c κs = omega (arith, chain-facts _ _ _ (c .before .before .before .before .before .before .pointer-of .ensures) _ _ (c .before .before .before .before .number .given .1) .3)
 
   pub returns-2 : lts.Need-returns-2 (node-told t) (node-check-at t) reads.Post Inv-loop μ-loop
-  returns-2 c = first-failed _ _ _ _ _ _ _ _ (chain-tree-read _ _ (c .before .before .before .before .before .before .before .before .before .before .pre .1 .0) _ _ _ _ (coded-chain _ _ _ (c .before .before .before .before .before .before .before .before .pointer-of .ensures) _ _ (c .before .before .before .before .before .before .number .given .1)) (cell-bytes _ (c .before .before .before .before .before .before .before .before .before .shared-slice-known .given) _) _ (last-word _ _ _ (c .before .before .before .word-at .ensures)) (c .before .before .before .before .if1 .left)) (c .before .stamp-cell .ensures) (not-true _ (c .if2 .taken))
+  returns-2 c = first-failed _ _ _ _ _ _ _ _ (chain-tree-read _ _ (c .before .before .before .before .before .before .before .before .before .before .pre .1 .small) _ _ _ _ (coded-chain _ _ _ (c .before .before .before .before .before .before .before .before .pointer-of .ensures) _ _ (c .before .before .before .before .before .before .number .given .1)) (cell-bytes _ (c .before .before .before .before .before .before .before .before .before .shared-slice-known .given) _) _ (last-word _ _ _ (c .before .before .before .word-at .ensures)) (c .before .before .before .before .if1 .left)) (c .before .stamp-cell .ensures) (not-true _ (c .if2 .taken))
 
   pub child-check-requires : lts.Need-child-check-requires (node-told t) (node-check-at t) reads.Post Inv-loop μ-loop
   child-check-requires c κs = search needs
@@ -122,10 +122,10 @@ module _ (t : ℕ) where
   returns-5 c = judged-by _ _ _ _ _ _ _ (split-tree _ _ _ _ _ _ (coded-split _ _ _ (c .before .before .before .before .before .before .before .before .pointer-of .ensures) _ (c .before .before .before .before .before .before .number3 .given .1)) (tested-cell validHead _ _ _ (c .before .before .before .cell2 .ensures) (c .before .before .is-valid-head .ensures)) _ _) (first-failed _ _ _ _ _ _ _ _ refl (c .before .stamp-cell3 .ensures) (not-true _ (c .if5 .taken)))
 
   pub split-check-requires : lts.Need-split-check-requires (node-told t) (node-check-at t) reads.Post Inv-loop μ-loop
-  split-check-requires c κs = (omega arith, (omega arith, omega arith, split-facts _ _ _ (c .before .before .before .before .before .before .before .before .before .pointer-of .ensures) _ (c .before .before .before .before .before .before .before .number3 .given .1) .2))
+  split-check-requires c κs = (omega arith, (omega arith, split-facts _ _ _ (c .before .before .before .before .before .before .before .before .before .pointer-of .ensures) _ (c .before .before .before .before .before .before .before .number3 .given .1) .2))
 
   pub returns-6 : lts.Need-returns-6 (node-told t) (node-check-at t) reads.Post Inv-loop μ-loop
-  returns-6 c = then-second _ _ _ _ _ _ _ _ (chain-tree-read _ _ (c .before .before .before .before .before .before .before .before .before .before .before .before .pre .1 .0) _ _ _ _ (coded-chain _ _ _ (c .before .before .before .before .before .before .before .before .before .before .pointer-of .ensures) _ _ (c .before .before .before .before .before .before .before .before .number .given .1)) (cell-bytes _ (c .before .before .before .before .before .before .before .before .before .before .before .shared-slice-known .given) _) _ (last-word _ _ _ (c .before .before .before .before .before .word-at .ensures)) (c .before .before .before .before .before .before .if1 .left)) (c .before .before .before .stamp-cell .ensures) _ (not-false _ (c .before .before .if2 .left)) (c .child-check .ensures)
+  returns-6 c = then-second _ _ _ _ _ _ _ _ (chain-tree-read _ _ (c .before .before .before .before .before .before .before .before .before .before .before .before .pre .1 .small) _ _ _ _ (coded-chain _ _ _ (c .before .before .before .before .before .before .before .before .before .before .pointer-of .ensures) _ _ (c .before .before .before .before .before .before .before .before .number .given .1)) (cell-bytes _ (c .before .before .before .before .before .before .before .before .before .before .before .shared-slice-known .given) _) _ (last-word _ _ _ (c .before .before .before .before .before .word-at .ensures)) (c .before .before .before .before .before .before .if1 .left)) (c .before .before .before .stamp-cell .ensures) _ (not-false _ (c .before .before .if2 .left)) (c .child-check .ensures)
 
   pub returns-7 : lts.Need-returns-7 (node-told t) (node-check-at t) reads.Post Inv-loop μ-loop
   returns-7 c = then-second _ _ _ _ _ _ _ _ (sparse-tree-read _ _ _ _ _ _ _ _ (coded-sparse _ _ _ (c .before .before .before .before .before .before .before .before .before .before .before .pointer-of .ensures) _ (c .before .before .before .before .before .before .before .before .before .number2 .given .1)) (cell-bytes _ (c .before .before .before .before .before .before .before .before .before .before .before .before .shared-slice-known .given) _) (c .before .before .before .before .before .before .before .cell .ensures) (c .before .before .before .before .before .is-valid-sparse .ensures) (c .before .before .sparse-count .ensures)) (c .before .before .before .before .stamp-cell2 .ensures) _ (not-false _ (c .before .before .before .if3 .left)) (walk-ends _ _ _ _ _ _ _ (c .before .loop .inv .1) (omega arith))
