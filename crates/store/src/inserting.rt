@@ -18,9 +18,8 @@ use blocks::key::is_bad_key;
 use blocks::trailer_fields::is_bad_size;
 use blocks::trailer_fields::layout_of;
 use blocks::trailer_fields::root_word;
-use blocks::trailer_fields::trailer_at;
+use blocks::trailer_writes::put_root;
 use blocks::validate::is_sound;
-use cells::put_word;
 use nodes::layout::CELL_LIMIT;
 use nodes::layout::Layout;
 use staging::stage::Made;
@@ -59,9 +58,8 @@ fn commit(
 {
     let count = made.count;
     let word = made.word;
-    let at = trailer_at(layout);
     commit_cells(block, stage, numbers, count);
-    put_word(block, at, word);
+    put_root(layout, block, word);
 }
 
 // Inserts a valid pair into a sound block, if enough cells are free.
