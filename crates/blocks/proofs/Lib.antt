@@ -11,3 +11,4 @@ pub mod NextSteps
 pub mod RefusalSteps
 pub mod TrailerWrites
 pub mod After
+pub mod Determined

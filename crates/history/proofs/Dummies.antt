@@ -13,7 +13,7 @@ use Rattle.cells.specs.Bytes.{IsBytes, zeros}
 use Rattle.cells.specs.Memory.{memoryOf}
 use Rattle.cells.proofs.Choice.{never}
 use Rattle.cells.proofs.Words.{set-bytes, bytes-zeros}
-use Rattle.nodes.specs.Layout.{trailerCells, keyLimit}
+use Rattle.nodes.specs.Layout.{trailerCells}
 use Rattle.trees.specs.Lookup.{emptyTable, sameKey, update}
 use Rattle.updates.specs.Build.{cellsNeeded}
 use Rattle.blocks.specs.Trailer.{badLength, layoutOf, rootWord, slots, validSlot}
@@ -23,6 +23,7 @@ use Rattle.blocks.specs.Read.{shown}
 use Rattle.store.specs.Free.{free}
 use Rattle.store.specs.Format.{badNewSize, format}
 use Rattle.store.specs.Insert.{blockBuild}
+use Rattle.snapshots.specs.Computing.{snapshotsOpen}
 use Rattle.store.specs.Computing.{callsOpen}
 use Rattle.blocks.proofs.After.{slotShown}
 use Rattle.store.proofs.Format.{format-done}
@@ -87,7 +88,7 @@ only-formats-refuted number other d = elim (ℕ-discrete number 7) [
 
 -- what an equation over a list of calls and the ledger beside it unfolds
 listsOpen : Unit {0}
-unfolding callsOpen sameKey update outcome run ledgerSlot noteInsert noteSnapshot noteHeld noteRestore noteCall ledgerAfter gotNoRoom fedBy
+unfolding callsOpen snapshotsOpen sameKey update outcome run ledgerSlot noteInsert noteSnapshot noteHeld noteRestore noteCall ledgerAfter gotNoRoom fedBy
 listsOpen = tt
 
 -- inserting nothing: the ledger has the key, the block does not show it

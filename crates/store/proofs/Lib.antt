@@ -1,13 +1,9 @@
 pub mod CallAnswers
-pub mod Bits
-pub mod SlotBits
 pub mod Free
-pub mod SnapshotCalls
 pub mod Format
 pub mod Committed
 pub mod InsertCall
 pub mod FormatSteps
-pub mod SnapshotSteps
 pub mod FreeSteps
 pub mod CommitSteps
 pub mod InsertRefused

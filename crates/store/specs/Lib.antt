@@ -1,9 +1,7 @@
 pub mod Free
 pub mod Format
 pub mod Insert
-pub mod Snapshots
 pub mod Computing
-pub mod Examples
 pub mod Unstamped
 pub mod Committed
 pub mod Insertable

@@ -2,4 +2,3 @@
 pub mod formatting;
 pub mod free_cells;
 pub mod inserting;
-pub mod snapshots;
