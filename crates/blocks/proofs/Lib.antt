@@ -12,3 +12,4 @@ pub mod RefusalSteps
 pub mod Proved
 pub mod TrailerWrites
 pub mod After
+pub mod Determined

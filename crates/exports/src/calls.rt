@@ -2,17 +2,17 @@
 ghost use mathlib.Core.Path.{_≡_};
 ghost use Rattle.blocks.specs.Answers.{changeNumber};
 ghost use Rattle.blocks.specs.Read.{nextKey, validate};
+ghost use Rattle.snapshots.specs.Snapshots.{release, restore, snapshot};
 ghost use Rattle.store.specs.Format.{format};
-ghost use Rattle.store.specs.Snapshots.{release, restore, snapshot};
 use blocks::answer::ChangeAnswer;
 use blocks::answer::number;
 use blocks::next::next_key;
 use blocks::validate::validate;
 use nodes::layout::KEY_LIMIT;
+use snapshots::release;
+use snapshots::restore;
+use snapshots::snapshot;
 use store::formatting::format;
-use store::snapshots::release;
-use store::snapshots::restore;
-use store::snapshots::snapshot;
 
 // The answer number of a change.
 fn change_number(answer: ChangeAnswer) -> u8

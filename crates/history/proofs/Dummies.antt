@@ -20,6 +20,7 @@ use Rattle.blocks.specs.Refusal.{Changed}
 use Rattle.blocks.specs.Read.{shown}
 use Rattle.store.specs.Format.{badNewSize, format}
 use Rattle.store.specs.Insert.{cellsFree, cellsToInsert, blockBuild}
+use Rattle.snapshots.specs.Computing.{snapshotsOpen}
 use Rattle.store.specs.Computing.{callsOpen}
 use Rattle.blocks.proofs.After.{slotShown}
 use Rattle.store.proofs.Format.{format-done}
@@ -84,7 +85,7 @@ only-formats-refuted number other d = elim (ℕ-discrete number 7) [
 
 -- what an equation over a list of calls and the ledger beside it unfolds
 listsOpen : Unit {0}
-unfolding callsOpen sameKey assign outcome run ledgerSlot noteInsert noteSnapshot noteHeld noteRestore noteCall ledgerAfter gotNoRoom fedBy
+unfolding callsOpen snapshotsOpen sameKey assign outcome run ledgerSlot noteInsert noteSnapshot noteHeld noteRestore noteCall ledgerAfter gotNoRoom fedBy
 listsOpen = tt
 
 -- inserting nothing: the ledger has the key, the block does not show it

@@ -13,7 +13,7 @@ use Rattle.blocks.specs.Answers.{changeNumber, changedOutcome, insertedOutcome}
 use Rattle.blocks.specs.declared.answer.ChangeAnswer.{ChangeAnswer}
 use Rattle.blocks.specs.declared.answer.InsertAnswer.{InsertAnswer}
 use Rattle.store.specs.Insert.{insert}
-use Rattle.store.specs.Snapshots.{snapshot, restore, release}
+use Rattle.snapshots.specs.Snapshots.{snapshot, restore, release}
 use Rattle.history.specs.Calls.{Call, inserting, snapshotting, restoring, releasing, ours, outcome}
 use Rattle.history.specs.Encoded.{Decoded, decodeInsert, decodeSlot, decodeCall}
 use Rattle.history.specs.Running.{insertNumber, numbered, answered, StepOutcome, step, stepOutcome}

@@ -5,7 +5,7 @@ use Rattle.cells.specs.Bytes.{IsBytes}
 use Rattle.blocks.specs.Refusal.{Changed, Inserted}
 use Rattle.store.specs.Format.{format}
 use Rattle.store.specs.Insert.{insert}
-use Rattle.store.specs.Snapshots.{snapshot, restore, release}
+use Rattle.snapshots.specs.Snapshots.{snapshot, restore, release}
 
 -- 00: "any list of these calls: entering, marking, going back, dropping a mark, refused ones included"
 pub data Call : Type 0 where

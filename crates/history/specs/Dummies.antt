@@ -7,7 +7,7 @@ use Rattle.blocks.specs.TrailerWrites.{withSlotWord, withSlotBits}
 use Rattle.blocks.specs.Refusal.{Changed, changedBy, Inserted}
 use Rattle.store.specs.Format.{format}
 use Rattle.store.specs.Insert.{insert}
-use Rattle.store.specs.Snapshots.{withBit, slotRefusals, snapshot, restore, release}
+use Rattle.snapshots.specs.Snapshots.{withBit, slotRefusals, snapshot, restore, release}
 use Rattle.history.specs.Calls.{Implementation}
 
 -- a refusal of any call

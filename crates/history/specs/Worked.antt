@@ -5,6 +5,7 @@ use Prim.Native.Nat.{ℕ}
 use Rattle.cells.specs.Bytes.{zeros}
 use Rattle.blocks.specs.Trailer.{layoutOf, rootWord}
 use Rattle.store.specs.Format.{format}
+use Rattle.snapshots.specs.Computing.{snapshotsOpen}
 use Rattle.store.specs.Computing.{callsOpen}
 use Rattle.history.specs.Calls.{Call, inserting, snapshotting, restoring, releasing, ours, outcome, run, answersOf}
 
@@ -44,5 +45,5 @@ pub worked :
     ∷ (3 ∷ 4 ∷ 5 ∷ 5 ∷ 6 ∷ 6 ∷ [])
     ∷ (0x5B ∷ 0x3B ∷ 0 ∷ [])
     ∷ [])
-unfolding callsOpen ours outcome run answersOf
+unfolding callsOpen snapshotsOpen ours outcome run answersOf
 worked = refl

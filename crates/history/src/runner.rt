@@ -10,11 +10,11 @@ use blocks::answer::ChangeAnswer;
 use blocks::answer::InsertAnswer;
 use blocks::answer::number;
 use cells::word_at;
+use snapshots::release;
+use snapshots::restore;
+use snapshots::snapshot;
 use store::formatting::format;
 use store::inserting::insert;
-use store::snapshots::release;
-use store::snapshots::restore;
-use store::snapshots::snapshot;
 
 // Why a run stopped: the bytes are at their end, they encode no call, or there is no room for one more answer.
 pub enum Stop {

@@ -8,7 +8,7 @@ use Rattle.blocks.specs.Refusal.{Inserted}
 use Rattle.blocks.specs.Trailer.{layoutOf, rootWord}
 use Rattle.store.specs.Format.{format}
 use Rattle.store.specs.Insert.{insert}
-use Rattle.store.specs.Snapshots.{snapshot, restore}
+use Rattle.snapshots.specs.Snapshots.{snapshot, restore}
 use Rattle.dosing.specs.declared.temperature.Reading.the-variants.{Celsius}
 use Rattle.dosing.specs.declared.temperature.TemperatureGate.the-variants.{Any}
 use Rattle.dosing.specs.Temperature.{whole}

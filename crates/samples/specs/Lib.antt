@@ -4,3 +4,4 @@ pub mod Calls
 pub mod Samples
 pub mod Pinned
 pub mod Foreign
+pub mod FreeCells

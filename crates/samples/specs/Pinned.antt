@@ -10,7 +10,8 @@ use Rattle.cells.specs.Memory.{memoryOf}
 use Rattle.blocks.specs.Refusal.{Inserted}
 use Rattle.blocks.specs.Read.{validate}
 use Rattle.store.specs.Insert.{insert}
-use Rattle.store.specs.Snapshots.{snapshot}
+use Rattle.snapshots.specs.Snapshots.{snapshot}
+use Rattle.snapshots.specs.Computing.{snapshotsOpen}
 use Rattle.store.specs.Computing.{callsOpen}
 use Rattle.samples.specs.Line.{word}
 use Rattle.samples.specs.Calls.{fresh, rootOf, sampleA, sampleE, sampleH}
@@ -52,7 +53,7 @@ pub prefix-and-slot-bytes :
     ((word 0x00000005 ++ word 0xFF000000 ++ zeros 20 ++ word 0x0000003A)
     ∷ (word 0x0000003B ++ zeros 4 ++ word 0x0000003B ++ zeros 4 ++ word 0x02000000 ++ word 0x00000004 ++ zeros 4 ++ word 0x00000001)
     ∷ [])
-unfolding callsOpen fresh sampleA sampleE sampleH
+unfolding callsOpen snapshotsOpen fresh sampleA sampleE sampleH
 prefix-and-slot-bytes = refl
 
 -- a label of so many bytes 41

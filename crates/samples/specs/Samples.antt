@@ -8,6 +8,7 @@ use Rattle.cells.specs.Word.{wordAt}
 use Rattle.cells.specs.Memory.{memoryOf}
 use Rattle.order_words.specs.Order.{validOrder}
 use Rattle.nodes.specs.Sparse.{sparseOrder}
+use Rattle.snapshots.specs.Computing.{snapshotsOpen}
 use Rattle.store.specs.Computing.{callsOpen}
 use Rattle.calendar.specs.Date.{februaryDays, daysOfMonth, isDate, isAfter}
 use Rattle.dosing.specs.declared.temperature.Reading.the-variants.{Fahrenheit}
@@ -78,5 +79,5 @@ pub samples :
     ∷ line K dose (float (whole (pos 240)))
     ∷ line L degrees (float (whole (pos 200)))
     ∷ [])
-unfolding callsOpen februaryDays daysOfMonth isDate isAfter onScale toCelsius celsius validReading validGate inGate validSection validLength validSheet doseOf verdictOf verdict Ieee.ofInt Ieee.sub Ieee.mul Ieee.div Ieee.le fresh sampleA sampleB sampleC sampleD sampleE sampleF sampleG sampleH expiryJ verdictOn
+unfolding callsOpen snapshotsOpen februaryDays daysOfMonth isDate isAfter onScale toCelsius celsius validReading validGate inGate validSection validLength validSheet doseOf verdictOf verdict Ieee.ofInt Ieee.sub Ieee.mul Ieee.div Ieee.le fresh sampleA sampleB sampleC sampleD sampleE sampleF sampleG sampleH expiryJ verdictOn
 samples = refl

@@ -6,10 +6,10 @@ mod verdicts;
 use blocks::answer::ChangeAnswer;
 use blocks::answer::InsertAnswer;
 use cells::word_at;
+use snapshots::restore;
+use snapshots::snapshot;
 use store::formatting::format;
 use store::inserting::insert;
-use store::snapshots::restore;
-use store::snapshots::snapshot;
 
 // The answer number of an insertion.
 pub fn insert_number(answer: InsertAnswer) -> u32 {

@@ -1,4 +1,4 @@
--- The answers of the calls that change a block: each number is given exactly where its condition holds and none before it does.
+-- The answers of the calls that make a block and insert into it: each number is given exactly where its condition holds and none before it does.
 use mathlib.Core.Path.{refl}
 use mathlib.Core.List.{List}
 use Prim.Native.Nat.{ℕ}
@@ -6,7 +6,6 @@ use Rattle.cells.specs.Occurrences.{occurrences, all, distinct}
 use Rattle.blocks.proofs.Refusals.{Answers, answers}
 use Rattle.store.specs.Format.{formatRefusals}
 use Rattle.store.specs.Insert.{insertRefusals}
-use Rattle.store.specs.Snapshots.{slotRefusals, usedSlotRefusals}
 
 module _ (block : List ℕ) where
   pub format-answers : Answers (formatRefusals 1 block)
@@ -16,11 +15,3 @@ module _ (block : List ℕ) where
   pub insert-answers : (key : List ℕ) (value : ℕ) → Answers (insertRefusals block key value)
   unfolding distinct all occurrences
   insert-answers key value = answers (insertRefusals block key value) refl
-
-  pub slot-answers : (slot : ℕ) → Answers (slotRefusals block slot)
-  unfolding distinct all occurrences
-  slot-answers slot = answers (slotRefusals block slot) refl
-
-  pub used-slot-answers : (slot : ℕ) → Answers (usedSlotRefusals block slot)
-  unfolding distinct all occurrences
-  used-slot-answers slot = answers (usedSlotRefusals block slot) refl

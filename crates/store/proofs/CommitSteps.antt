@@ -5,7 +5,6 @@ use Prim.Native.Nat.{ℕ, _+_, _<_}
 use native.Mathlib.Numerals.{add-one}
 use native.Mathlib.Omega.{arith}
 use lib.ListN.{length}
-use Rattle.cells.specs.Word.{withWord}
 use Rattle.cells.specs.Memory.{memoryOf}
 use Rattle.cells.specs.Writes.{written, cellWrites}
 use Rattle.cells.proofs.CellWrites.{written-append}
@@ -14,7 +13,8 @@ use Rattle.updates.specs.Built.{Built}
 use Rattle.updates.specs.Commit.{buildWrites}
 use Rattle.staging.specs.Stage.{staged}
 use Rattle.staging.proofs.StageLaws.{staged-length}
-use Rattle.blocks.specs.Trailer.{trailerAt}
+use Rattle.blocks.specs.Trailer.{rootAt}
+use Rattle.blocks.specs.TrailerWrites.{withRoot}
 use Rattle.store.specs.Committed.{commitWrites}
 
 module _ (number : ℕ → ℕ) (stage block : List ℕ) where
@@ -39,13 +39,13 @@ module _ (number : ℕ → ℕ) (stage block : List ℕ) where
   commit-all after i count so-far all = so-far ∙ ap (λ (n : ℕ). written block (buildWrites number (staged stage n))) all
 
 -- the root word after the cells
-pub commit-root : (layout : Layout) (number : ℕ → ℕ) (x : Built) (block celled after : List ℕ) (at : ℕ)
-    → celled ≡ written block (buildWrites number (x .cells)) → at ≡ trailerAt layout → after ≡ withWord celled at (x .word)
+pub commit-root : (layout : Layout) (number : ℕ → ℕ) (x : Built) (block celled after : List ℕ)
+    → celled ≡ written block (buildWrites number (x .cells)) → after ≡ withRoot layout celled (x .word)
     → after ≡ written block (commitWrites layout number x)
 unfolding commitWrites written
-commit-root layout number x block celled after at cells where-is last =
-    last ∙ ap (λ (n : ℕ). withWord celled n (x .word)) where-is ∙ ap (λ (b : List ℕ). withWord b (trailerAt layout) (x .word)) cells
-    ∙ sym (written-append block (buildWrites number (x .cells)) (record { at = trailerAt layout; word = x .word } ∷ []))
+commit-root layout number x block celled after cells last =
+    last ∙ ap (λ (b : List ℕ). withRoot layout b (x .word)) cells
+    ∙ sym (written-append block (buildWrites number (x .cells)) (record { at = rootAt layout; word = x .word } ∷ []))
 
 -- numberings that agree on the places of the cells write the same
 pub writes-same : (number number′ : ℕ → ℕ) (cells : List (List ℕ)) → ((i : ℕ) → i < length cells → number i ≡ number′ i)

@@ -1,77 +1,29 @@
 -- The tables of answers leave nothing free: whatever meets the table of a call equals the call, in its answer, its count and
 -- every byte of the block. 01: "Every public call's contract determines its result and every byte of the block"
 use mathlib.Core.Path.{_≡_, refl, sym, ap, _∙_}
-use mathlib.Core.Logic.{_≢_}
 use mathlib.Core.Bool.{Bool, true, false}
 use mathlib.Core.List.{List}
-use Prim.Native.Nat.{ℕ, _+_, _-_, _*_, _/_, _%_, _<_}
+use Prim.Native.Nat.{ℕ, _-_, _/_, _%_}
 use native.Mathlib.Decide.{decLt, ℕ-discrete}
 use native.Mathlib.Omega.{arith}
 use lib.ListN.{length, getD}
 use lib.Seq.{ext-getD}
 use Rattle.cells.specs.Bytes.{IsBytes}
 use Rattle.cells.specs.Memory.{memoryOf}
-use Rattle.cells.proofs.Memory.{memory-byte}
-use Rattle.blocks.specs.Trailer.{badSize, layoutOf, validSlot}
-use Rattle.blocks.specs.Sound.{sound}
 use Rattle.blocks.specs.Refusal.{Changed, badNewKey, badValue, Inserted}
-use Rattle.blocks.specs.Read.{validate}
-use Rattle.blocks.specs.Tables.{Exactly, Asked, Passes, ValidateTable}
-use Rattle.blocks.proofs.ReadCalls.{validate-table}
+use Rattle.blocks.specs.Tables.{Asked, Passes}
+use Rattle.blocks.proofs.Trailer.{byte-in-cell}
+use Rattle.blocks.proofs.Determined.{both, passes-or, beside-told, changed-told}
 use Rattle.store.specs.Format.{badNewSize, format}
 use Rattle.store.specs.Insert.{cellsFree, cellsToInsert, insert}
-use Rattle.store.specs.Snapshots.{snapshot, restore, release}
 use Rattle.store.proofs.WriteCalls.{FormatTable, format-table, InsertTable, insert-table}
-use Rattle.store.proofs.WriteCalls.{SlotCall, snapshotCall, restoreCall, releaseCall, SlotTable, snapshot-table, restore-table, release-table}
-
--- two answers that are given under one condition are the same where it holds
-both : {m n k : ℕ} {C : Type 0} → Exactly m k C → Exactly n k C → C → m ≡ n
-both x y c = x .given c ∙ sym (y .given c)
-
--- either 1 applies, or 2, or the block passes
-module _ (b : List ℕ) {Goal : Type 0} (bad : badSize b ≡ true → Goal) (unsound : (badSize b ≡ false) × (sound b ≡ false) → Goal) (good : Passes b → Goal) where
-  passes-or : Goal
-  passes-or = size (badSize b) refl
-    where
-      valid : (t : Bool) → badSize b ≡ false → sound b ≡ t → Goal
-      valid true f e = good (f, e)
-      valid false f e = unsound (f, e)
-
-      size : (t : Bool) → badSize b ≡ t → Goal
-      size true e = bad e
-      size false e = valid (sound b) e refl
 
 -- blocks of one length are the same where their cells are
 block-told : (b b′ : List ℕ) → length b ≡ length b′ → ((c : ℕ) → memoryOf b c ≡ memoryOf b′ c) → b ≡ b′
-block-told b b′ same cells = ext-getD 0 b b′ same byte
-  where
-    byte : (k : ℕ) → k < length b → getD b k 0 ≡ getD b′ k 0
-    byte k inside =
-        let e : k / 32 * 32 + k % 32 ≡ k = omega arith in
-        let near : k % 32 < 32 = omega arith in
-        ap (λ (j : ℕ). getD b j 0) (sym e)
-        ∙ sym (memory-byte b (k / 32) (k % 32) near)
-        ∙ ap (λ (l : List ℕ). getD l (k % 32) 0) (cells (k / 32))
-        ∙ memory-byte b′ (k / 32) (k % 32) near
-        ∙ ap (λ (j : ℕ). getD b′ j 0) e
-
--- what a no and a yes leave tells what is beside the answer
-beside-told : {A : Type 0} (n m : ℕ) (x y z : A) → n ≡ m → (n ≡ 0 → m ≡ 0 → x ≡ y) → (n ≢ 0 → x ≡ z) → (m ≢ 0 → y ≡ z) → x ≡ y
-beside-told n m x y z same done left left′ = elim (ℕ-discrete n 0) [
-  | yes e ↦ done e (sym same ∙ e)
-  | no other ↦ left other ∙ sym (left′ (λ e. other (same ∙ e)))
-]
-
-changed-told : (q r : Changed) → q .answer ≡ r .answer → q .block ≡ r .block → q ≡ r
-changed-told q r answer block = λ i. record { answer = answer i; block = block i }
+block-told b b′ same cells =
+    ext-getD 0 b b′ same (λ k inside. byte-in-cell b k ∙ ap (λ (l : List ℕ). getD l (k % 32) 0) (cells (k / 32)) ∙ sym (byte-in-cell b′ k))
 
 module _ (b : List ℕ) where
-  -- validation
-  pub validate-told : (answer : ℕ) → ValidateTable b answer → answer ≡ validate b
-  validate-told answer t =
-      let u = validate-table b in
-      passes-or b (both (t .bad-size) (u .bad-size)) (both (t .unsound) (u .unsound)) (both (t .done) (u .done))
-
   -- a fresh block
   pub format-told : (r : Changed) → FormatTable b r → r ≡ format b
   format-told r t =
@@ -83,35 +35,6 @@ module _ (b : List ℕ) where
       go : (s : Bool) → badNewSize 1 b ≡ s → r .answer ≡ format b .answer
       go true e = both (t .bad-size) (format-table b .bad-size) e
       go false e = both (t .done) (format-table b .done) e
-
-  -- the calls on a slot
-  module _ (slot : ℕ) where
-    slot-answer-told : (call : SlotCall) (q r : Changed) → SlotTable b slot call q → SlotTable b slot call r → q .answer ≡ r .answer
-    slot-answer-told call q r t u =
-        passes-or b (both (t .bad-size) (u .bad-size)) (both (t .unsound) (u .unsound)) (λ p. valid p (validSlot (layoutOf b) slot) refl)
-      where
-        barred : Passes b → validSlot (layoutOf b) slot ≡ true → (s : Bool) → call .barred ≡ s → q .answer ≡ r .answer
-        barred p v true e = both (t .not-in-use) (u .not-in-use) (p, (v, e))
-        barred p v false e = both (t .done) (u .done) (p, (v, e))
-
-        valid : Passes b → (s : Bool) → validSlot (layoutOf b) slot ≡ s → q .answer ≡ r .answer
-        valid p true e = barred p e (call .barred) refl
-        valid p false e = both (t .bad-slot) (u .bad-slot) (p, e)
-
-    pub slot-told : (call : SlotCall) (q r : Changed) → SlotTable b slot call q → SlotTable b slot call r → q ≡ r
-    slot-told call q r t u =
-        let same : q .answer ≡ r .answer = slot-answer-told call q r t u in
-        changed-told q r same
-        (beside-told (q .answer) (r .answer) (q .block) (r .block) b same (λ e f. t .left e ∙ sym (u .left f)) (t .refused) (u .refused))
-
-    pub snapshot-told : (r : Changed) → SlotTable b slot (snapshotCall b slot) r → r ≡ snapshot b slot
-    snapshot-told r t = slot-told (snapshotCall b slot) r (snapshot b slot) t (snapshot-table b slot)
-
-    pub restore-told : (r : Changed) → SlotTable b slot (restoreCall b slot) r → r ≡ restore b slot
-    restore-told r t = slot-told (restoreCall b slot) r (restore b slot) t (restore-table b slot)
-
-    pub release-told : (r : Changed) → SlotTable b slot (releaseCall b slot) r → r ≡ release b slot
-    release-told r t = slot-told (releaseCall b slot) r (release b slot) t (release-table b slot)
 
   -- insertion
   module _ (key : List ℕ) (value : ℕ) (q r : Inserted) (t : InsertTable b key value q) (u : InsertTable b key value r) where

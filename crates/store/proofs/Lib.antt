@@ -1,14 +1,10 @@
 pub mod CallAnswers
-pub mod Bits
-pub mod SlotBits
 pub mod Free
-pub mod SnapshotCalls
 pub mod Format
 pub mod Committed
 pub mod ChangeCall
 pub mod InsertCall
 pub mod FormatSteps
-pub mod SnapshotSteps
 pub mod FreeSteps
 pub mod CommitSteps
 pub mod InsertRefused

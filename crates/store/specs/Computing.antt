@@ -34,7 +34,6 @@ use Rattle.store.specs.Free.{countUp, allocationOrder, free}
 use Rattle.store.specs.Format.{formatted, format}
 use Rattle.store.specs.Insert.{blockBuild, insert}
 use Rattle.store.specs.Committed.{commitWrites}
-use Rattle.store.specs.Snapshots.{withBit, withoutBit, snapshotBlock, restoreBlock, releaseBlock, snapshot, restore, release}
 use mathlib.Core.Option.{bind}
 
 -- bytes, words, cells and order words
@@ -54,5 +53,5 @@ buildsOpen = tt
 
 -- the calls, with all of these
 unfoldable pub callsOpen : Unit {0}
-unfolding bytesOpen treesOpen buildsOpen badLength badSize layoutOf rootWord slots validSlot slotAt inUse everySlot zeroFrom validTrailer slotRoots roots soundWith reachedFrom countUp allocationOrder free firstRefusal overLong badKey badNewKey badValue formatted format missing valueOr validate get blockBuild commitWrites insert withBit withoutBit snapshotBlock restoreBlock releaseBlock snapshot restore release
+unfolding bytesOpen treesOpen buildsOpen badLength badSize layoutOf rootWord slots validSlot slotAt inUse everySlot zeroFrom validTrailer slotRoots roots soundWith reachedFrom countUp allocationOrder free firstRefusal overLong badKey badNewKey badValue formatted format missing valueOr validate get blockBuild commitWrites insert
 callsOpen = tt

@@ -2,9 +2,7 @@ pub mod Free
 pub mod Format
 pub mod Insert
 pub mod Laid
-pub mod Snapshots
 pub mod Computing
-pub mod Examples
 pub mod Unstamped
 pub mod Committed
 pub mod Changeable

@@ -8,8 +8,7 @@ ghost use Rattle.updates.specs.Commit.{buildWrites};
 ghost use Rattle.updates.specs.Staged.{builtOf};
 ghost use Rattle.blocks.specs.Fits.{Fits};
 ghost use Rattle.store.specs.Committed.{Inside, commitWrites};
-use blocks::trailer_fields::trailer_at;
-use cells::put_word;
+use blocks::trailer_writes::put_root;
 use nodes::layout::Layout;
 use staging::stage::Made;
 use staging::stage::STAGE_CELLS;
@@ -47,7 +46,6 @@ pub fn commit(
 {
     let count = made.count;
     let word = made.word;
-    let at = trailer_at(layout);
     commit_cells(block, stage, numbers, count);
-    put_word(block, at, word);
+    put_root(layout, block, word);
 }

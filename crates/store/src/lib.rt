@@ -3,4 +3,3 @@ pub mod committing;
 pub mod formatting;
 pub mod free_cells;
 pub mod inserting;
-pub mod snapshots;

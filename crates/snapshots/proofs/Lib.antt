@@ -1,0 +1,7 @@
+pub mod Bits
+pub mod SlotBits
+pub mod SlotAnswers
+pub mod SnapshotSteps
+pub mod SnapshotCalls
+pub mod SlotTables
+pub mod Determined

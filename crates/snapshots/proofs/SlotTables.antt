@@ -1,0 +1,121 @@
+-- 01's table of answers for the calls on slots: each answer is given exactly under its condition, a no leaves the block as it was, and
+-- what a yes leaves.
+use mathlib.Core.Path.{_≡_, refl, sym, ap, _∙_}
+use mathlib.Core.Logic.{_≢_}
+use mathlib.Core.Bool.{Bool, true, false, not}
+use mathlib.Core.List.{List, [], _∷_, _++_}
+use Prim.Native.Nat.{ℕ}
+use borrow.Author.Tests.{not-true, not-false}
+use Rattle.cells.specs.Bytes.{IsBytes}
+use Rattle.cells.specs.Occurrences.{occurrences, all, distinct}
+use Rattle.trees.specs.Lookup.{Table}
+use Rattle.blocks.specs.Trailer.{badSize, layoutOf, validSlot, inUse}
+use Rattle.blocks.specs.Sound.{sound}
+use Rattle.blocks.specs.Refusal.{Refusal, refusal, firstRefusal, Changed, changedBy}
+use Rattle.blocks.specs.Read.{shown}
+use Rattle.blocks.specs.Tables.{Exactly, Passes}
+use Rattle.blocks.proofs.Refusals.{Answers, answers, done-block, refused-block}
+use Rattle.blocks.proofs.ReadCalls.{exactly}
+use Rattle.blocks.proofs.TrailerWrites.{replacedAt}
+use Rattle.blocks.proofs.After.{After, slotShown}
+use Rattle.snapshots.specs.Snapshots.{slotRefusals, snapshotBlock, restoreBlock, releaseBlock, snapshot, restore, release}
+use Rattle.snapshots.proofs.SnapshotCalls.{snapshot-law, restore-law, release-law}
+
+-- the parts in which the calls on a slot differ: whether 6 applies, the block left where the call is done, what that shows,
+-- which of its slots are in use and what these show
+pub record SlotCall : Type 0 where
+  pub barred : Bool
+  pub left : List ℕ
+  pub present : Table
+  pub used : ℕ → Bool
+  pub held : ℕ → Table
+
+abbrev pub snapshotCall : List ℕ → ℕ → SlotCall
+snapshotCall b slot =
+    record {
+      barred = false;
+      left = snapshotBlock (layoutOf b) b slot;
+      present = shown b;
+      used = replacedAt (inUse (layoutOf b) b) slot true;
+      held = replacedAt (slotShown b) slot (shown b);
+    }
+
+abbrev pub restoreCall : List ℕ → ℕ → SlotCall
+restoreCall b slot =
+    record {
+      barred = not (inUse (layoutOf b) b slot);
+      left = restoreBlock (layoutOf b) b slot;
+      present = slotShown b slot;
+      used = inUse (layoutOf b) b;
+      held = slotShown b;
+    }
+
+abbrev pub releaseCall : List ℕ → ℕ → SlotCall
+releaseCall b slot =
+    record {
+      barred = not (inUse (layoutOf b) b slot);
+      left = releaseBlock (layoutOf b) b slot;
+      present = shown b;
+      used = replacedAt (inUse (layoutOf b) b) slot false;
+      held = slotShown b;
+    }
+
+-- 01's table for a call on a slot
+pub record SlotTable (b : List ℕ) (slot : ℕ) (call : SlotCall) (r : Changed) : Type 0 where
+  pub bad-size : Exactly (r .answer) 1 (badSize b ≡ true)
+  pub unsound : Exactly (r .answer) 2 ((badSize b ≡ false) × (sound b ≡ false))
+  pub bad-slot : Exactly (r .answer) 5 (Passes b × (validSlot (layoutOf b) slot ≡ false))
+  pub not-in-use : Exactly (r .answer) 6 (Passes b × ((validSlot (layoutOf b) slot ≡ true) × (call .barred ≡ true)))
+  pub done : Exactly (r .answer) 0 (Passes b × ((validSlot (layoutOf b) slot ≡ true) × (call .barred ≡ false)))
+  pub refused : r .answer ≢ 0 → r .block ≡ b
+  -- every byte of the block left, and what it shows
+  pub left : r .answer ≡ 0 → r .block ≡ call .left
+  pub after : IsBytes b → r .answer ≡ 0 → After b (r .block) (call .present) (call .used) (call .held)
+
+module _ (b : List ℕ) (slot : ℕ) where
+  -- the refusals of a call on a slot, which may be barred
+  abbrev barredRefusals : Bool → List Refusal
+  barredRefusals barred = slotRefusals b slot ++ (refusal 6 barred ∷ [])
+
+  barred-answers : (barred : Bool) → Answers (barredRefusals barred)
+  unfolding distinct all occurrences
+  barred-answers barred = answers (barredRefusals barred) refl
+
+  -- the table of any call that is refused in this order
+  slot-table : (call : SlotCall) (r : Changed) → r ≡ changedBy (barredRefusals (call .barred)) b (call .left)
+      → (IsBytes b → r .answer ≡ 0 → After b (r .block) (call .present) (call .used) (call .held))
+      → SlotTable b slot call r
+  slot-table call r is law =
+      let rs = barredRefusals (call .barred) in
+      let n : r .answer ≡ firstRefusal rs = ap (λ (c : Changed). c .answer) is in
+      let new : r .block ≡ changedBy rs b (call .left) .block = ap (λ (c : Changed). c .block) is in
+      let x = barred-answers (call .barred) in
+      record {
+        bad-size = exactly n (x .0) (λ c. c .1) (λ d. (tt, d));
+        unsound = exactly n (x .1 .0) (λ c. (c .0 .0, not-true _ (c .1))) (λ d. ((d .0, tt), ap not (d .1)));
+        bad-slot = exactly n (x .1 .1 .0) (λ c. ((c .0 .0, not-false _ (c .0 .1 .0)), not-true _ (c .1)))
+            (λ d. ((d .0 .0, (ap not (d .0 .1), tt)), ap not (d .1)));
+        not-in-use = exactly n (x .1 .1 .1 .0) (λ c. ((c .0 .0, not-false _ (c .0 .1 .0)), (not-false _ (c .0 .1 .1 .0), c .1)))
+            (λ d. ((d .0 .0, (ap not (d .0 .1), (ap not (d .1 .0), tt))), d .1 .1));
+        done = exactly n (x .1 .1 .1 .1) (λ c. ((c .0, not-false _ (c .1 .0)), (not-false _ (c .1 .1 .0), c .1 .1 .1 .0)))
+            (λ d. (d .0 .0, (ap not (d .0 .1), (ap not (d .1 .0), (d .1 .1, tt)))));
+        refused = λ no. new ∙ refused-block rs b (call .left) (λ e. no (n ∙ e));
+        left = λ yes. new ∙ done-block rs b (call .left) (sym n ∙ yes);
+        after = law;
+      }
+
+  -- a snapshot never is
+  snapshot-never : snapshot b slot ≡ changedBy (barredRefusals false) b (snapshotBlock (layoutOf b) b slot)
+  unfolding snapshot firstRefusal
+  snapshot-never = refl
+
+  pub snapshot-table : SlotTable b slot (snapshotCall b slot) (snapshot b slot)
+  snapshot-table = slot-table (snapshotCall b slot) (snapshot b slot) snapshot-never (snapshot-law b slot)
+
+  pub restore-table : SlotTable b slot (restoreCall b slot) (restore b slot)
+  unfolding restore
+  restore-table = slot-table (restoreCall b slot) (restore b slot) refl (restore-law b slot)
+
+  pub release-table : SlotTable b slot (releaseCall b slot) (release b slot)
+  unfolding release
+  release-table = slot-table (releaseCall b slot) (release b slot) refl (release-law b slot)
