@@ -141,14 +141,6 @@ module _ (cells : Option (List ℕ)) (f : ℕ → Option (List ℕ)) (rest : Opt
     pub walk-passes : f i ≡ some [] → visit stamp cells before ≡ visit stamp (joined (gather f left (i + 1)) rest) here
     walk-passes e = walk-goes-on here true (judged-empty (f i) stamp here e) refl
 
-    -- a range is there behind the first part
-    pub walk-enters : (first : Option (List ℕ)) (g : ℕ → Option (List ℕ)) (all inside : ℕ) → f i ≡ joined first (gather g all 0) → inside ≡ all
-        → (next : List ℕ) (passed : Bool) → Judged first stamp here next passed → passed ≡ true
-        → visit stamp cells before ≡ visit stamp (joined (gather g inside 0) (joined (gather f left (i + 1)) rest)) next
-    walk-enters first g all inside parts whole next passed judged t =
-        part-passed first (gather g all 0) parts next passed judged t
-        ∙ ap (λ n. visit stamp (joined (gather g n 0) (joined (gather f left (i + 1)) rest)) next) (sym whole)
-
 -- a walk with nothing behind it begins, and ends
 module _ (cells : Option (List ℕ)) (f : ℕ → Option (List ℕ)) (stamp : ℕ) (before : List ℕ) where
   pub walk-starts : (all left : ℕ) → cells ≡ gather f all 0 → left ≡ all

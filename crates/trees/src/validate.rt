@@ -68,8 +68,7 @@ fn node_check(
     }
 }
 
-// Judges the words of a split's head: each mid, each of its ends, and the children there. No table calls for one more call, so that
-// a character needs little of the stack.
+// Judges the words of a split's head: each mid, each of its ends and the children there. Loops, since a call for each table takes stack.
 fn split_check(
     layout: Layout,
     block: &[u8],

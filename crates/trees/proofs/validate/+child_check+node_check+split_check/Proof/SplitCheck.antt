@@ -11,7 +11,7 @@ use Rattle.nodes.specs.Split.{gather}
 use Rattle.trees.specs.Visit.{visit}
 use Rattle.trees.specs.Parts.{splitTables}
 use Rattle.trees.proofs.Joins.{joined}
-use Rattle.trees.proofs.Judging.{judged-same, walk-starts, walk-leaves, part-fails, walk-fails, walk-goes-on, walk-passes, walk-enters, walk-ends}
+use Rattle.trees.proofs.Judging.{judged-same, walk-starts, walk-leaves, part-fails, part-passed, walk-fails, walk-goes-on, walk-passes, walk-ends}
 use Rattle.trees.proofs.SplitTrees.{row, row-head, row-none, row-table, row-child, table-inside}
 use borrow.Author.Needs.{needs}
 use Rattle.trees.proofs.validate.split_check.Reads as reads
@@ -112,7 +112,7 @@ module _ (t : ℕ) where
   stamp-table-requires-2 c κs = search needs
 
   pub returns-2 : lts.Need-returns-2 (split-told t) (split-check-at t) reads.Post Inv-loop3 μ-loop3 Inv-loop2 μ-loop2 Inv-loop μ-loop
-  returns-2 c = part-fails _ _ _ _ _ _ _ _ (walk-enters _ _ _ _ _ _ _ _ (c .before .before .before .before .before .before .before .before .before .before .before .before .before .loop .inv .1) (4 - (c .before .before .before .before .before .before .before .before .before .before .before .before .before .loop .i + 1)) (omega arith) _ _ 8 8 (row-table _ _ _ _ _ _ (c .before .before .before .before .before .before .before .before .before .before .before .word-at .ensures) 1 _ (c .before .before .before .before .before .before .before .before .before .before .if1 .left) refl) refl _ _ (c .before .before .before .before .before .before .before .before .stamp-table .ensures) (not-false _ (c .before .before .before .before .before .before .before .if2 .left)) ∙ c .before .before .before .before .before .before .loop2 .inv .1) (8 - (c .before .before .before .before .before .before .loop2 .j + 1)) (omega arith) _ _ (row-table _ _ _ _ _ _ (c .before .before .before .before .word-at2 .ensures) 0 _ (c .before .before .before .if3 .left) refl) _ _ (c .before .stamp-table2 .ensures) _ (not-true _ (c .if4 .taken))
+  returns-2 c = part-fails _ _ _ _ _ _ _ _ (part-passed _ _ _ _ _ _ _ _ (c .before .before .before .before .before .before .before .before .before .before .before .before .before .loop .inv .1) (4 - (c .before .before .before .before .before .before .before .before .before .before .before .before .before .loop .i + 1)) (omega arith) _ _ (row-table _ _ _ _ _ _ (c .before .before .before .before .before .before .before .before .before .before .before .word-at .ensures) 1 _ (c .before .before .before .before .before .before .before .before .before .before .if1 .left) refl) _ _ (c .before .before .before .before .before .before .before .before .stamp-table .ensures) (not-false _ (c .before .before .before .before .before .before .before .if2 .left)) ∙ c .before .before .before .before .before .before .loop2 .inv .1) (8 - (c .before .before .before .before .before .before .loop2 .j + 1)) (omega arith) _ _ (row-table _ _ _ _ _ _ (c .before .before .before .before .word-at2 .ensures) 0 _ (c .before .before .before .if3 .left) refl) _ _ (c .before .stamp-table2 .ensures) _ (not-true _ (c .if4 .taken))
 
   pub cast-children : lts.Need-cast-children (split-told t) (split-check-at t) reads.Post Inv-loop3 μ-loop3 Inv-loop2 μ-loop2 Inv-loop μ-loop
   cast-children c = search needs
@@ -136,7 +136,7 @@ module _ (t : ℕ) where
   child-check-requires c κs = search needs
 
   pub returns-3 : lts.Need-returns-3 (split-told t) (split-check-at t) reads.Post Inv-loop3 μ-loop3 Inv-loop2 μ-loop2 Inv-loop μ-loop
-  returns-3 c = walk-fails _ _ _ _ _ _ _ _ (walk-enters _ _ _ _ _ _ _ _ (walk-enters _ _ _ _ _ _ _ _ (c .before .before .before .before .before .before .before .before .before .before .before .before .before .before .before .before .before .before .before .loop .inv .1) (4 - (c .before .before .before .before .before .before .before .before .before .before .before .before .before .before .before .before .before .before .before .loop .i + 1)) (omega arith) _ _ 8 8 (row-table _ _ _ _ _ _ (c .before .before .before .before .before .before .before .before .before .before .before .before .before .before .before .before .before .word-at .ensures) 1 _ (c .before .before .before .before .before .before .before .before .before .before .before .before .before .before .before .before .if1 .left) refl) refl _ _ (c .before .before .before .before .before .before .before .before .before .before .before .before .before .before .stamp-table .ensures) (not-false _ (c .before .before .before .before .before .before .before .before .before .before .before .before .before .if2 .left)) ∙ c .before .before .before .before .before .before .before .before .before .before .before .before .loop2 .inv .1) (8 - (c .before .before .before .before .before .before .before .before .before .before .before .before .loop2 .j + 1)) (omega arith) _ _ 8 8 (row-table _ _ _ _ _ _ (c .before .before .before .before .before .before .before .before .before .before .word-at2 .ensures) 0 _ (c .before .before .before .before .before .before .before .before .before .if3 .left) refl) refl _ _ (c .before .before .before .before .before .before .before .stamp-table2 .ensures) (not-false _ (c .before .before .before .before .before .before .if4 .left)) ∙ c .before .before .before .before .before .loop3 .inv .1) (8 - (c .before .before .before .before .before .loop3 .k + 1)) (omega arith) _ _ (judged-same _ _ _ _ _ _ (row-child _ _ _ _ _ _ (c .before .before .before .word-at3 .ensures)) (c .before .child-check .ensures)) _ (not-true _ (c .if5 .taken))
+  returns-3 c = walk-fails _ _ _ _ _ _ _ _ (part-passed _ _ _ _ _ _ _ _ (part-passed _ _ _ _ _ _ _ _ (c .before .before .before .before .before .before .before .before .before .before .before .before .before .before .before .before .before .before .before .loop .inv .1) (4 - (c .before .before .before .before .before .before .before .before .before .before .before .before .before .before .before .before .before .before .before .loop .i + 1)) (omega arith) _ _ (row-table _ _ _ _ _ _ (c .before .before .before .before .before .before .before .before .before .before .before .before .before .before .before .before .before .word-at .ensures) 1 _ (c .before .before .before .before .before .before .before .before .before .before .before .before .before .before .before .before .if1 .left) refl) _ _ (c .before .before .before .before .before .before .before .before .before .before .before .before .before .before .stamp-table .ensures) (not-false _ (c .before .before .before .before .before .before .before .before .before .before .before .before .before .if2 .left)) ∙ c .before .before .before .before .before .before .before .before .before .before .before .before .loop2 .inv .1) (8 - (c .before .before .before .before .before .before .before .before .before .before .before .before .loop2 .j + 1)) (omega arith) _ _ (row-table _ _ _ _ _ _ (c .before .before .before .before .before .before .before .before .before .before .word-at2 .ensures) 0 _ (c .before .before .before .before .before .before .before .before .before .if3 .left) refl) _ _ (c .before .before .before .before .before .before .before .stamp-table2 .ensures) (not-false _ (c .before .before .before .before .before .before .if4 .left)) ∙ c .before .before .before .before .before .loop3 .inv .1) (8 - (c .before .before .before .before .before .loop3 .k + 1)) (omega arith) _ _ (judged-same _ _ _ _ _ _ (row-child _ _ _ _ _ _ (c .before .before .before .word-at3 .ensures)) (c .before .child-check .ensures)) _ (not-true _ (c .if5 .taken))
 
   pub add-k : lts.Need-add-k (split-told t) (split-check-at t) reads.Post Inv-loop3 μ-loop3 Inv-loop2 μ-loop2 Inv-loop μ-loop
   add-k c = search needs
@@ -154,7 +154,7 @@ module _ (t : ℕ) where
   loop2-less-2 c = search needs
 
   pub loop2-again-2 : lts.Need-loop2-again-2 (split-told t) (split-check-at t) reads.Post Inv-loop3 μ-loop3 Inv-loop2 μ-loop2 Inv-loop μ-loop
-  loop2-again-2 c = (omega arith, walk-leaves _ _ _ _ _ _ _ _ (walk-enters _ _ _ _ _ _ _ _ (c .before .before .before .before .before .before .before .before .loop2 .inv .1) (8 - (c .before .before .before .before .before .before .before .before .loop2 .j + 1)) (omega arith) _ _ 8 8 (row-table _ _ _ _ _ _ (c .before .before .before .before .before .before .word-at2 .ensures) 0 _ (c .before .before .before .before .before .if3 .left) refl) refl _ _ (c .before .before .before .stamp-table2 .ensures) (not-false _ (c .before .before .if4 .left)) ∙ c .before .loop3 .inv .1) (omega arith))
+  loop2-again-2 c = (omega arith, walk-leaves _ _ _ _ _ _ _ _ (part-passed _ _ _ _ _ _ _ _ (c .before .before .before .before .before .before .before .before .loop2 .inv .1) (8 - (c .before .before .before .before .before .before .before .before .loop2 .j + 1)) (omega arith) _ _ (row-table _ _ _ _ _ _ (c .before .before .before .before .before .before .word-at2 .ensures) 0 _ (c .before .before .before .before .before .if3 .left) refl) _ _ (c .before .before .before .stamp-table2 .ensures) (not-false _ (c .before .before .if4 .left)) ∙ c .before .loop3 .inv .1) (omega arith))
 
   pub add-i-2 : lts.Need-add-i-2 (split-told t) (split-check-at t) reads.Post Inv-loop3 μ-loop3 Inv-loop2 μ-loop2 Inv-loop μ-loop
   add-i-2 c = search needs
@@ -163,7 +163,7 @@ module _ (t : ℕ) where
   loop-less-2 c = search needs
 
   pub loop-again-2 : lts.Need-loop-again-2 (split-told t) (split-check-at t) reads.Post Inv-loop3 μ-loop3 Inv-loop2 μ-loop2 Inv-loop μ-loop
-  loop-again-2 c = (omega arith, walk-leaves _ _ _ _ _ _ _ _ (walk-enters _ _ _ _ _ _ _ _ (c .before .before .before .before .before .before .before .before .loop .inv .1) (4 - (c .before .before .before .before .before .before .before .before .loop .i + 1)) (omega arith) _ _ 8 8 (row-table _ _ _ _ _ _ (c .before .before .before .before .before .before .word-at .ensures) 1 _ (c .before .before .before .before .before .if1 .left) refl) refl _ _ (c .before .before .before .stamp-table .ensures) (not-false _ (c .before .before .if2 .left)) ∙ c .before .loop2 .inv .1) (omega arith))
+  loop-again-2 c = (omega arith, walk-leaves _ _ _ _ _ _ _ _ (part-passed _ _ _ _ _ _ _ _ (c .before .before .before .before .before .before .before .before .loop .inv .1) (4 - (c .before .before .before .before .before .before .before .before .loop .i + 1)) (omega arith) _ _ (row-table _ _ _ _ _ _ (c .before .before .before .before .before .before .word-at .ensures) 1 _ (c .before .before .before .before .before .if1 .left) refl) _ _ (c .before .before .before .stamp-table .ensures) (not-false _ (c .before .before .if2 .left)) ∙ c .before .loop2 .inv .1) (omega arith))
 
   pub returns-4 : lts.Need-returns-4 (split-told t) (split-check-at t) reads.Post Inv-loop3 μ-loop3 Inv-loop2 μ-loop2 Inv-loop μ-loop
   returns-4 c = walk-ends _ _ _ _ _ _ _ (c .before .loop .inv .1) (omega arith)
