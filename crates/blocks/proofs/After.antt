@@ -4,7 +4,6 @@ use mathlib.Core.Bool.{Bool, true, false}
 use mathlib.Core.List.{List}
 use Prim.Native.Nat.{ℕ, _≤_}
 use native.Mathlib.Omega.{arith}
-use lib.ListN.{length}
 use Rattle.cells.specs.Bytes.{IsBytes}
 use Rattle.cells.specs.Memory.{memoryOf}
 use Rattle.cells.specs.Occurrences.{occurrences}
@@ -14,27 +13,10 @@ use Rattle.nodes.proofs.Usable.{not-trailer}
 use Rattle.trees.specs.Root.{validRoot, rootCells}
 use Rattle.trees.specs.Lookup.{Table, lookup}
 use Rattle.blocks.specs.Trailer.{badSize, layoutOf, rootWord, validSlot, slotWord, inUse}
-use Rattle.blocks.specs.Sound.{soundWith, sound, reachable}
-use Rattle.blocks.specs.Read.{shown}
+use Rattle.blocks.specs.Sound.{soundWith, reachable}
 use Rattle.blocks.proofs.Trailer.{Sized, badSize-same, TrailerSays}
 use Rattle.blocks.proofs.Roots.{RootKept, root-kept, SoundParts, parts-sound, root-reachable, slot-reachable, reachable-usable}
-
--- the table that a slot shows
-abbrev pub slotShown : List ℕ → ℕ → Table
-slotShown b slot key = lookup (layoutOf b) (memoryOf b) (slotWord (layoutOf b) b slot) key
-
--- a sound block b′ made from b, with this present table, these slots in use, and this table in each of them
-pub record After (b b′ : List ℕ) (present : Table) (used : ℕ → Bool) (held : ℕ → Table) : Type 0 where
-  pub same-length : length b′ ≡ length b
-  pub bytes : IsBytes b′
-  pub layout : layoutOf b′ ≡ layoutOf b
-  pub size : badSize b′ ≡ false
-  pub valid : sound b′ ≡ true
-  pub shows : (key : List ℕ) → shown b′ key ≡ present key
-  pub uses : (slot : ℕ) → validSlot (layoutOf b′) slot ≡ true → inUse (layoutOf b′) b′ slot ≡ used slot
-  pub slot-shows : (slot : ℕ) → validSlot (layoutOf b′) slot ≡ true → used slot ≡ true → (key : List ℕ) → slotShown b′ slot key ≡ held slot key
-  -- a cell that the root or a slot in use reached keeps its bytes
-  pub kept : (c : ℕ) → 1 ≤ occurrences c (reachable (layoutOf b) b) → memoryOf b′ c ≡ memoryOf b c
+use Rattle.blocks.specs.After.{After}
 
 -- the same, said with other names of the tables
 pub after-same : (b b′ : List ℕ) (present present′ : Table) (used : ℕ → Bool) (held held′ : ℕ → Table) → ((key : List ℕ) → present key ≡ present′ key)

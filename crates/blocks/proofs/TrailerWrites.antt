@@ -21,10 +21,7 @@ use Rattle.nodes.specs.Layout.{Layout, isTrailer}
 use Rattle.blocks.specs.Trailer.{rootAt, slotAt, bitsAt, layoutOf, rootWord, slots, validSlot, slotBits, slotWord, slotBit, inUse, validTrailer}
 use Rattle.blocks.specs.TrailerWrites.{withRoot, withSlotWord, withSlotBits}
 use Rattle.blocks.proofs.Trailer.{Sized, trailer-fits, trailerFrom, trailerTo, trailer-from, cell-outside, slots-most, slot-within, slot-apart, trailer-parts, TrailerSays, trailer-says, root-changed}
-
--- values by slot, one of them replaced
-abbrev pub replacedAt : {A : Type 0} → (ℕ → A) → ℕ → A → ℕ → A
-replacedAt values slot new s = cond (eqb s slot) new (values s)
+use Rattle.blocks.specs.After.{replacedAt}
 
 idle-replaced : (t : Bool) {used old : Bool} {w word : ℕ} → cond t used old ≡ false → (used ≡ false → w ≡ 0) → (old ≡ false → word ≡ 0) → cond t w word ≡ 0
 idle-replaced true e new kept = new e

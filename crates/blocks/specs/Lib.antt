@@ -4,6 +4,7 @@ pub mod Sound
 pub mod Refusal
 pub mod Read
 pub mod Tables
+pub mod After
 pub mod Fits
 pub mod Answers
 pub mod Stamps

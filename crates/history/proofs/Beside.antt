@@ -9,10 +9,10 @@ use Rattle.cells.proofs.Choice.{never}
 use Rattle.nodes.specs.Layout.{Layout}
 use Rattle.trees.specs.Lookup.{Table, emptyTable}
 use Rattle.blocks.specs.Trailer.{layoutOf, slots, validSlot, inUse}
-use Rattle.blocks.proofs.After.{After, slotShown}
-use Rattle.store.proofs.Format.{Fresh}
 use Rattle.history.specs.Ledger.{Ledger, emptyLedger}
 use Rattle.history.specs.Demand3.{Agrees}
+use Rattle.blocks.specs.After.{After, slotShown}
+use Rattle.store.specs.Tables.{Fresh}
 
 -- a block of bytes with so many slots that agrees with a ledger
 pub record Beside (count : ℕ) (block : List ℕ) (ledger : Ledger) : Type 0 where

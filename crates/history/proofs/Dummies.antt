@@ -22,12 +22,12 @@ use Rattle.store.specs.Format.{badNewSize, format}
 use Rattle.store.specs.Insert.{cellsFree, cellsToInsert, blockBuild}
 use Rattle.snapshots.specs.Computing.{snapshotsOpen}
 use Rattle.store.specs.Computing.{callsOpen}
-use Rattle.blocks.proofs.After.{slotShown}
 use Rattle.store.proofs.Format.{format-done}
 use Rattle.history.specs.Calls.{Call, inserting, snapshotting, restoring, outcome, run, answersOf}
 use Rattle.history.specs.Ledger.{emptyLedger, noteInsert, ledgerSlot, noteSnapshot, noteHeld, noteRestore, noteCall, ledgerAfter, ledgerAnswers, gotNoRoom, fedBy}
 use Rattle.history.specs.Demand3.{ledgerBeside, Demand3}
 use Rattle.history.specs.Dummies.{alwaysNo, onlyFormats, insertsNothing, rootlessBlock, storesNoRoot, restoresNothing, inventsCount}
+use Rattle.blocks.specs.After.{slotShown}
 
 -- a key of one letter, a fresh block of four cells, and the lists of calls
 abbrev letter : List ℕ

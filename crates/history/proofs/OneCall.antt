@@ -21,13 +21,13 @@ use Rattle.blocks.specs.Read.{shown}
 use Rattle.store.specs.Insert.{cellsToInsert, noRoom, blockBuild, insert}
 use Rattle.store.specs.Laid.{MayInsert}
 use Rattle.snapshots.specs.Snapshots.{snapshot, restore, release}
-use Rattle.blocks.proofs.After.{After, slotShown}
 use Rattle.store.proofs.InsertCall.{insert-after, insert-laid, insert-answer, insert-seven, insert-refused, insert-refused-count}
 use Rattle.snapshots.proofs.SnapshotCalls.{snapshot-law, snapshot-answer, snapshot-refused, restore-law, restore-answer, restore-refused, release-law, release-answer, release-refused}
 use Rattle.history.specs.Calls.{Call, inserting, snapshotting, restoring, releasing, ours, outcome, counted, KeyIsBytes}
 use Rattle.history.specs.Ledger.{Ledger, Noted, unaltered, done, withHeld, noteInsert, ledgerSlot, noteSnapshot, noteHeld, noteRestore, noteRelease, noteCall, gotNoRoom}
 use Rattle.history.specs.Demand3.{AtBuild, AtKind, AtCall}
 use Rattle.history.proofs.Beside.{Beside, SlotHolds, holds-some, holds-replaced, holds-dropped, slot-holds, beside-after}
+use Rattle.blocks.specs.After.{After, slotShown}
 
 -- a call that answered and left a block, beside the ledger's step
 pub record Step (count : ℕ) (b : List ℕ) (answer : ℕ) (b′ : List ℕ) (noted : Noted) : Type 0 where

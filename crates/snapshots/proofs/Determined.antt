@@ -9,7 +9,8 @@ use Rattle.blocks.specs.Refusal.{Changed}
 use Rattle.blocks.specs.Tables.{Passes}
 use Rattle.blocks.proofs.Determined.{both, passes-or, beside-told, changed-told}
 use Rattle.snapshots.specs.Snapshots.{snapshot, restore, release}
-use Rattle.snapshots.proofs.SlotTables.{SlotCall, snapshotCall, restoreCall, releaseCall, SlotTable, snapshot-table, restore-table, release-table}
+use Rattle.snapshots.proofs.SlotTables.{snapshot-table, restore-table, release-table}
+use Rattle.snapshots.specs.Tables.{SlotCall, snapshotCall, restoreCall, releaseCall, SlotTable}
 
 module _ (b : List ℕ) (slot : ℕ) where
   slot-answer-told : (call : SlotCall) (q r : Changed) → SlotTable b slot call q → SlotTable b slot call r → q .answer ≡ r .answer

@@ -11,9 +11,9 @@ use borrow.Author.Tests.{eq-eqb, ne-eqb, eqb-true, eqb-false}
 use Rattle.nodes.specs.Layout.{Layout}
 use Rattle.blocks.specs.Trailer.{slots, validSlot, slotBits, slotBit, inUse}
 use Rattle.blocks.proofs.Trailer.{slot-low, slot-high}
-use Rattle.blocks.proofs.TrailerWrites.{replacedAt}
 use Rattle.snapshots.specs.Snapshots.{withBit, withoutBit}
 use Rattle.snapshots.proofs.Bits.{bit-set, bit-other, bit-cleared, bit-cleared-other, bit-bound}
+use Rattle.blocks.specs.After.{replacedAt}
 
 -- the bits v with bit i set, and with it cleared
 module _ (v i : ℕ) where

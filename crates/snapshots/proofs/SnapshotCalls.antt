@@ -22,9 +22,10 @@ use Rattle.blocks.proofs.Trailer.{sized, trailer-parts}
 use Rattle.blocks.proofs.Roots.{sound-parts}
 use Rattle.snapshots.specs.Snapshots.{withBit, withoutBit, slotRefusals, usedSlotRefusals, snapshotBlock, restoreBlock, releaseBlock, snapshot, restore, release}
 use Rattle.snapshots.proofs.SlotAnswers.{slot-answers, used-slot-answers}
-use Rattle.blocks.proofs.TrailerWrites.{replacedAt, root-written, root-written-cells, slot-block-bytes, slot-block-cells, slot-written, bits-byte}
+use Rattle.blocks.proofs.TrailerWrites.{root-written, root-written-cells, slot-block-bytes, slot-block-cells, slot-written, bits-byte}
 use Rattle.snapshots.proofs.SlotBits.{with-bit-fits, with-bit-uses, without-bit-fits, without-bit-uses}
-use Rattle.blocks.proofs.After.{After, after-same, slotShown, OldRoot, present-root, slot-root, after-trailer}
+use Rattle.blocks.proofs.After.{after-same, OldRoot, present-root, slot-root, after-trailer}
+use Rattle.blocks.specs.After.{replacedAt, After, slotShown}
 
 -- a table by slot, where the words are replaced at one
 cond-lookup : (layout : Layout) (m : Memory) (t : Bool) (w v : ℕ) (key : List ℕ)

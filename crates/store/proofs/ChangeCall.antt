@@ -29,8 +29,9 @@ use Rattle.store.specs.Free.{free}
 use Rattle.store.specs.Insert.{cellsFree}
 use Rattle.store.specs.Committed.{numbering, committed}
 use Rattle.store.specs.Laid.{rootReaches, Laid}
-use Rattle.blocks.proofs.After.{After, after, slotShown, slot-root, old-root-kept}
+use Rattle.blocks.proofs.After.{after, slot-root, old-root-kept}
 use Rattle.store.proofs.Committed.{committed-bytes, committed-cells, committed-trailer, committed-kept, committed-says}
+use Rattle.blocks.specs.After.{After, slotShown}
 
 -- a build for a key of a sound block: it finds room, keeps the bound, and in any memory where its cells stand the key has
 -- what is given, a value or none

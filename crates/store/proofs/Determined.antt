@@ -16,7 +16,8 @@ use Rattle.blocks.proofs.Trailer.{byte-in-cell}
 use Rattle.blocks.proofs.Determined.{both, passes-or, beside-told, changed-told}
 use Rattle.store.specs.Format.{badNewSize, format}
 use Rattle.store.specs.Insert.{cellsFree, cellsToInsert, insert}
-use Rattle.store.proofs.WriteCalls.{FormatTable, format-table, InsertTable, insert-table}
+use Rattle.store.proofs.WriteCalls.{format-table, insert-table}
+use Rattle.store.specs.Tables.{FormatTable, InsertTable}
 
 -- blocks of one length are the same where their cells are
 block-told : (b b′ : List ℕ) → length b ≡ length b′ → ((c : ℕ) → memoryOf b c ≡ memoryOf b′ c) → b ≡ b′

@@ -16,7 +16,7 @@ use Rattle.cells.specs.Occurrences.{occurrences}
 use Rattle.cells.proofs.Choice.{absurd-bool}
 use Rattle.cells.proofs.Occurrences.{occurrences-none}
 use Rattle.cells.proofs.Words.{zeros-length, zeros-byte, bytes-zeros, length-withWord, withWord-bytes, byte-other, word-same, word-other}
-use Rattle.nodes.specs.Layout.{Layout, leastCells, validEdition, usable}
+use Rattle.nodes.specs.Layout.{Layout, leastCells, validEdition}
 use Rattle.nodes.proofs.Usable.{edition-small}
 use Rattle.trees.specs.Root.{validRoot, rootCells}
 use Rattle.trees.specs.Lookup.{emptyTable, lookup}
@@ -24,15 +24,15 @@ use Rattle.trees.proofs.Tree.{lookup-zero}
 use Rattle.blocks.specs.Trailer.{rootAt, slotAt, bitsAt, zeroBytesAt, cellsAt, zeroWordAt, editionAt, badLength, badSize, layoutOf, rootWord, slots, validSlot, slotBits, slotWord, slotBit, inUse}
 use Rattle.blocks.specs.TrailerWrites.{withCells}
 use Rattle.blocks.specs.Fits.{Fits}
-use Rattle.blocks.specs.Sound.{soundWith, sound, reachable}
-use Rattle.blocks.specs.Read.{shown}
+use Rattle.blocks.specs.Sound.{soundWith, reachable}
 use Rattle.blocks.proofs.Refusals.{done-block, refused-block}
 use Rattle.blocks.proofs.Trailer.{good-length, slot-apart, parts-trailer}
 use Rattle.blocks.proofs.Roots.{zero-valid, zero-cells, parts-sound, unreachable}
-use Rattle.store.specs.Free.{allocationOrder, free}
+use Rattle.store.specs.Free.{allocationOrder}
 use Rattle.store.specs.Format.{formatted, newLayout, freshOf, badNewSize, formatRefusals, format}
 use Rattle.store.proofs.CallAnswers.{format-answers}
 use Rattle.store.proofs.Free.{free-every, free-all}
+use Rattle.store.specs.Tables.{Fresh}
 
 zeros-word : (n at : ℕ) → wordAt (zeros n) at ≡ 0
 unfolding wordAt
@@ -123,19 +123,6 @@ module _ (layout : Layout) (size : ℕ) (fits : Fits layout size) where
       let nowhere = ap (λ (w : ℕ). rootCells layout (memoryOf (formatted layout size)) w) formatted-root ∙ zero-cells layout (memoryOf (formatted layout size)) in
       unreachable layout (formatted layout size) c (ap (occurrences c) nowhere ∙ occurrences-none c)
       (λ slot is-slot on. absurd-bool (sym on ∙ formatted-unused slot))
-
--- a fresh block of an edition, made from one of its size
-pub record Fresh (edition : ℕ) (b fresh : List ℕ) : Type 0 where
-  pub same-length : length fresh ≡ length b
-  pub bytes : IsBytes fresh
-  pub layout : layoutOf fresh ≡ newLayout edition b
-  pub size : badSize fresh ≡ false
-  pub valid : sound fresh ≡ true
-  pub shows : (key : List ℕ) → shown fresh key ≡ emptyTable key
-  pub unused : (slot : ℕ) → inUse (layoutOf fresh) fresh slot ≡ false
-  pub unreached : (c : ℕ) → occurrences c (reachable (layoutOf fresh) fresh) ≡ 0
-  pub all-free : (c : ℕ) → usable (layoutOf fresh) c ≡ true → occurrences c (free (layoutOf fresh) fresh) ≡ 1
-  pub free-is : free (layoutOf fresh) fresh ≡ allocationOrder (layoutOf fresh) 0
 
 module _ (edition : ℕ) (b : List ℕ) where
   new-fits : badNewSize edition b ≡ false → Fits (newLayout edition b) (length b)

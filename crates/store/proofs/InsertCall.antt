@@ -34,8 +34,8 @@ use Rattle.store.specs.Committed.{numbering, committed}
 use Rattle.store.specs.Laid.{Laid, Lacks, Finds, MayInsert}
 use Rattle.store.proofs.CallAnswers.{insert-answers}
 use Rattle.store.proofs.Free.{free-usable, free-once, free-reached}
-use Rattle.blocks.proofs.After.{After, slotShown}
 use Rattle.store.proofs.ChangeCall.{Change, change-after, change-laid}
+use Rattle.blocks.specs.After.{After, slotShown}
 
 -- a new key has 1 to as many bytes as the limit, and a value fits
 pub key-some : (key : List ℕ) → badNewKey key ≡ false → 1 ≤ length key

@@ -22,7 +22,7 @@ use Rattle.blocks.specs.Read.{validate, shown}
 use Rattle.blocks.proofs.Trailer.{trailerFrom, trailerTo, trailer-from, byte-in-cell, trailer-cell, SameBytes, same-word, layout-same, badSize-same, slot-valid, slot-within, trailer-parts, parts-trailer}
 use Rattle.blocks.proofs.Roots.{root-parts, sound-parts, used-roots, idle-roots}
 use Rattle.store.specs.Free.{allocationOrder, free}
-use Rattle.blocks.proofs.After.{slotShown}
+use Rattle.blocks.specs.After.{slotShown}
 
 -- a byte, by its cell and its offset there, has a meaning: in the trailer, in the root's tree or in that of a slot in use
 abbrev pub BlockMeans : List ℕ → ℕ → ℕ → Type 0

@@ -2,6 +2,7 @@ pub mod Free
 pub mod Format
 pub mod Insert
 pub mod Laid
+pub mod Tables
 pub mod Computing
 pub mod Unstamped
 pub mod Committed

@@ -1,0 +1,59 @@
+-- 01, "When the answer is no", for making a fresh block and for an insertion: each answer exactly under its condition, and the
+-- block that is left.
+use mathlib.Core.Path.{_≡_}
+use mathlib.Core.Logic.{_≢_}
+use mathlib.Core.Bool.{true, false}
+use mathlib.Core.List.{List}
+use Prim.Native.Nat.{ℕ, _≤_, _<_}
+use lib.ListN.{length}
+use Rattle.cells.specs.Bytes.{IsBytes}
+use Rattle.cells.specs.Occurrences.{occurrences}
+use Rattle.nodes.specs.Layout.{usable}
+use Rattle.trees.specs.Lookup.{emptyTable, update}
+use Rattle.blocks.specs.Trailer.{badSize, layoutOf, inUse}
+use Rattle.blocks.specs.Sound.{sound, reachable}
+use Rattle.blocks.specs.Refusal.{Changed, Inserted, badNewKey, badValue}
+use Rattle.blocks.specs.Read.{shown}
+use Rattle.blocks.specs.Tables.{Exactly, Asked, Passes}
+use Rattle.blocks.specs.After.{slotShown, After}
+use Rattle.store.specs.Free.{allocationOrder, free}
+use Rattle.store.specs.Format.{newLayout, freshOf, badNewSize}
+use Rattle.store.specs.Insert.{cellsFree, cellsToInsert, blockBuild}
+use Rattle.store.specs.Laid.{Laid}
+
+-- a fresh block of an edition, made from one of its size
+pub record Fresh (edition : ℕ) (b fresh : List ℕ) : Type 0 where
+  pub same-length : length fresh ≡ length b
+  pub bytes : IsBytes fresh
+  pub layout : layoutOf fresh ≡ newLayout edition b
+  pub size : badSize fresh ≡ false
+  pub valid : sound fresh ≡ true
+  pub shows : (key : List ℕ) → shown fresh key ≡ emptyTable key
+  pub unused : (slot : ℕ) → inUse (layoutOf fresh) fresh slot ≡ false
+  pub unreached : (c : ℕ) → occurrences c (reachable (layoutOf fresh) fresh) ≡ 0
+  pub all-free : (c : ℕ) → usable (layoutOf fresh) c ≡ true → occurrences c (free (layoutOf fresh) fresh) ≡ 1
+  pub free-is : free (layoutOf fresh) fresh ≡ allocationOrder (layoutOf fresh) 0
+
+-- 01's table for a fresh block: the old one is not asked, neither what it says nor whether it is sound
+pub record FormatTable (b : List ℕ) (r : Changed) : Type 0 where
+  pub bad-size : Exactly (r .answer) 1 (badNewSize 1 b ≡ true)
+  pub done : Exactly (r .answer) 0 (badNewSize 1 b ≡ false)
+  pub refused : r .answer ≢ 0 → r .block ≡ b
+  -- all zero but for n and the edition
+  pub left : r .answer ≡ 0 → r .block ≡ freshOf 1 b
+  -- which is sound, shows nothing and has no slot in use
+  pub fresh : r .answer ≡ 0 → Fresh 1 b (r .block)
+
+-- 01's table for an insertion
+pub record InsertTable (b key : List ℕ) (value : ℕ) (r : Inserted) : Type 0 where
+  pub bad-size : Exactly (r .answer) 1 (badSize b ≡ true)
+  pub unsound : Exactly (r .answer) 2 ((badSize b ≡ false) × (sound b ≡ false))
+  pub bad-key : Exactly (r .answer) 3 (Passes b × (badNewKey key ≡ true))
+  pub bad-value : Exactly (r .answer) 4 (Asked b (badNewKey key) × (badValue value ≡ true))
+  pub no-room : Exactly (r .answer) 7 (Asked b (badNewKey key) × ((badValue value ≡ false) × (cellsFree b < cellsToInsert b key)))
+  pub done : Exactly (r .answer) 0 (Asked b (badNewKey key) × ((badValue value ≡ false) × (cellsToInsert b key ≤ cellsFree b)))
+  pub refused : r .answer ≢ 0 → (r .count ≡ 0) × (r .block ≡ b)
+  -- the block left shows the old table with the value at the key, and each slot what it did
+  pub after : IsBytes b → IsBytes key → r .answer ≡ 0 → After b (r .block) (update (shown b) key value) (inUse (layoutOf b) b) (slotShown b)
+  -- every byte of it, and the count: that of the cells newly reached
+  pub laid : IsBytes b → IsBytes key → r .answer ≡ 0 → Laid b key (blockBuild b key value) (r .count) (r .block)
