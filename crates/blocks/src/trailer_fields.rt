@@ -5,7 +5,7 @@ ghost use Prim.Native.Nat.{_+_, _≤_};
 ghost use lib.ListN.{length};
 ghost use Rattle.blocks.specs.Trailer.{badLength, badSize, layoutOf, rootWord, slots, validSlot, slotBits, slotWord, inUse, everySlot, idleIsZero, zeroFrom, validTrailer, trailerAt, slotAt};
 ghost use Rattle.blocks.specs.Fits.{Fits};
-ghost use Rattle.nodes.specs.Layout.{cellLimit};
+ghost use Rattle.nodes.specs.Layout.{leastCells, cellLimit};
 use cells::word_at;
 use nodes::layout::CELL_LIMIT;
 use nodes::layout::Layout;
@@ -94,7 +94,7 @@ pub fn is_valid_slot(layout: Layout, slot: usize) -> bool
 
 // Where the word of a slot stands.
 pub fn slot_at(layout: Layout, slot: usize) -> usize
-    requires { ⌜ (1 ≤ layout .cells) × (layout .cells ≤ cellLimit) × (validSlot layout slot ≡ true) ⌝ }
+    requires { ⌜ (leastCells layout ≤ layout .cells) × (layout .cells ≤ cellLimit) × (validSlot layout slot ≡ true) ⌝ }
     ensures { λ r. ⌜ r ≡ slotAt layout slot ⌝ }
 {
     trailer_at(layout) + 4 * slot
