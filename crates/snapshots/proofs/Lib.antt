@@ -5,3 +5,4 @@ pub mod SnapshotSteps
 pub mod SnapshotCalls
 pub mod SlotTables
 pub mod Determined
+pub mod Proved

@@ -14,3 +14,4 @@ pub mod FreeWrites
 pub mod WriteCalls
 pub mod Determined
 pub mod MeantBlock
+pub mod Proved

@@ -33,3 +33,4 @@ pub mod StagedSparse
 pub mod StagedSplitOf
 pub mod StagedSplits
 pub mod Needed
+pub mod Proved

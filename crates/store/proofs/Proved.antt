@@ -1,0 +1,36 @@
+-- What is proved of making a fresh block and of an insertion, on any bytes: each meets its table of answers, and whatever meets the
+-- table is the call, in its answer, its count and every byte of the block.
+use mathlib.Core.Path.{_≡_}
+use mathlib.Core.List.{List}
+use Prim.Native.Nat.{ℕ, _≤_}
+use lib.ListN.{length}
+use Rattle.cells.specs.Bytes.{IsBytes}
+use Rattle.updates.specs.Commit.{buildWrites}
+use Rattle.blocks.specs.Trailer.{layoutOf}
+use Rattle.blocks.specs.Refusal.{Changed, Inserted}
+use Rattle.store.specs.Free.{free}
+use Rattle.store.specs.Format.{format}
+use Rattle.store.specs.Committed.{numbering}
+use Rattle.store.specs.Insert.{insert}
+use Rattle.store.specs.Tables.{FormatTable, InsertTable}
+use Rattle.store.proofs.WriteCalls.{format-table, insert-table}
+use Rattle.store.proofs.Determined as determined
+use Rattle.store.proofs.FreeWrites.{WritesInto}
+use Rattle.store.proofs.FreeWrites as free-writes
+
+pub format-meets : (b : List ℕ) → FormatTable b (format b)
+format-meets = format-table
+
+pub format-told : (b : List ℕ) (r : Changed) → FormatTable b r → r ≡ format b
+format-told = determined.format-told
+
+pub insert-meets : (b key : List ℕ) (value : ℕ) → InsertTable b key value (insert b key value)
+insert-meets = insert-table
+
+pub insert-told : (b key : List ℕ) (value : ℕ) (r : Inserted) → IsBytes b → IsBytes key → InsertTable b key value r → r ≡ insert b key value
+insert-told = determined.insert-told
+
+-- every write of a build that fits, but for the root word, goes into a free cell
+pub writes-free : (b : List ℕ) (cells : List (List ℕ)) → length cells ≤ length (free (layoutOf b) b)
+    → WritesInto (free (layoutOf b) b) (buildWrites (numbering b) cells)
+writes-free = free-writes.writes-free
