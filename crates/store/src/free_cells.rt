@@ -3,7 +3,7 @@ ghost use mathlib.Core.Path.{_≡_};
 ghost use Prim.Native.Nat.{_≤_, _<_};
 ghost use lib.ListN.{length, set};
 ghost use Rattle.store.specs.Unstamped.{unstamped, Listed};
-ghost use Rattle.nodes.specs.Layout.{cellLimit};
+ghost use Rattle.nodes.specs.Layout.{leastCells, cellLimit};
 use nodes::layout::CELL_LIMIT;
 use nodes::layout::Layout;
 use nodes::layout::trailer_cells;
@@ -23,7 +23,7 @@ pub fn free_cells(
     stamps: &[u8; CELL_LIMIT],
     numbers: &mut [u16; CELL_LIMIT],
 ) -> usize
-    requires { ⌜ (1 ≤ layout .cells) × (layout .cells ≤ cellLimit) ⌝ }
+    requires { ⌜ (leastCells layout ≤ layout .cells) × (layout .cells ≤ cellLimit) ⌝ }
     ensures { λ r. ⌜ Listed (now (numbers .exit)) r (unstamped layout root (now (stamps .entry))) ⌝ }
 {
     let cells = layout.cells;

@@ -9,7 +9,7 @@ root-word-requires : tie.Need-root-word-requires
 root-word-requires c κs = insertable-fits _ _ _ _ _ (c .before .before .before .pre)
 
 free-cells-requires : tie.Need-free-cells-requires
-free-cells-requires c κs = let f = insertable-fits _ _ _ _ _ (c .before .before .before .before .before .pre) in (omega (arith, f .least), f .most)
+free-cells-requires c κs = let f = insertable-fits _ _ _ _ _ (c .before .before .before .before .before .pre) in (f .least, f .most)
 
 build-requires : tie.Need-build-requires
 build-requires c κs =
