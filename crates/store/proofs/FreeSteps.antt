@@ -23,11 +23,6 @@ use Rattle.store.specs.Unstamped.{unstamped, Listed}
 use Rattle.store.specs.Changeable.{Judged}
 use Rattle.store.proofs.Free.{select-kept, select-dropped}
 
--- the trailer is one cell
-pub trailer-one : (layout : Layout) → trailerCells layout ≡ 1
-unfolding trailerCells
-trailer-one layout = refl
-
 -- one number more in an array that has room for it
 pub listed-more : (numbers after : List ℕ) (count next cell : ℕ) → after ≡ set numbers count cell → next ≡ count + 1 → count < length numbers
     → next ≤ length after

@@ -2,7 +2,7 @@
 ghost use mathlib.Core.Path.{_≡_};
 ghost use Prim.Native.Nat.{_≤_, _<_};
 ghost use lib.ListN.{length, set, take};
-ghost use Rattle.nodes.specs.Layout.{cellLimit};
+ghost use Rattle.nodes.specs.Layout.{leastCells, cellLimit};
 ghost use Rattle.staging.specs.Stage.{stageCells};
 ghost use Rattle.blocks.specs.Fits.{Fits};
 ghost use Rattle.store.specs.Unstamped.{unstamped, Listed};
@@ -36,7 +36,7 @@ fn free_cells(
     stamps: &[u8; CELL_LIMIT],
     numbers: &mut [u16; STAGE_CELLS],
 ) -> usize
-    requires { ⌜ (1 ≤ layout .cells) × (layout .cells ≤ cellLimit) ⌝ }
+    requires { ⌜ (leastCells layout ≤ layout .cells) × (layout .cells ≤ cellLimit) ⌝ }
     ensures { λ r. ⌜ Listed (now (numbers .exit)) r (take stageCells (unstamped layout root (now (stamps .entry)))) ⌝ }
 {
     let cells = layout.cells;

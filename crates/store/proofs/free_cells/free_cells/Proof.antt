@@ -11,7 +11,7 @@ use Rattle.cells.specs.Occurrences.{select}
 use Rattle.nodes.specs.Layout.{cellLimit}
 use Rattle.staging.specs.Stage.{stageCells}
 use Rattle.store.specs.Free.{countUp}
-use Rattle.store.proofs.FreeSteps.{trailer-one, unmarked, Walked, walk-start, listed-more, walk-kept, walk-dropped, walk-end, walk-full, walk-done}
+use Rattle.store.proofs.FreeSteps.{unmarked, Walked, walk-start, listed-more, walk-kept, walk-dropped, walk-end, walk-full, walk-done}
 use Rattle.store.proofs.free_cells.free_cells.Statement.{statement}
 use Rattle.store.proofs.free_cells.free_cells.Tie as tie
 
@@ -27,7 +27,7 @@ trailer-cells-requires : tie.Need-trailer-cells-requires Inv-loop μ-loop
 trailer-cells-requires c κs = search needs
 
 sub-end : tie.Need-sub-end Inv-loop μ-loop
-sub-end c = omega (arith, trailer-one (c .before .args .layout), c .trailer-cells .ensures)
+sub-end c = omega (arith, c .trailer-cells .ensures, c .before .pre .0)
 
 loop-holds : tie.Need-loop-holds Inv-loop μ-loop
 loop-holds c = (omega arith, omega arith, omega arith, omega arith, walk-start _ (c .before .args .numbers .now) _)
