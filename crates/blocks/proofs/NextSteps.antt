@@ -18,7 +18,7 @@ use Rattle.cells.proofs.Memory.{memory-bytes}
 use Rattle.nodes.specs.Layout.{Layout, keyLimit}
 use Rattle.trees.specs.Entries.{Entry, nextEntry}
 use Rattle.trees.specs.NextWalk.{keyOf, nextFrom}
-use Rattle.trees.specs.Coded.{toldKey, Told}
+use Rattle.trees.specs.Coded.{toldKey, KeyWritten}
 use Rattle.trees.specs.declared.next_key.NextStep.{NextStep}
 use Rattle.trees.proofs.NextWalk.{next-key}
 use Rattle.blocks.specs.Trailer.{layoutOf, rootWord}
@@ -123,7 +123,7 @@ module _ (b key : List ℕ) where
 
       -- what the walk found
       module _ (layout : Layout) (e : layout ≡ layoutOf b) (word : ℕ) (is : word ≡ rootWord layout b) (bytes : IsBytes b) (characters : IsBytes key)
-          (next : List ℕ) (step : NextStep) (told : Told next 0 step (nextFrom layout (memoryOf b) keyLimit word key)) where
+          (next : List ℕ) (step : NextStep) (told : KeyWritten next 0 step (nextFrom layout (memoryOf b) keyLimit word key)) where
         walked : toldKey next 0 step ≡ keyOf (nextEntry key (shownEntries b))
         walked =
             let grown = root-grown b done layout e word is in

@@ -22,16 +22,16 @@ use Rattle.blocks.specs.Trailer.{badSize, layoutOf, rootWord}
 use Rattle.blocks.specs.Sound.{sound}
 use Rattle.blocks.specs.Refusal.{firstRefusal, badKey, overLong}
 use Rattle.blocks.specs.Read.{missing, validate, shown, Found, valueOr, getRefusals, get, shownEntries, Next, padded, keyOr, nextRefusals, nextKey}
-use Rattle.blocks.specs.Tables.{Exactly, Asked, ValidateTable, GetTable, LeastAbove, NextTable}
+use Rattle.blocks.specs.Tables.{Exactly, PassesKey, ValidateTable, GetTable, LeastAbove, NextTable}
 use Rattle.blocks.proofs.Refusals.{block-answers, get-answers, next-answers}
 use Rattle.blocks.proofs.Roots.{RootParts, root-parts, sound-parts}
 
 -- it is what the first three refusals of a call say
 module _ {b : List ℕ} {bad : Bool} {Rest : Type 0} where
-  pub asked : (badSize b ≡ false) × ((not (sound b) ≡ false) × ((bad ≡ false) × Rest)) → Asked b bad
+  pub asked : (badSize b ≡ false) × ((not (sound b) ≡ false) × ((bad ≡ false) × Rest)) → PassesKey b bad
   asked c = record { size = c .0; valid = not-false _ (c .1 .0); key = c .1 .1 .0 }
 
-  pub refusals-none : Asked b bad → Rest → (badSize b ≡ false) × ((not (sound b) ≡ false) × ((bad ≡ false) × Rest))
+  pub refusals-none : PassesKey b bad → Rest → (badSize b ≡ false) × ((not (sound b) ≡ false) × ((bad ≡ false) × Rest))
   refusals-none a rest = (a .size, (ap not (a .valid), (a .key, rest)))
 
 -- a condition in other words, and an answer's other name
@@ -93,7 +93,7 @@ module _ (b key : List ℕ) where
   unfolding get
   get-value = refl
 
-  get-only : (value : ℕ) → get b key ≡ record { answer = 0; value = value } → Asked b (badKey key) × (shown b key ≡ some value)
+  get-only : (value : ℕ) → get b key ≡ record { answer = 0; value = value } → PassesKey b (badKey key) × (shown b key ≡ some value)
   get-only value e =
       let zero : firstRefusal (getRefusals b key) ≡ 0 = sym get-number ∙ ap (λ (r : Found). r .answer) e in
       let c = get-answers b key .1 .1 .1 .1 .only zero in
@@ -101,7 +101,7 @@ module _ (b key : List ℕ) where
       sym (chosen-done (firstRefusal (getRefusals b key)) (valueOr (shown b key)) 0 zero) ∙ sym get-value ∙ ap (λ (r : Found). r .value) e in
       (asked c, value-there (shown b key) (c .1 .1 .1 .0) ∙ ap (λ (n : ℕ). some n) is)
 
-  get-given : (value : ℕ) → Asked b (badKey key) × (shown b key ≡ some value) → get b key ≡ record { answer = 0; value = value }
+  get-given : (value : ℕ) → PassesKey b (badKey key) × (shown b key ≡ some value) → get b key ≡ record { answer = 0; value = value }
   get-given value d =
       let zero : firstRefusal (getRefusals b key) ≡ 0 =
       get-answers b key .1 .1 .1 .1 .given (refusals-none (d .0) (some-there (shown b key) value (d .1), tt)) in
@@ -194,11 +194,11 @@ module _ (b key : List ℕ) where
   unfolding nextKey
   next-parts = refl
 
-  next-only : (k : List ℕ) → nextKey b key ≡ record { answer = 0; size = length k; key = padded k } → Asked b (overLong key) × LeastAbove b key k
+  next-only : (k : List ℕ) → nextKey b key ≡ record { answer = 0; size = length k; key = padded k } → PassesKey b (overLong key) × LeastAbove b key k
   next-only k e =
       let zero : firstRefusal (nextRefusals b key) ≡ 0 = sym next-number ∙ ap (λ (r : Next). r .answer) e in
       let c = next-answers b key .1 .1 .1 .1 .only zero in
-      let a : Asked b (overLong key) = asked c in
+      let a : PassesKey b (overLong key) = asked c in
       let n = there-some (nextEntry key (shownEntries b)) (c .1 .1 .1 .0) in
       let beside : besideKey ≡ n .0 .key =
       chosen-done (firstRefusal (nextRefusals b key)) (keyOr (nextEntry key (shownEntries b))) [] zero
@@ -212,7 +212,7 @@ module _ (b key : List ℕ) where
       sym (padded-back (n .0 .key) fits) ∙ (λ i. take (size i) (bytes i)) ∙ padded-back k (omega (arith, size, fits)) in
       (a, subst (LeastAbove b key) is (least-above b key (a .valid) (n .0) (n .1)))
 
-  next-given : (k : List ℕ) → Asked b (overLong key) × LeastAbove b key k → nextKey b key ≡ record { answer = 0; size = length k; key = padded k }
+  next-given : (k : List ℕ) → PassesKey b (overLong key) × LeastAbove b key k → nextKey b key ≡ record { answer = 0; size = length k; key = padded k }
   next-given k d =
       let n = next-is b key (d .0 .valid) k (d .1) in
       let zero : firstRefusal (nextRefusals b key) ≡ 0 =

@@ -17,11 +17,11 @@ use Rattle.nodes.specs.Layout.{Layout, usable, keyLimit, cellLimit}
 use Rattle.nodes.specs.Pointer.{pointer}
 use Rattle.nodes.proofs.Pointers.{usable-inside}
 use Rattle.trees.specs.Root.{isRoot, rootTree, onceVisited, validRoot, cellsOf, rootCells}
-use Rattle.trees.specs.Visit.{admit, visit, Judged}
+use Rattle.trees.specs.Visit.{stampEach, visit, VisitAnswer}
 use Rattle.trees.proofs.Usable.{tree-usable}
 use Rattle.trees.proofs.Joins.{bind-of}
 use Rattle.trees.proofs.Judging.{visit-empty, judged-same, judged-empty}
-use Rattle.trees.proofs.Admit.{Inside, Admitted, admitted, distinct-admit, admit-refused, admit-length}
+use Rattle.trees.proofs.Stamping.{Inside, StampedOnce, stamped-once, distinct-stamped, stampEach-refused, stampEach-length}
 use Rattle.blocks.specs.Trailer.{rootWord, slots, slotWord, inUse, validTrailer}
 use Rattle.blocks.specs.Sound.{slotRoots, roots, soundWith, reachedFrom, reachable}
 use Rattle.blocks.specs.Stamps.{slotTree, Validated}
@@ -40,20 +40,20 @@ root-inside layout b word cs stamps room found = go (isRoot (pointer layout word
 
 -- what a judgement of one root says of it
 module _ (layout : Layout) (b : List ℕ) (word stamp : ℕ) (before after : List ℕ) (passed : Bool) (room : layout .cells ≤ length before)
-    (fresh : (c : ℕ) → getD before c 0 < stamp) (judged : Judged (rootTree layout (memoryOf b) word) stamp before after passed) where
+    (fresh : (c : ℕ) → getD before c 0 < stamp) (judged : VisitAnswer (rootTree layout (memoryOf b) word) stamp before after passed) where
   unstamped : (c : ℕ) → c < length before → getD before c 0 ≢ stamp
   unstamped c inside e = omega (arith, fresh c)
 
-  pub root-passed : passed ≡ true → (validRoot layout (memoryOf b) word ≡ true) × Admitted stamp (rootCells layout (memoryOf b) word) before after
+  pub root-passed : passed ≡ true → (validRoot layout (memoryOf b) word ≡ true) × StampedOnce stamp (rootCells layout (memoryOf b) word) before after
       × (length after ≡ length before)
   unfolding onceVisited cellsOf
   root-passed t =
-      let found = bound (rootTree layout (memoryOf b) word) (λ cs. admit stamp cs before) (judged .accepted t) in
+      let found = bound (rootTree layout (memoryOf b) word) (λ cs. stampEach stamp cs before) (judged .accepted t) in
       let inside : Inside (found .0) before = root-inside layout b word (found .0) before room (found .1) in
       let cells : rootCells layout (memoryOf b) word ≡ found .0 = ap cellsOf (found .1) in (
-        ap onceVisited (found .1) ∙ distinct-admit stamp (found .0) before inside unstamped after (found .2),
-        subst (λ (l : List ℕ). Admitted stamp l before after) (sym cells) (admitted stamp (found .0) before after inside (found .2)),
-        admit-length stamp (found .0) before after (found .2),
+        ap onceVisited (found .1) ∙ distinct-stamped stamp (found .0) before inside unstamped after (found .2),
+        subst (λ (l : List ℕ). StampedOnce stamp l before after) (sym cells) (stamped-once stamp (found .0) before after inside (found .2)),
+        stampEach-length stamp (found .0) before after (found .2),
       )
 
   pub root-failed : passed ≡ false → validRoot layout (memoryOf b) word ≡ false
@@ -64,8 +64,8 @@ module _ (layout : Layout) (b : List ℕ) (word stamp : ℕ) (before after : Lis
       go none e = ap onceVisited e
       go (some cs) e =
           ap onceVisited e
-          ∙ admit-refused stamp cs before (root-inside layout b word cs before room e) unstamped
-          (sym (bind-of cs (λ ds. admit stamp ds before)) ∙ ap (λ o. bind o (λ ds. admit stamp ds before)) (sym e) ∙ judged .refused f)
+          ∙ stampEach-refused stamp cs before (root-inside layout b word cs before room e) unstamped
+          (sym (bind-of cs (λ ds. stampEach stamp ds before)) ∙ ap (λ o. bind o (λ ds. stampEach stamp ds before)) (sym e) ∙ judged .refused f)
 
 -- the roots before are valid and have stamps below the next one; those left decide
 pub record Walked (layout : Layout) (b : List ℕ) (left : List ℕ) (stamp : ℕ) (stamps : List ℕ) : Type 0 where
@@ -94,7 +94,7 @@ module _ (layout : Layout) (b : List ℕ) where
       record { size = w .size; verdict = w .verdict; clear = w .clear; unreached = w .unreached; fresh = λ c. omega (arith, w .fresh c) }
 
   module _ (word : ℕ) (left : List ℕ) (stamp : ℕ) (before after : List ℕ) (passed : Bool) (room : layout .cells ≤ cellLimit)
-      (walked : Walked layout b (word ∷ left) stamp before) (judged : Judged (rootTree layout (memoryOf b) word) stamp before after passed) where
+      (walked : Walked layout b (word ∷ left) stamp before) (judged : VisitAnswer (rootTree layout (memoryOf b) word) stamp before after passed) where
     inside : layout .cells ≤ length before
     inside = omega (arith, walked .size)
 
@@ -104,7 +104,7 @@ module _ (layout : Layout) (b : List ℕ) where
         walked .verdict ∙ ap (λ (t : Bool). t && all (validRoot layout (memoryOf b)) left) (root-failed layout b word stamp before after passed inside (walked .fresh) judged f)
 
     -- a cell of the root has the stamp, and any other the one that it had
-    module _ (low : 1 ≤ stamp) (p : Admitted stamp (rootCells layout (memoryOf b) word) before after) (c : ℕ) where
+    module _ (low : 1 ≤ stamp) (p : StampedOnce stamp (rootCells layout (memoryOf b) word) before after) (c : ℕ) where
       cut : occurrences c (reachedFrom layout (memoryOf b) (word ∷ left))
           ≡ occurrences c (rootCells layout (memoryOf b) word) + occurrences c (reachedFrom layout (memoryOf b) left)
       cut = reached-cons layout b c word left
@@ -143,7 +143,7 @@ module _ (layout : Layout) (b : List ℕ) where
 
 -- the first root
 module _ (layout : Layout) (b : List ℕ) (word : ℕ) (stamps after : List ℕ) (passed : Bool) (room : layout .cells ≤ cellLimit)
-    (is : word ≡ rootWord layout b) (empty : stamps ≡ zeros cellLimit) (judged : Judged (rootTree layout (memoryOf b) word) 1 stamps after passed) where
+    (is : word ≡ rootWord layout b) (empty : stamps ≡ zeros cellLimit) (judged : VisitAnswer (rootTree layout (memoryOf b) word) 1 stamps after passed) where
   first-walk : Walked layout b (word ∷ slotRoots layout b (slots layout) 1) 1 stamps
   first-walk = subst (λ (w : ℕ). Walked layout b (w ∷ slotRoots layout b (slots layout) 1) 1 stamps) (sym is) (walk-starts layout b stamps empty)
 
@@ -158,21 +158,21 @@ module _ (layout : Layout) (b : List ℕ) (word : ℕ) (stamps after : List ℕ)
 
 -- one slot more
 module _ (layout : Layout) (b : List ℕ) where
-  pub slot-unused : (slot stamp : ℕ) (stamps : List ℕ) → inUse layout b slot ≡ false → Judged (slotTree layout b slot) stamp stamps stamps true
+  pub slot-unused : (slot stamp : ℕ) (stamps : List ℕ) → inUse layout b slot ≡ false → VisitAnswer (slotTree layout b slot) stamp stamps stamps true
   unfolding slotTree
   slot-unused slot stamp stamps off =
       let none-there : slotTree layout b slot ≡ some [] = rw off in
       judged-empty (slotTree layout b slot) stamp stamps none-there
 
   pub slot-used : (slot word stamp : ℕ) (before after : List ℕ) (passed : Bool) → inUse layout b slot ≡ true → word ≡ slotWord layout b slot
-      → Judged (rootTree layout (memoryOf b) word) stamp before after passed → Judged (slotTree layout b slot) stamp before after passed
+      → VisitAnswer (rootTree layout (memoryOf b) word) stamp before after passed → VisitAnswer (slotTree layout b slot) stamp before after passed
   unfolding slotTree
   slot-used slot word stamp before after passed on e judged =
       let cells : slotTree layout b slot ≡ rootTree layout (memoryOf b) word = rw (on, e) in
       judged-same (slotTree layout b slot) stamp before after (rootTree layout (memoryOf b) word) passed cells judged
 
   module _ (left rest slot stamp : ℕ) (before after : List ℕ) (passed : Bool) (room : layout .cells ≤ cellLimit) (more : left ≡ rest + 1)
-      (walked : Walked layout b (slotRoots layout b left slot) stamp before) (judged : Judged (slotTree layout b slot) stamp before after passed) where
+      (walked : Walked layout b (slotRoots layout b left slot) stamp before) (judged : VisitAnswer (slotTree layout b slot) stamp before after passed) where
     one-more : left ≡ suc rest
     one-more = omega arith
 
@@ -182,7 +182,7 @@ module _ (layout : Layout) (b : List ℕ) where
     idle-walk : inUse layout b slot ≡ false → Walked layout b (slotRoots layout b rest (slot + 1)) stamp before
     idle-walk off = subst (λ (l : List ℕ). Walked layout b l stamp before) (ap (λ (n : ℕ). slotRoots layout b n slot) one-more ∙ idle-roots layout b rest slot off) walked
 
-    used-judged : inUse layout b slot ≡ true → Judged (rootTree layout (memoryOf b) (slotWord layout b slot)) stamp before after passed
+    used-judged : inUse layout b slot ≡ true → VisitAnswer (rootTree layout (memoryOf b) (slotWord layout b slot)) stamp before after passed
     unfolding slotTree
     used-judged on =
         let cells : rootTree layout (memoryOf b) (slotWord layout b slot) ≡ slotTree layout b slot = rw on in

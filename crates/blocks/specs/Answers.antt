@@ -4,10 +4,10 @@ use Prim.Native.Nat.{ℕ}
 use Rattle.blocks.specs.declared.answer.Refusal.{Refusal}
 use Rattle.blocks.specs.declared.answer.Refusal.the-variants.{BadSize, Unsound, BadKey, BadValue, BadSlot, SlotNotInUse, NoRoom, BadSheet, BadReading, BadToday, Missing, HeldNoDate, Expired, OutsideGate}
 use Rattle.blocks.specs.declared.answer.ChangeAnswer.{ChangeAnswer}
-use Rattle.blocks.specs.declared.answer.InsertAnswer.{InsertAnswer}
+use Rattle.blocks.specs.declared.answer.CountAnswer.{CountAnswer}
 use Rattle.blocks.specs.declared.answer.GetAnswer.{GetAnswer}
 use Rattle.blocks.specs.declared.answer.NextAnswer.{NextAnswer}
-use Rattle.blocks.specs.Refusal.{Changed, Inserted}
+use Rattle.blocks.specs.Refusal.{Changed, Counted}
 use Rattle.blocks.specs.Read.{Found, Next, padded}
 
 -- 01's table, "When the answer is no"
@@ -37,9 +37,9 @@ abbrev pub changedOutcome : ChangeAnswer → List ℕ → Changed
 changedOutcome answer block = record { answer = changeNumber answer; block = block }
 
 -- 01: "The answer counts the cells taken." and "A no returns zeros beside its number"
-abbrev pub insertedOutcome : InsertAnswer → List ℕ → Inserted
-insertedOutcome (InsertAnswer.Done count) block = record { answer = 0; count = count; block = block }
-insertedOutcome (InsertAnswer.Refused refusal) block = record { answer = refusalNumber refusal; count = 0; block = block }
+abbrev pub countedOutcome : CountAnswer → List ℕ → Counted
+countedOutcome (CountAnswer.Done count) block = record { answer = 0; count = count; block = block }
+countedOutcome (CountAnswer.Refused refusal) block = record { answer = refusalNumber refusal; count = 0; block = block }
 
 abbrev pub foundOutcome : GetAnswer → Found
 foundOutcome (GetAnswer.Value value) = record { answer = 0; value = value }

@@ -24,7 +24,7 @@ abbrev pub Passes : List ℕ → Type 0
 Passes b = (badSize b ≡ false) × (sound b ≡ true)
 
 -- none of the answers 1, 2 and 3 applies, where 3 is for a key that is bad
-pub record Asked (b : List ℕ) (bad : Bool) : Type 0 where
+pub record PassesKey (b : List ℕ) (bad : Bool) : Type 0 where
   pub size : badSize b ≡ false
   pub valid : sound b ≡ true
   pub key : bad ≡ false
@@ -40,8 +40,8 @@ pub record GetTable (b key : List ℕ) (r : Found) : Type 0 where
   pub bad-size : Exactly (r .answer) 1 (badSize b ≡ true)
   pub unsound : Exactly (r .answer) 2 ((badSize b ≡ false) × (sound b ≡ false))
   pub bad-key : Exactly (r .answer) 3 ((badSize b ≡ false) × ((sound b ≡ true) × (badKey key ≡ true)))
-  pub absent : Exactly (r .answer) 11 (Asked b (badKey key) × (shown b key ≡ none))
-  pub found : (value : ℕ) → r ≡ record { answer = 0; value = value } ↔ Asked b (badKey key) × (shown b key ≡ some value)
+  pub absent : Exactly (r .answer) 11 (PassesKey b (badKey key) × (shown b key ≡ none))
+  pub found : (value : ℕ) → r ≡ record { answer = 0; value = value } ↔ PassesKey b (badKey key) × (shown b key ≡ some value)
   pub zero : r .answer ≢ 0 → r .value ≡ 0
 
 -- 01: "The next label is the least label shown that is greater than a given one"
@@ -55,6 +55,6 @@ pub record NextTable (b key : List ℕ) (r : Next) : Type 0 where
   pub bad-size : Exactly (r .answer) 1 (badSize b ≡ true)
   pub unsound : Exactly (r .answer) 2 ((badSize b ≡ false) × (sound b ≡ false))
   pub bad-key : Exactly (r .answer) 3 ((badSize b ≡ false) × ((sound b ≡ true) × (overLong key ≡ true)))
-  pub absent : Exactly (r .answer) 11 (Asked b (overLong key) × ((k : List ℕ) → keyBefore key k ≡ true → shown b k ≡ none))
-  pub found : (k : List ℕ) → r ≡ record { answer = 0; size = length k; key = padded k } ↔ Asked b (overLong key) × LeastAbove b key k
+  pub absent : Exactly (r .answer) 11 (PassesKey b (overLong key) × ((k : List ℕ) → keyBefore key k ≡ true → shown b k ≡ none))
+  pub found : (k : List ℕ) → r ≡ record { answer = 0; size = length k; key = padded k } ↔ PassesKey b (overLong key) × LeastAbove b key k
   pub zero : r .answer ≢ 0 → (r .size ≡ 0) × (r .key ≡ zeros keyLimit)

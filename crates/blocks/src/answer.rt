@@ -28,7 +28,7 @@ pub enum ChangeAnswer {
 }
 
 // The answer of an insertion: how many cells it allocated.
-pub enum InsertAnswer {
+pub enum CountAnswer {
     Done(u32),
     Refused(Refusal),
 }

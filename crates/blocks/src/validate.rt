@@ -4,7 +4,7 @@ ghost use mathlib.Core.Path.{_≡_};
 ghost use Prim.Native.Nat.{_+_};
 ghost use lib.ListN.{length};
 ghost use Rattle.cells.specs.Bytes.{zeros};
-ghost use Rattle.trees.specs.Visit.{Judged};
+ghost use Rattle.trees.specs.Visit.{VisitAnswer};
 ghost use Rattle.blocks.specs.Answers.{changeNumber};
 ghost use Rattle.blocks.specs.Fits.{Fits};
 ghost use Rattle.blocks.specs.Read.{validate};
@@ -27,7 +27,7 @@ use trees::validate::root_check;
 // Judges the root that a slot holds, with a stamp of its own; a slot that is not in use has no cells.
 fn slot_check(layout: Layout, block: &[u8], stamps: &mut [u8; CELL_LIMIT], slot: usize) -> bool
     requires { ⌜ Fits layout (length (now block)) × (validSlot layout slot ≡ true) ⌝ }
-    ensures { λ r. ⌜ Judged (slotTree layout (now (block .entry)) slot) (slot + 1) (now (stamps .entry)) (now (stamps .exit)) r ⌝ }
+    ensures { λ r. ⌜ VisitAnswer (slotTree layout (now (block .entry)) slot) (slot + 1) (now (stamps .entry)) (now (stamps .exit)) r ⌝ }
 {
     if !is_in_use(layout, block, slot) {
         return true;

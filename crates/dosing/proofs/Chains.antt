@@ -15,8 +15,8 @@ refused : (told test rest : Bool) → told ≡ test → not told ≡ true → fa
 refused told test rest same failed = ap (λ (first : Bool). first && rest) (sym (not-true told failed) ∙ same)
 
 -- A test that held leaves it to the rest.
-admitted : (told test rest : Bool) → told ≡ test → not told ≡ false → rest ≡ (test && rest)
-admitted told test rest same held = ap (λ (first : Bool). first && rest) (sym (not-false told held) ∙ same)
+stamped-once : (told test rest : Bool) → told ≡ test → not told ≡ false → rest ≡ (test && rest)
+stamped-once told test rest same held = ap (λ (first : Bool). first && rest) (sym (not-false told held) ∙ same)
 
 -- The low limit is off the scale.
 pub low-refused : (gate : TemperatureGate) (low high : Float) (told : Bool)
@@ -31,8 +31,8 @@ pub limits-admitted : (gate : TemperatureGate) (low high : Float) (first second 
     → Ieee.le low high ≡ validGate gate
 unfolding validGate
 limits-admitted gate low high first second is same held again stays =
-    admitted second (onScale high) (Ieee.le low high) again stays
-    ∙ admitted first (onScale low) (onScale high && Ieee.le low high) same held
+    stamped-once second (onScale high) (Ieee.le low high) again stays
+    ∙ stamped-once first (onScale low) (onScale high && Ieee.le low high) same held
     ∙ sym (ap validGate is)
 
 -- The low limit is on the scale and the high one off it.
@@ -42,7 +42,7 @@ pub high-refused : (gate : TemperatureGate) (low high : Float) (first second : B
 unfolding validGate
 high-refused gate low high first second is same held again failed =
     refused second (onScale high) (Ieee.le low high) again failed
-    ∙ admitted first (onScale low) (onScale high && Ieee.le low high) same held
+    ∙ stamped-once first (onScale low) (onScale high && Ieee.le low high) same held
     ∙ sym (ap validGate is)
 
 -- The gate decides the sheet.
@@ -58,7 +58,7 @@ pub section-refused : (sheet : ProductSheet) (first second : Bool)
 unfolding validSheet
 section-refused sheet first second same held again failed =
     refused second (validSection (sheet .section)) (validLength (sheet .length)) again failed
-    ∙ admitted first (validGate (sheet .gate)) (validSection (sheet .section) && validLength (sheet .length)) same held
+    ∙ stamped-once first (validGate (sheet .gate)) (validSection (sheet .section) && validLength (sheet .length)) same held
 
 -- Gate and section hold: the length decides.
 pub length-left : (sheet : ProductSheet) (first second third : Bool)
@@ -67,5 +67,5 @@ pub length-left : (sheet : ProductSheet) (first second third : Bool)
 unfolding validSheet
 length-left sheet first second third same held again stays last =
     last
-    ∙ admitted second (validSection (sheet .section)) (validLength (sheet .length)) again stays
-    ∙ admitted first (validGate (sheet .gate)) (validSection (sheet .section) && validLength (sheet .length)) same held
+    ∙ stamped-once second (validSection (sheet .section)) (validLength (sheet .length)) again stays
+    ∙ stamped-once first (validGate (sheet .gate)) (validSection (sheet .section) && validLength (sheet .length)) same held

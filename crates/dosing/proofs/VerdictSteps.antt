@@ -18,7 +18,7 @@ use Rattle.blocks.specs.Refusal.{Refusal, refusal, firstRefusal, badKey}
 use Rattle.blocks.specs.Read.{Found, missing, shown, valueOr, blockRefusals, getRefusals, get}
 use Rattle.blocks.proofs.Refusals.{numbersOf, first-holds, first-fails, passed, zero-exactly}
 use Rattle.blocks.proofs.RefusalSteps.{refused-earlier}
-use Rattle.blocks.specs.Tables.{Asked}
+use Rattle.blocks.specs.Tables.{PassesKey}
 use Rattle.blocks.proofs.ReadCalls.{refusals-none, chosen-done, chosen-no, none-missing, some-there, value-is, get-number, get-table}
 use Rattle.dosing.specs.declared.temperature.Reading.{Reading}
 use Rattle.dosing.specs.declared.temperature.TemperatureGate.{TemperatureGate}
@@ -151,7 +151,7 @@ module _ (block label : List ℕ) (today : Date) (reading : Reading) (sheet : Pr
   unfolding verdict inputRefusals heldRefusals
   verdict-parts = refl
 
-  asked-verdict : Asked block (badKey label) → verdict block label today reading sheet
+  asked-verdict : PassesKey block (badKey label) → verdict block label today reading sheet
       ≡ verdictOf (afterThree (missing (shown block label)) (valueOr (shown block label))) sheet
   asked-verdict a = verdict-parts ∙ verdict-same _ _ sheet (passed firstThree _ (refusals-none a tt))
 
@@ -175,7 +175,7 @@ module _ (block label : List ℕ) (today : Date) (reading : Reading) (sheet : Pr
     | no n ↦ refused-earlier (inputRefusals today reading sheet) _ n ∙ sym (chosen-no _ 11 (firstRefusal (inputRefusals today reading sheet)) n)
   ]
 
-  verdict-missing : Asked block (badKey label) → shown block label ≡ none
+  verdict-missing : PassesKey block (badKey label) → shown block label ≡ none
       → verdict block label today reading sheet ≡ refusedVerdict 11 (firstRefusal (inputRefusals today reading sheet))
   verdict-missing a absent =
       asked-verdict a

@@ -12,7 +12,7 @@ use Rattle.blocks.specs.Trailer.{badSize}
 use Rattle.blocks.specs.Sound.{sound}
 use Rattle.blocks.specs.Refusal.{badKey}
 use Rattle.blocks.specs.Read.{shown}
-use Rattle.blocks.specs.Tables.{Exactly, Asked}
+use Rattle.blocks.specs.Tables.{Exactly, PassesKey}
 use Rattle.dosing.specs.declared.temperature.Reading.{Reading}
 use Rattle.dosing.specs.declared.sheet.ProductSheet.{ProductSheet}
 use Rattle.dosing.specs.Temperature.{whole, celsius, validReading, inGate}
@@ -21,7 +21,7 @@ use Rattle.dosing.specs.Verdict.{Verdict}
 
 -- none of the answers up to 10 applies
 pub record PassesInputs (block label : List ℕ) (today : Date) (reading : Reading) (sheet : ProductSheet) : Type 0 where
-  pub label-asked : Asked block (badKey label)
+  pub label-asked : PassesKey block (badKey label)
   pub good-sheet : validSheet sheet ≡ true
   pub good-reading : validReading reading ≡ true
   pub good-today : isDate today ≡ true
@@ -45,10 +45,10 @@ pub record VerdictTable (block label : List ℕ) (today : Date) (reading : Readi
   pub bad-size : Exactly (v .answer) 1 (badSize block ≡ true)
   pub unsound : Exactly (v .answer) 2 ((badSize block ≡ false) × (sound block ≡ false))
   pub bad-label : Exactly (v .answer) 3 ((badSize block ≡ false) × ((sound block ≡ true) × (badKey label ≡ true)))
-  pub bad-sheet : Exactly (v .answer) 8 (Asked block (badKey label) × (validSheet sheet ≡ false))
-  pub bad-reading : Exactly (v .answer) 9 (Asked block (badKey label) × ((validSheet sheet ≡ true) × (validReading reading ≡ false)))
+  pub bad-sheet : Exactly (v .answer) 8 (PassesKey block (badKey label) × (validSheet sheet ≡ false))
+  pub bad-reading : Exactly (v .answer) 9 (PassesKey block (badKey label) × ((validSheet sheet ≡ true) × (validReading reading ≡ false)))
   pub bad-today : Exactly (v .answer) 10
-      (Asked block (badKey label) × ((validSheet sheet ≡ true) × ((validReading reading ≡ true) × (isDate today ≡ false))))
+      (PassesKey block (badKey label) × ((validSheet sheet ≡ true) × ((validReading reading ≡ true) × (isDate today ≡ false))))
   pub absent : Exactly (v .answer) 11 (PassesInputs block label today reading sheet × (shown block label ≡ none))
   pub no-date : Exactly (v .answer) 12 (PassesInputs block label today reading sheet × Holds block label NoDate)
   pub expired : Exactly (v .answer) 13 (PassesInputs block label today reading sheet × Holds block label (ExpiredOn today))

@@ -5,10 +5,10 @@ use Prim.Native.Nat.{ℕ}
 use lib.IntN.{pos}
 use Rattle.calendar.specs.declared.Date.{Date}
 use Rattle.calendar.specs.Date.{yearOf, monthOf, dayOf, dateOf}
-use Rattle.blocks.specs.Refusal.{Inserted}
+use Rattle.blocks.specs.Refusal.{Counted}
 use Rattle.blocks.specs.declared.answer.Refusal.{Refusal}
-use Rattle.blocks.specs.declared.answer.InsertAnswer.{InsertAnswer}
-use Rattle.blocks.specs.Answers.{refusalNumber, insertedOutcome}
+use Rattle.blocks.specs.declared.answer.CountAnswer.{CountAnswer}
+use Rattle.blocks.specs.Answers.{refusalNumber, countedOutcome}
 use Rattle.blocks.specs.Read.{Found}
 use Rattle.dosing.specs.declared.temperature.Reading.{Reading}
 use Rattle.dosing.specs.declared.temperature.TemperatureGate.{TemperatureGate}
@@ -28,14 +28,14 @@ pub found-refused : (found : Found) (n r : ℕ) → found ≡ refusedFound n →
 found-refused found n r e is = e ∙ ap refusedFound (sym is)
 
 -- an insertion by its number and count
-module _ (inserted : Inserted) (answer : InsertAnswer) (block : List ℕ) (told : inserted ≡ insertedOutcome answer block) where
-  pub inserted-done : (n : ℕ) → answer ≡ InsertAnswer.Done n → inserted ≡ record { answer = 0; count = n; block = block }
-  inserted-done n is = told ∙ ap (λ (a : InsertAnswer). insertedOutcome a block) is
+module _ (inserted : Counted) (answer : CountAnswer) (block : List ℕ) (told : inserted ≡ countedOutcome answer block) where
+  pub inserted-done : (n : ℕ) → answer ≡ CountAnswer.Done n → inserted ≡ record { answer = 0; count = n; block = block }
+  inserted-done n is = told ∙ ap (λ (a : CountAnswer). countedOutcome a block) is
 
-  pub inserted-refused : (refusal : Refusal) (r : ℕ) → answer ≡ InsertAnswer.Refused refusal → r ≡ refusalNumber refusal
+  pub inserted-refused : (refusal : Refusal) (r : ℕ) → answer ≡ CountAnswer.Refused refusal → r ≡ refusalNumber refusal
       → inserted ≡ record { answer = r; count = 0; block = block }
   inserted-refused refusal r is number =
-      told ∙ ap (λ (a : InsertAnswer). insertedOutcome a block) is ∙ (λ i. record { answer = sym number i; count = 0; block = block })
+      told ∙ ap (λ (a : CountAnswer). countedOutcome a block) is ∙ (λ i. record { answer = sym number i; count = 0; block = block })
 
 abbrev refusedVerdict : ℕ → Verdict
 refusedVerdict n = record { answer = n; dose = whole (pos 0) }

@@ -6,7 +6,7 @@ use Prim.Native.Nat.{ℕ}
 use lib.Dec.{eqb}
 use lib.Ieee.{Float}
 use Rattle.calendar.specs.Date.{yearOf, monthOf, dayOf, dateOf}
-use Rattle.blocks.specs.Refusal.{Inserted}
+use Rattle.blocks.specs.Refusal.{Counted}
 use Rattle.blocks.specs.Read.{Found, get}
 use Rattle.store.specs.Insert.{insert}
 use Rattle.dosing.specs.declared.temperature.Reading.{Reading}
@@ -19,7 +19,7 @@ use Rattle.dosing.specs.Verdict.{Verdict, verdictRefusals, verdictOf}
 use Rattle.firmware.specs.Choices.{Choices}
 
 -- insertion and look-up have numbers and bytes already
-abbrev pub insertNumbers : List ℕ → List ℕ → ℕ → Inserted
+abbrev pub insertNumbers : List ℕ → List ℕ → ℕ → Counted
 insertNumbers block key value = insert block key value
 
 abbrev pub getNumbers : List ℕ → List ℕ → Found

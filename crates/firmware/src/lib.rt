@@ -4,7 +4,7 @@ ghost use mathlib.Core.Path.{_≡_};
 ghost use Rattle.firmware.specs.Choices.{ours};
 ghost use Rattle.firmware.specs.NumberCalls.{getNumbers, insertNumbers, verdictNumbers};
 use blocks::answer::GetAnswer;
-use blocks::answer::InsertAnswer;
+use blocks::answer::CountAnswer;
 use blocks::answer::number;
 use blocks::get::get;
 use calendar::Day;
@@ -27,11 +27,11 @@ pub extern "C" fn register_insert(block: &mut [u8], key: &[u8], value: u32, coun
     ensures { λ r. ⌜ insertNumbers (now (block .entry)) (now (key .entry)) value ≡ record { answer = r; count = now (count .exit); block = now (block .exit) } ⌝ }
 {
     match insert(block, key, value) {
-        InsertAnswer::Done(allocated) => {
+        CountAnswer::Done(allocated) => {
             *count = allocated;
             0
         }
-        InsertAnswer::Refused(refusal) => {
+        CountAnswer::Refused(refusal) => {
             *count = 0;
             number(refusal)
         }

@@ -26,18 +26,18 @@ pub record SlotHolds (used : Bool) (shows : Table) (table : Option Table) : Type
   pub when-some : (t : Table) → table ≡ some t → used ≡ true
   pub same : (t : Table) → table ≡ some t → (key : List ℕ) → shows key ≡ t key
 
-tableOr : Option Table → Table
-tableOr none = emptyTable
-tableOr (some t) = t
+branchOr : Option Table → Table
+branchOr none = emptyTable
+branchOr (some t) = t
 
 -- a slot in use that shows a table, and one not in use
 pub holds-some : (shows table : Table) → ((key : List ℕ) → shows key ≡ table key) → SlotHolds true shows (some table)
-unfolding tableOr
+unfolding branchOr
 holds-some shows table same =
     record {
       when-none = λ e. never (sym e);
       when-some = λ t e. refl;
-      same = λ t e key. same key ∙ ap (λ (o : Option Table). tableOr o key) e;
+      same = λ t e key. same key ∙ ap (λ (o : Option Table). branchOr o key) e;
     }
 
 pub holds-none : (shows : Table) → SlotHolds false shows none

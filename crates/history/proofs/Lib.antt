@@ -4,7 +4,7 @@ pub mod Lists
 pub mod Proved
 pub mod Dummies
 pub mod Decoding
-pub mod StepSteps
+pub mod CallSteps
 pub mod RunSteps
 pub mod Upheld
 pub mod LoopSteps

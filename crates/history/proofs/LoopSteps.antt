@@ -12,7 +12,7 @@ use Rattle.history.specs.declared.runner.Stop.{Stop}
 use Rattle.history.specs.declared.runner.Stepped.{Stepped}
 use Rattle.history.specs.declared.runner.RunAnswer.{RunAnswer}
 use Rattle.history.proofs.Decoding.{Taken, call-takes}
-use Rattle.history.proofs.StepSteps.{Told, told-nothing, told-did}
+use Rattle.history.proofs.CallSteps.{KeyWritten, told-nothing, told-did}
 use Rattle.history.proofs.RunSteps.{ranFrom, ran-end, ran-full, ran-none, ran-more, part-rest}
 
 module _ (calls : List ℕ) (at : ℕ) (b answers : List ℕ) (count total : ℕ) where
@@ -47,7 +47,7 @@ module _ (calls : List ℕ) (at : ℕ) (b answers : List ℕ) (count total : ℕ
 
       pub turn-did : (size number : ℕ) → answer ≡ Stepped.Did size number → count < length answers → Turn after size number
       turn-did size number e low =
-          let ran : Told b after (decodeCall (drop at calls)) size number = told-did b after (decodeCall (drop at calls)) size number (at-rest (Stepped.Did size number) e) in
+          let ran : KeyWritten b after (decodeCall (drop at calls)) size number = told-did b after (decodeCall (drop at calls)) size number (at-rest (Stepped.Did size number) e) in
           let takes : Taken (drop at calls) (ran .decoded) = call-takes (drop at calls) (ran .decoded) (ran .there) in
           let left : total - count ≡ suc (total - (count + 1)) = omega (arith, room) in
           record {

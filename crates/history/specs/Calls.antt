@@ -2,7 +2,7 @@
 use mathlib.Core.List.{List, [], _∷_}
 use Prim.Native.Nat.{ℕ}
 use Rattle.cells.specs.Bytes.{IsBytes}
-use Rattle.blocks.specs.Refusal.{Changed, Inserted}
+use Rattle.blocks.specs.Refusal.{Changed, Counted}
 use Rattle.store.specs.Format.{format}
 use Rattle.store.specs.Insert.{insert}
 use Rattle.snapshots.specs.Snapshots.{snapshot, restore, release}
@@ -17,7 +17,7 @@ pub data Call : Type 0 where
 -- five functions on bytes
 pub record Implementation : Type 0 where
   pub formatCall : List ℕ → Changed
-  pub insertCall : List ℕ → List ℕ → ℕ → Inserted
+  pub insertCall : List ℕ → List ℕ → ℕ → Counted
   pub snapshotCall : List ℕ → ℕ → Changed
   pub restoreCall : List ℕ → ℕ → Changed
   pub releaseCall : List ℕ → ℕ → Changed
@@ -35,7 +35,7 @@ pub record Outcome : Type 0 where
 abbrev pub uncounted : Changed → Outcome
 uncounted c = record { answer = c .answer; count = 0; block = c .block }
 
-abbrev pub counted : Inserted → Outcome
+abbrev pub counted : Counted → Outcome
 counted i = record { answer = i .answer; count = i .count; block = i .block }
 
 unfoldable pub outcome : Implementation → List ℕ → Call → Outcome

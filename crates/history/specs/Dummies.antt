@@ -4,7 +4,7 @@ use Prim.Native.Nat.{ℕ, _+_}
 use Rattle.nodes.specs.Layout.{Layout}
 use Rattle.blocks.specs.Trailer.{layoutOf}
 use Rattle.blocks.specs.TrailerWrites.{withSlotWord, withSlotBits}
-use Rattle.blocks.specs.Refusal.{Changed, changedBy, Inserted}
+use Rattle.blocks.specs.Refusal.{Changed, changedBy, Counted}
 use Rattle.store.specs.Format.{format}
 use Rattle.store.specs.Insert.{insert}
 use Rattle.snapshots.specs.Snapshots.{withBit, slotRefusals, snapshot, restore, release}
@@ -14,7 +14,7 @@ use Rattle.history.specs.Calls.{Implementation}
 abbrev refuses : ℕ → List ℕ → Changed
 refuses number block = record { answer = number; block = block }
 
-abbrev refusesInsert : ℕ → List ℕ → Inserted
+abbrev refusesInsert : ℕ → List ℕ → Counted
 refusesInsert number block = record { answer = number; count = 0; block = block }
 
 -- 01: "the book that always says no"; the first will not even format
@@ -39,7 +39,7 @@ onlyFormats number =
     }
 
 -- 01: "an entry that does nothing": the answer and the count as ours
-abbrev insertNothing : List ℕ → List ℕ → ℕ → Inserted
+abbrev insertNothing : List ℕ → List ℕ → ℕ → Counted
 insertNothing block key value = let i = insert block key value in record { answer = i .answer; count = i .count; block = block }
 
 unfoldable pub insertsNothing : Implementation
@@ -63,7 +63,7 @@ unfoldable pub restoresNothing : Implementation
 restoresNothing = record { formatCall = format; insertCall = insert; snapshotCall = snapshot; restoreCall = restoreNothing; releaseCall = release }
 
 -- 01: "an invented cell count": all else as ours
-abbrev insertOvercounted : List ℕ → List ℕ → ℕ → Inserted
+abbrev insertOvercounted : List ℕ → List ℕ → ℕ → Counted
 insertOvercounted block key value = let i = insert block key value in record { answer = i .answer; count = i .count + 1; block = i .block }
 
 unfoldable pub inventsCount : Implementation

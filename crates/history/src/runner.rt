@@ -7,7 +7,7 @@ ghost use Rattle.history.specs.Calls.{inserting, snapshotting, restoring
 ghost use Rattle.history.specs.Encoded.{decodeCall, decodeInsert};
 ghost use Rattle.history.specs.Running.{insertNumber, numbered, answered, step, stepOutcome, runOutcome, Meets};
 use blocks::answer::ChangeAnswer;
-use blocks::answer::InsertAnswer;
+use blocks::answer::CountAnswer;
 use blocks::answer::number;
 use cells::word_at;
 use snapshots::release;
@@ -46,12 +46,12 @@ fn change_number(answer: ChangeAnswer) -> u8
 }
 
 // The answer number of an insertion.
-fn insert_number(answer: InsertAnswer) -> u8
+fn insert_number(answer: CountAnswer) -> u8
     ensures { λ r. ⌜ r ≡ insertNumber answer ⌝ }
 {
     match answer {
-        InsertAnswer::Done(_) => 0,
-        InsertAnswer::Refused(refusal) => number(refusal),
+        CountAnswer::Done(_) => 0,
+        CountAnswer::Refused(refusal) => number(refusal),
     }
 }
 

@@ -18,7 +18,7 @@ use Rattle.nodes.specs.Pointer.{Pointer, pointer}
 use Rattle.nodes.specs.Pointer.Pointer.{nothing, leaf, chain, split, sparse, prefix, invalid}
 use Rattle.nodes.specs.Chain.{chainChild}
 use Rattle.nodes.specs.Sparse.{validSparse}
-use Rattle.nodes.specs.Split.{headWord, tableWord, validHead, validTable, gather, under, splitCell, endCells, midCells, headCells, wordBelow, splitChild}
+use Rattle.nodes.specs.Split.{headWord, branchWord, validHead, validBranch, gather, under, splitCell, endCells, midCells, headCells, wordBelow, splitChild}
 use Rattle.nodes.specs.Prefix.{prefixValue, prefixLink, prefixCells, validPrefix}
 use Rattle.nodes.specs.Node.{Node, childless, chainNode, sparseNode, splitNode, prefixed, plain, readAt, read}
 use Rattle.nodes.proofs.Pointers.{names, pointer-zero}
@@ -54,7 +54,7 @@ pub below-zero : (m : Memory) (i : ℕ) → wordBelow m 0 i ≡ 0
 unfolding wordBelow
 below-zero m i = refl
 
-pub below-word : (m : Memory) (w i : ℕ) → w ≢ 0 → wordBelow m w i ≡ tableWord (m (w / 32)) i
+pub below-word : (m : Memory) (w i : ℕ) → w ≢ 0 → wordBelow m w i ≡ branchWord (m (w / 32)) i
 unfolding wordBelow
 below-word m w i other = rw (ne-eqb w 0 other)
 
@@ -77,38 +77,38 @@ module _ (layout : Layout) where
   pub split-word-cell : (w c : ℕ) → pointer layout w ≡ split c → w / 32 ≡ c
   split-word-cell w c e = let n = names layout w (split c) e in omega (arith, n .1)
 
-  pub below-split : (m : Memory) (w c i : ℕ) → pointer layout w ≡ split c → wordBelow m w i ≡ tableWord (m c) i
+  pub below-split : (m : Memory) (w c i : ℕ) → pointer layout w ≡ split c → wordBelow m w i ≡ branchWord (m c) i
   below-split m w c i e =
       let n = names layout w (split c) e in
       let other : w ≢ 0 = omega (arith, n .1) in
-      below-word m w i other ∙ ap (λ d. tableWord (m d) i) (split-word-cell w c e)
+      below-word m w i other ∙ ap (λ d. branchWord (m d) i) (split-word-cell w c e)
 
   -- an end: its cell
   pub end-cut : (m : Memory) (w : ℕ) (a : List ℕ) → endCells layout m w ≡ some a
-      → (c : ℕ) × (pointer layout w ≡ split c) × (validTable (m c) ≡ true) × (c ∷ [] ≡ a)
+      → (c : ℕ) × (pointer layout w ≡ split c) × (validBranch (m c) ≡ true) × (c ∷ [] ≡ a)
   unfolding endCells
   end-cut m w a e =
       let p = bound _ _ e in
-      let q = kept (validTable (m (p .0))) (p .2) in
+      let q = kept (validBranch (m (p .0))) (p .2) in
       (p .0, split-cell (pointer layout w) (p .0) (p .1), q .0, cc)
 
-  pub end-join : (m : Memory) (w c : ℕ) → pointer layout w ≡ split c → validTable (m c) ≡ true → endCells layout m w ≡ some (c ∷ [])
+  pub end-join : (m : Memory) (w c : ℕ) → pointer layout w ≡ split c → validBranch (m c) ≡ true → endCells layout m w ≡ some (c ∷ [])
   unfolding endCells
   end-join m w c named valid = keep _ (split-cell-is (pointer layout w) c named) (rw valid)
 
   -- a mid: its cell, and those of its ends
   pub mid-cut : (m : Memory) (w : ℕ) (a : List ℕ) → midCells layout m w ≡ some a
-      → (c : ℕ) × (ends : List ℕ) × (pointer layout w ≡ split c) × (validTable (m c) ≡ true)
-      × (gather (λ j. under (endCells layout m) (tableWord (m c) j)) 8 0 ≡ some ends) × (c ∷ ends ≡ a)
+      → (c : ℕ) × (ends : List ℕ) × (pointer layout w ≡ split c) × (validBranch (m c) ≡ true)
+      × (gather (λ j. under (endCells layout m) (branchWord (m c) j)) 8 0 ≡ some ends) × (c ∷ ends ≡ a)
   unfolding midCells
   mid-cut m w a e =
       let p = bound _ _ e in
-      let q = kept (validTable (m (p .0))) (p .2) in
+      let q = kept (validBranch (m (p .0))) (p .2) in
       let r = bound _ _ (q .1) in
       (p .0, r .0, split-cell (pointer layout w) (p .0) (p .1), q .0, r .1, cc)
 
-  pub mid-join : (m : Memory) (w c : ℕ) (ends : List ℕ) → pointer layout w ≡ split c → validTable (m c) ≡ true
-      → gather (λ j. under (endCells layout m) (tableWord (m c) j)) 8 0 ≡ some ends → midCells layout m w ≡ some (c ∷ ends)
+  pub mid-join : (m : Memory) (w c : ℕ) (ends : List ℕ) → pointer layout w ≡ split c → validBranch (m c) ≡ true
+      → gather (λ j. under (endCells layout m) (branchWord (m c) j)) 8 0 ≡ some ends → midCells layout m w ≡ some (c ∷ ends)
   unfolding midCells
   mid-join m w c ends named valid gathered =
       keep _ (split-cell-is (pointer layout w) c named) (rw valid (keep _ gathered refl))
@@ -235,7 +235,7 @@ module _ (layout : Layout) where
     )
     | no other ↦
         let p = mid-cut m w a (sym (under-word (midCells layout m) w other) ∙ e) in
-        let r = gather-at (λ i. under (endCells layout m) (tableWord (m (p .0)) i)) 8 0 j (p .1) (omega arith) (omega arith) (p .4) in (
+        let r = gather-at (λ i. under (endCells layout m) (branchWord (m (p .0)) i)) 8 0 j (p .1) (omega arith) (omega arith) (p .4) in (
           r .0,
           ap (under (endCells layout m)) (below-split m w (p .0) j (p .2)) ∙ r .1,
           λ c. omega (arith, r .2 c, occurrences-later c (p .0) (p .1), ap (occurrences c) (p .5)),
@@ -248,7 +248,7 @@ module _ (layout : Layout) where
     end-frame w a e agree =
         let p = end-cut m w a e in
         let cell : m (p .0) ≡ m′ (p .0) = agree-head m m′ (p .0) [] (subst (Agree m m′) (sym (p .3)) agree) in
-        end-join m′ w (p .0) (p .1) (subst (λ s. validTable s ≡ true) cell (p .2)) ∙ ap some (p .3)
+        end-join m′ w (p .0) (p .1) (subst (λ s. validBranch s ≡ true) cell (p .2)) ∙ ap some (p .3)
 
     pub mid-frame : Framed m m′ (midCells layout m) (midCells layout m′)
     mid-frame w a e agree =
@@ -256,9 +256,9 @@ module _ (layout : Layout) where
         let agree′ : Agree m m′ (p .0 ∷ p .1) = subst (Agree m m′) (sym (p .5)) agree in
         let cell : m (p .0) ≡ m′ (p .0) = agree-head m m′ (p .0) (p .1) agree′ in
         let ends =
-        words-frame m m′ (endCells layout m) (endCells layout m′) (tableWord (m (p .0))) (tableWord (m′ (p .0))) 8 (p .1) end-frame
-        (λ y h. ap (λ s. tableWord s y) cell) (p .4) (agree-tail m m′ (p .0) (p .1) agree′) in
-        mid-join m′ w (p .0) (p .1) (p .2) (subst (λ s. validTable s ≡ true) cell (p .3)) ends ∙ ap some (p .5)
+        words-frame m m′ (endCells layout m) (endCells layout m′) (branchWord (m (p .0))) (branchWord (m′ (p .0))) 8 (p .1) end-frame
+        (λ y h. ap (λ s. branchWord s y) cell) (p .4) (agree-tail m m′ (p .0) (p .1) agree′) in
+        mid-join m′ w (p .0) (p .1) (p .2) (subst (λ s. validBranch s ≡ true) cell (p .3)) ends ∙ ap some (p .5)
 
     pub head-frame : (c : ℕ) (cs : List ℕ) → headCells layout m c ≡ some cs → Agree m m′ (c ∷ cs) → headCells layout m′ c ≡ some cs
     head-frame c cs e agree =
@@ -281,7 +281,7 @@ module _ (layout : Layout) where
     below-same w i same = elim (ℕ-discrete w 0) [
       | yes zero-word ↦
           ap (λ v. wordBelow m v i) zero-word ∙ below-zero m i ∙ sym (below-zero m′ i) ∙ ap (λ v. wordBelow m′ v i) (sym zero-word)
-      | no other ↦ below-word m w i other ∙ ap (λ s. tableWord s i) (same other) ∙ sym (below-word m′ w i other)
+      | no other ↦ below-word m w i other ∙ ap (λ s. branchWord s i) (same other) ∙ sym (below-word m′ w i other)
     ]
 
     -- the child words of a split

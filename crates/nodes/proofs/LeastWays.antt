@@ -12,7 +12,7 @@ use Rattle.nodes.specs.Chain.{chainCharacter, chainChild}
 use Rattle.nodes.specs.Sparse.{validSparse}
 use Rattle.nodes.specs.Split.{headWord, validHead}
 use Rattle.nodes.specs.Prefix.{prefixLink, validPrefix}
-use Rattle.nodes.specs.Step.{Step, missing, onward, chainStep, sparseStep, tableStep, splitStep, plainStep, prefixStep, childStep}
+use Rattle.nodes.specs.Step.{Step, missing, onward, chainStep, sparseStep, branchStep, splitStep, plainStep, prefixStep, childStep}
 use Rattle.nodes.specs.LeastChild.{LeastChild, least, absent, unreadable, firstStep, leastStep}
 use Rattle.nodes.specs.Coded.{pointerOf, stepOf}
 use Rattle.nodes.specs.declared.pointer.Pointer.the-variants.{Nothing, Leaf, Chain, Split, Sparse, Prefix}
@@ -76,29 +76,29 @@ module _ (layout : Layout) (m : Memory) (c x : ℕ) (bytes : List ℕ) (cell : b
         skip step 256 x ((x / 64 + 1) * 64) (omega arith) (omega arith)
         (λ y low high. sym (split-missing layout m c y bytes cell valid read holds mid (there ∙ ap (headWord bytes) (same-mid x y low high)) e))
 
-    module _ (other : mid ≢ 0) (s : ChildStep) (taken : stepOf s ≡ tableStep layout m mid (x / 8 % 8)) where
-      at-character : (y : ℕ) → x / 8 ≡ y / 8 → step y ≡ onward (stepOf s) (λ end. tableStep layout m end (y % 8))
+    module _ (other : mid ≢ 0) (s : ChildStep) (taken : stepOf s ≡ branchStep layout m mid (x / 8 % 8)) where
+      at-character : (y : ℕ) → x / 8 ≡ y / 8 → step y ≡ onward (stepOf s) (λ end. branchStep layout m end (y % 8))
       at-character y same =
           split-onwards layout m c y bytes cell valid read holds mid (there ∙ ap (headWord bytes) (end-in-mid x y same)) other s
-          (taken ∙ ap (λ q. tableStep layout m mid (q % 8)) same)
+          (taken ∙ ap (λ q. branchStep layout m mid (q % 8)) same)
 
       pub end-passed : s ≡ Missing → firstStep step (256 - x) x ≡ firstStep step (256 - (x / 8 + 1) * 8) ((x / 8 + 1) * 8)
       unfolding onward
       end-passed case =
           skip step 256 x ((x / 8 + 1) * 8) (omega arith) (omega arith)
           (λ y low high.
-          at-character y (same-end x y low high) ∙ ap (λ r. onward (stepOf r) (λ end. tableStep layout m end (y % 8))) case)
+          at-character y (same-end x y low high) ∙ ap (λ r. onward (stepOf r) (λ end. branchStep layout m end (y % 8))) case)
 
       pub end-broken : s ≡ Broken → firstStep step (256 - x) x ≡ unreadable
       unfolding onward
       end-broken case =
           first-broken step (256 - x) x (omega arith)
-          (at-character x refl ∙ ap (λ r. onward (stepOf r) (λ end. tableStep layout m end (x % 8))) case)
+          (at-character x refl ∙ ap (λ r. onward (stepOf r) (λ end. branchStep layout m end (x % 8))) case)
 
-      module _ (end : ℕ) (case : s ≡ Found end) (t : ChildStep) (last : stepOf t ≡ tableStep layout m end (x % 8)) where
+      module _ (end : ℕ) (case : s ≡ Found end) (t : ChildStep) (last : stepOf t ≡ branchStep layout m end (x % 8)) where
         here : step x ≡ stepOf t
         unfolding onward
-        here = at-character x refl ∙ ap (λ r. onward (stepOf r) (λ e. tableStep layout m e (x % 8))) case ∙ sym last
+        here = at-character x refl ∙ ap (λ r. onward (stepOf r) (λ e. branchStep layout m e (x % 8))) case ∙ sym last
 
         pub child-passed : t ≡ Missing → firstStep step (256 - x) x ≡ firstStep step (256 - (x + 1)) (x + 1)
         child-passed none-there =

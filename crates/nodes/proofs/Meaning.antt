@@ -17,7 +17,7 @@ use Rattle.order_words.proofs.Rising.{map-same}
 use Rattle.order_words.proofs.Valid.{at-most-six, digit-below}
 use Rattle.nodes.specs.Chain.{chainCharacter, chainChild}
 use Rattle.nodes.specs.Sparse.{someWord, everyWord, sparseWord, sparseCharacter, sparseDigits, sparseCount, validSparse, childFrom, sparseChild}
-use Rattle.nodes.specs.Split.{headWord, tableWord, validHead, validTable}
+use Rattle.nodes.specs.Split.{headWord, branchWord, validHead, validBranch}
 use Rattle.nodes.specs.Layout.{Layout}
 use Rattle.nodes.specs.Prefix.{prefixValue, prefixLink, validPrefix}
 use Rattle.nodes.proofs.Chain.{chain-child-inside}
@@ -35,8 +35,8 @@ InSparse count i = (i < 24 + count) ⊎ ((30 ≤ i) × (i < 32))
 abbrev pub InHead : ℕ → Type 0
 InHead i = (16 ≤ i) × (i < 32)
 
-abbrev pub InTable : ℕ → Type 0
-InTable i = i < 32
+abbrev pub InBranch : ℕ → Type 0
+InBranch i = i < 32
 
 -- a prefix: its value, the byte FF, the linked pointer
 abbrev pub InPrefix : ℕ → Type 0
@@ -97,10 +97,10 @@ module _ (s t : List ℕ) (alike : Alike (InSparse (sparseCount s)) s t) where
   judged ds words characters =
       validDigits ds && everyWord words (length ds) 0 && not (someWord words (6 - length ds) (length ds)) && rising (map characters ds)
 
-  judged-alike : (v : Bool) → validDigits (sparseDigits s) ≡ v
+  answers-alike : (v : Bool) → validDigits (sparseDigits s) ≡ v
       → judged (sparseDigits s) (sparseWord s) (sparseCharacter s) ≡ judged (sparseDigits s) (sparseWord t) (sparseCharacter t)
-  judged-alike false e = rw e
-  judged-alike true e =
+  answers-alike false e = rw e
+  answers-alike true e =
       let six : sparseCount s ≤ 6 = at-most-six (sparseDigits s) e in
       let every = every-alike (sparseWord s) (sparseWord t) (sparseCount s) 0 (λ p low high. word-alike p (omega arith)) in
       let some = some-alike (sparseWord s) (sparseWord t) (6 - sparseCount s) (sparseCount s) (λ p low high. word-alike p (omega arith)) in
@@ -109,7 +109,7 @@ module _ (s t : List ℕ) (alike : Alike (InSparse (sparseCount s)) s t) where
 
   pub valid-sparse-alike : validSparse s ≡ validSparse t
   unfolding validSparse
-  valid-sparse-alike = judged-alike (validDigits (sparseDigits s)) refl ∙ ap (λ ds. judged ds (sparseWord t) (sparseCharacter t)) digits-alike
+  valid-sparse-alike = answers-alike (validDigits (sparseDigits s)) refl ∙ ap (λ ds. judged ds (sparseWord t) (sparseCharacter t)) digits-alike
 
   child-from-alike : (count from x : ℕ) → from + count ≤ sparseCount s → childFrom s count from x ≡ childFrom t count from x
   unfolding childFrom
@@ -133,12 +133,12 @@ module _ (s t : List ℕ) (alike : Alike InHead s t) where
   valid-head-alike = some-alike (headWord s) (headWord t) 4 0 (λ p low high. head-word-alike p (omega arith))
 
 -- a mid or an end
-module _ (s t : List ℕ) (alike : Alike InTable s t) where
-  pub table-word-alike : (j : ℕ) → j < 8 → tableWord s j ≡ tableWord t j
-  table-word-alike j near = word-agree s t (4 * j) (4 * j) (λ r less. alike (4 * j + r) (omega arith))
+module _ (s t : List ℕ) (alike : Alike InBranch s t) where
+  pub branch-word-alike : (j : ℕ) → j < 8 → branchWord s j ≡ branchWord t j
+  branch-word-alike j near = word-agree s t (4 * j) (4 * j) (λ r less. alike (4 * j + r) (omega arith))
 
-  pub valid-table-alike : validTable s ≡ validTable t
-  valid-table-alike = some-alike (tableWord s) (tableWord t) 8 0 (λ p low high. table-word-alike p (omega arith))
+  pub valid-branch-alike : validBranch s ≡ validBranch t
+  valid-branch-alike = some-alike (branchWord s) (branchWord t) 8 0 (λ p low high. branch-word-alike p (omega arith))
 
 -- a prefix
 module _ (layout : Layout) (c : ℕ) (s t : List ℕ) (alike : Alike InPrefix s t) where

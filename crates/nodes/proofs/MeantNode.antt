@@ -15,26 +15,26 @@ use Rattle.nodes.specs.Layout.{Layout}
 use Rattle.nodes.specs.Pointer.{Pointer, pointer}
 use Rattle.nodes.specs.Pointer.Pointer.{nothing, leaf, chain, split, sparse, prefix, invalid}
 use Rattle.nodes.specs.Sparse.{sparseCount}
-use Rattle.nodes.specs.Split.{headWord, tableWord, validHead, gather, under, splitCell, endCells, midCells, headCells, wordBelow, splitChild}
+use Rattle.nodes.specs.Split.{headWord, branchWord, validHead, gather, under, splitCell, endCells, midCells, headCells, wordBelow, splitChild}
 use Rattle.nodes.specs.Prefix.{prefixValue, prefixLink, prefixCells, validPrefix}
 use Rattle.nodes.specs.Node.{Node, oneChild, chainNode, splitNode, prefixed, plain, readAt, read}
 use Rattle.nodes.proofs.Pointers.{names}
 use Rattle.nodes.proofs.Gather.{gather-at, under-word}
 use Rattle.nodes.proofs.Frame.{Like, like-refl, split-cell, below-zero, below-split, end-cut, mid-cut, mid-ends, head-is}
-use Rattle.nodes.proofs.Meaning.{InChain, InSparse, InHead, InTable, InPrefix, Alike}
+use Rattle.nodes.proofs.Meaning.{InChain, InSparse, InHead, InBranch, InPrefix, Alike}
 use Rattle.nodes.proofs.Meaning.{chain-character-alike, chain-child-alike, valid-sparse-alike, sparse-child-alike}
-use Rattle.nodes.proofs.Meaning.{head-word-alike, valid-head-alike, table-word-alike, valid-table-alike}
+use Rattle.nodes.proofs.Meaning.{head-word-alike, valid-head-alike, branch-word-alike, valid-branch-alike}
 use Rattle.nodes.proofs.Meaning.{prefix-value-alike, prefix-link-alike, valid-prefix-alike}
 
 -- a byte, by its cell and its offset there, has a meaning
 module _ (layout : Layout) (m : Memory) where
   -- in the end that a word names
   abbrev pub EndMeans : ℕ → ℕ → ℕ → Type 0
-  EndMeans w c i = (pointer layout w ≡ split c) × InTable i
+  EndMeans w c i = (pointer layout w ≡ split c) × InBranch i
 
   -- in the mid that a word names, or in an end of it
   abbrev pub MidMeans : ℕ → ℕ → ℕ → Type 0
-  MidMeans w c i = EndMeans w c i ⊎ ((d : ℕ) × (j : ℕ) × (pointer layout w ≡ split d) × (j < 8) × EndMeans (tableWord (m d) j) c i)
+  MidMeans w c i = EndMeans w c i ⊎ ((d : ℕ) × (j : ℕ) × (pointer layout w ≡ split d) × (j < 8) × EndMeans (branchWord (m d) j) c i)
 
   -- in a chain, sparse or split
   abbrev pub PlainMeans : Pointer → ℕ → ℕ → Type 0
@@ -109,7 +109,7 @@ module _ (layout : Layout) (m m′ : Memory) where
       bind-same (splitCell (pointer layout w)) _ _
       (λ c e.
       let named : pointer layout w ≡ split c = split-cell (pointer layout w) c e in
-      let valid = valid-table-alike (m c) (m′ c) (λ i near. alike c i (named, near)) in
+      let valid = valid-branch-alike (m c) (m′ c) (λ i near. alike c i (named, near)) in
       λ i. cond (valid i) (some (c ∷ [])) none)
 
   mid-alike : (w : ℕ) → AlikeAt m m′ (MidMeans layout m w) → midCells layout m w ≡ midCells layout m′ w
@@ -118,13 +118,13 @@ module _ (layout : Layout) (m m′ : Memory) where
       bind-same (splitCell (pointer layout w)) _ _
       (λ c e.
       let named : pointer layout w ≡ split c = split-cell (pointer layout w) c e in
-      let table : Alike InTable (m c) (m′ c) = λ i near. alike c i (inl (named, near)) in
-      let valid = valid-table-alike (m c) (m′ c) table in
+      let table : Alike InBranch (m c) (m′ c) = λ i near. alike c i (inl (named, near)) in
+      let valid = valid-branch-alike (m c) (m′ c) table in
       let ends =
-      gather-alike (λ j. under (endCells layout m) (tableWord (m c) j)) (λ j. under (endCells layout m′) (tableWord (m′ c) j)) 8 0
+      gather-alike (λ j. under (endCells layout m) (branchWord (m c) j)) (λ j. under (endCells layout m′) (branchWord (m′ c) j)) 8 0
       (λ j low high.
-      under-alike (endCells layout m) (endCells layout m′) (tableWord (m c) j) (tableWord (m′ c) j) (table-word-alike (m c) (m′ c) table j (omega arith))
-      (end-alike (tableWord (m c) j) (λ d i means. alike d i (inr (c, j, named, omega arith, means))))) in
+      under-alike (endCells layout m) (endCells layout m′) (branchWord (m c) j) (branchWord (m′ c) j) (branch-word-alike (m c) (m′ c) table j (omega arith))
+      (end-alike (branchWord (m c) j) (λ d i means. alike d i (inr (c, j, named, omega arith, means))))) in
       λ i. cond (valid i) (bind (ends i) (λ cells. some (c ∷ cells))) none)
 
   module _ (c : ℕ) (alike : AlikeAt m m′ (PlainMeans layout m (split c))) where
@@ -141,9 +141,9 @@ module _ (layout : Layout) (m m′ : Memory) where
         ∙ sym (head-is layout m′ c)
 
     -- a word of a mid or end that is there
-    below-alike : (w d j : ℕ) → pointer layout w ≡ split d → Alike InTable (m d) (m′ d) → j < 8 → wordBelow m w j ≡ wordBelow m′ w j
+    below-alike : (w d j : ℕ) → pointer layout w ≡ split d → Alike InBranch (m d) (m′ d) → j < 8 → wordBelow m w j ≡ wordBelow m′ w j
     below-alike w d j named table near =
-        below-split layout m w d j named ∙ table-word-alike (m d) (m′ d) table j near ∙ sym (below-split layout m′ w d j named)
+        below-split layout m w d j named ∙ branch-word-alike (m d) (m′ d) table j near ∙ sym (below-split layout m′ w d j named)
 
     below-none : (w j : ℕ) → w ≡ 0 → wordBelow m w j ≡ wordBelow m′ w j
     below-none w j e = ap (λ v. wordBelow m v j) e ∙ below-zero m j ∙ sym (below-zero m′ j) ∙ ap (λ v. wordBelow m′ v j) (sym e)
@@ -179,7 +179,7 @@ module _ (layout : Layout) (m m′ : Memory) where
           | no there ↦
               let p = mid-cut layout m midAt (mid-found .0) (sym (under-word (midCells layout m) midAt there) ∙ mid-found .1) in
               let r = end-cut layout m endAt (end-found .0) (sym (under-word (endCells layout m) endAt other) ∙ end-found .1) in
-              let named : pointer layout (tableWord (m (p .0)) (y / 8 % 8)) ≡ split (r .0) =
+              let named : pointer layout (branchWord (m (p .0)) (y / 8 % 8)) ≡ split (r .0) =
               ap (pointer layout) (sym (below-split layout m midAt (p .0) (y / 8 % 8) (p .2))) ∙ r .1 in
               below-alike endAt (r .0) (y % 8) (r .1)
               (λ i less. alike (r .0) i (inr (y / 64, omega arith, inr (p .0, y / 8 % 8, p .2, omega arith, (named, less))))) (omega arith)

@@ -13,10 +13,10 @@ use Rattle.nodes.specs.Layout.{Layout}
 use Rattle.nodes.specs.Pointer.{Pointer, pointer}
 use Rattle.nodes.specs.Pointer.Pointer.{nothing, leaf, chain, split, sparse, prefix, invalid}
 use Rattle.nodes.specs.Chain.{chainCharacter, chainChild}
-use Rattle.nodes.specs.Split.{headWord, validTable, under, endCells, midCells, wordBelow, splitChild}
+use Rattle.nodes.specs.Split.{headWord, validBranch, under, endCells, midCells, wordBelow, splitChild}
 use Rattle.nodes.specs.Prefix.{prefixLink}
 use Rattle.nodes.specs.Node.{Node, oneChild, chainNode, plain, readAt, read}
-use Rattle.nodes.specs.Step.{Step, found, missing, broken, wordStep, onward, chainStep, sparseStep, tableIn, tableStep, splitStep, plainStep, prefixStep, stepAt, childStep}
+use Rattle.nodes.specs.Step.{Step, found, missing, broken, wordStep, onward, chainStep, sparseStep, branchIn, branchStep, splitStep, plainStep, prefixStep, stepAt, childStep}
 use Rattle.nodes.specs.Value.{pointerValue, valueOf}
 use Rattle.nodes.proofs.Gather.{gather-at, under-word}
 use Rattle.nodes.proofs.Frame.{split-cell-is, below-zero, below-split, end-cut, mid-cut, mid-ends, head-is, split-cut, chain-cut, sparse-cut, prefix-cut, read-is}
@@ -58,27 +58,27 @@ one-step character word x bytes c k at child other = elim (ℕ-discrete x charac
 
 module _ (layout : Layout) (m : Memory) where
   -- a mid or end that is valid
-  table-step-is : (w c i : ℕ) → pointer layout w ≡ split c → validTable (m c) ≡ true → tableStep layout m w i ≡ wordStep (wordBelow m w i)
-  unfolding tableStep tableIn
-  table-step-is w c i named valid =
-      ap (λ o. tableIn m o i) (split-cell-is (pointer layout w) c named) ∙ rw valid (ap wordStep (sym (below-split layout m w c i named)))
+  branch-step-is : (w c i : ℕ) → pointer layout w ≡ split c → validBranch (m c) ≡ true → branchStep layout m w i ≡ wordStep (wordBelow m w i)
+  unfolding branchStep branchIn
+  branch-step-is w c i named valid =
+      ap (λ o. branchIn m o i) (split-cell-is (pointer layout w) c named) ∙ rw valid (ap wordStep (sym (below-split layout m w c i named)))
 
-  end-step : (w i : ℕ) (a : List ℕ) → endCells layout m w ≡ some a → tableStep layout m w i ≡ wordStep (wordBelow m w i)
-  end-step w i a e = let p = end-cut layout m w a e in table-step-is w (p .0) i (p .1) (p .2)
+  end-step : (w i : ℕ) (a : List ℕ) → endCells layout m w ≡ some a → branchStep layout m w i ≡ wordStep (wordBelow m w i)
+  end-step w i a e = let p = end-cut layout m w a e in branch-step-is w (p .0) i (p .1) (p .2)
 
-  mid-step : (w i : ℕ) (a : List ℕ) → midCells layout m w ≡ some a → tableStep layout m w i ≡ wordStep (wordBelow m w i)
-  mid-step w i a e = let p = mid-cut layout m w a e in table-step-is w (p .0) i (p .2) (p .3)
+  mid-step : (w i : ℕ) (a : List ℕ) → midCells layout m w ≡ some a → branchStep layout m w i ≡ wordStep (wordBelow m w i)
+  mid-step w i a e = let p = mid-cut layout m w a e in branch-step-is w (p .0) i (p .2) (p .3)
 
   -- a word and what is below it
-  below-step : (w i : ℕ) → (w ≢ 0 → tableStep layout m w i ≡ wordStep (wordBelow m w i))
-      → onward (wordStep w) (λ u. tableStep layout m u i) ≡ wordStep (wordBelow m w i)
+  below-step : (w i : ℕ) → (w ≢ 0 → branchStep layout m w i ≡ wordStep (wordBelow m w i))
+      → onward (wordStep w) (λ u. branchStep layout m u i) ≡ wordStep (wordBelow m w i)
   unfolding onward
   below-step w i step = elim (ℕ-discrete w 0) [
     | yes none-there ↦
-        ap (λ u. onward (wordStep u) (λ v. tableStep layout m v i)) none-there
-        ∙ ap (λ s. onward s (λ v. tableStep layout m v i)) step-zero
+        ap (λ u. onward (wordStep u) (λ v. branchStep layout m v i)) none-there
+        ∙ ap (λ s. onward s (λ v. branchStep layout m v i)) step-zero
         ∙ sym (ap (λ u. wordStep (wordBelow m u i)) none-there ∙ ap wordStep (below-zero m i) ∙ step-zero)
-    | no other ↦ ap (λ s. onward s (λ u. tableStep layout m u i)) (sym (word-found w other)) ∙ step other
+    | no other ↦ ap (λ s. onward s (λ u. branchStep layout m u i)) (sym (word-found w other)) ∙ step other
   ]
 
   split-step-is : (c x : ℕ) (X : Node) → x < 256 → plain layout m (split c) ≡ some X → splitStep layout m c x ≡ wordStep (X .child x)
@@ -92,8 +92,8 @@ module _ (layout : Layout) (m : Memory) where
       let mid = below-step w (x / 8 % 8) (λ other. mid-step w (x / 8 % 8) (g .0) (sym (under-word (midCells layout m) w other) ∙ g .1)) in
       let end = below-step v (x % 8) (λ other. end-step v (x % 8) (r .0) (sym (under-word (endCells layout m) v other) ∙ r .1)) in
       rw (p .1)
-      (onward-twice (wordStep w) (λ u. tableStep layout m u (x / 8 % 8)) (λ u. tableStep layout m u (x % 8))
-      ∙ ap (λ s. onward s (λ u. tableStep layout m u (x % 8))) mid
+      (onward-twice (wordStep w) (λ u. branchStep layout m u (x / 8 % 8)) (λ u. branchStep layout m u (x % 8))
+      ∙ ap (λ s. onward s (λ u. branchStep layout m u (x % 8))) mid
       ∙ end ∙ ap (λ (N : Node). wordStep (N .child x)) (p .3))
 
   -- a plain node

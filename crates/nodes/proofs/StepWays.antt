@@ -13,9 +13,9 @@ use Rattle.nodes.specs.Layout.{Layout}
 use Rattle.nodes.specs.Pointer.{pointer}
 use Rattle.nodes.specs.Chain.{chainCharacter, chainChild}
 use Rattle.nodes.specs.Sparse.{validSparse, sparseChild}
-use Rattle.nodes.specs.Split.{headWord, tableWord, validHead, validTable}
+use Rattle.nodes.specs.Split.{headWord, branchWord, validHead, validBranch}
 use Rattle.nodes.specs.Prefix.{prefixLink, validPrefix}
-use Rattle.nodes.specs.Step.{Step, found, missing, broken, wordStep, onward, chainStep, sparseStep, tableIn, tableStep, splitStep, plainStep, prefixStep, stepAt, childStep}
+use Rattle.nodes.specs.Step.{Step, found, missing, broken, wordStep, onward, chainStep, sparseStep, branchIn, branchStep, splitStep, plainStep, prefixStep, stepAt, childStep}
 use Rattle.nodes.specs.Coded.{pointerOf, stepOf}
 use Rattle.nodes.specs.declared.pointer.Pointer.the-variants.{Nothing, Leaf, Chain, Split, Sparse, Prefix}
 use Rattle.nodes.specs.declared.step.ChildStep.{ChildStep}
@@ -63,26 +63,26 @@ module _ (bytes : List ℕ) (x : ℕ) (valid : Bool) (read : valid ≡ validSpar
 
 -- a mid or an end
 module _ (layout : Layout) (m : Memory) (word i : ℕ) (p : CodedPointer) (coded : pointerOf p ≡ pointer layout word) where
-  pub table-other : Among (0 ∷ 1 ∷ 2 ∷ 4 ∷ 5 ∷ 6 ∷ []) p → broken ≡ tableStep layout m word i
-  unfolding tableStep tableIn
-  table-other rest = rw (← coded, rest-of-split p rest)
+  pub branch-other : Among (0 ∷ 1 ∷ 2 ∷ 4 ∷ 5 ∷ 6 ∷ []) p → broken ≡ branchStep layout m word i
+  unfolding branchStep branchIn
+  branch-other rest = rw (← coded, rest-of-split p rest)
 
-  module _ (c : ℕ) (case : p ≡ Split c) (bytes : List ℕ) (cell : bytes ≡ m c) (valid : Bool) (read : valid ≡ validTable bytes) where
-    at-cell : tableStep layout m word i ≡ tableIn m (some c) i
-    unfolding tableStep
-    at-cell = ap (λ o. tableIn m o i) (split-cell-is (pointer layout word) c (sym coded ∙ ap pointerOf case))
+  module _ (c : ℕ) (case : p ≡ Split c) (bytes : List ℕ) (cell : bytes ≡ m c) (valid : Bool) (read : valid ≡ validBranch bytes) where
+    at-cell : branchStep layout m word i ≡ branchIn m (some c) i
+    unfolding branchStep
+    at-cell = ap (λ o. branchIn m o i) (split-cell-is (pointer layout word) c (sym coded ∙ ap pointerOf case))
 
-    judged : valid ≡ validTable (m c)
-    judged = read ∙ ap validTable cell
+    judged : valid ≡ validBranch (m c)
+    judged = read ∙ ap validBranch cell
 
-    pub table-broken : valid ≡ false → broken ≡ tableStep layout m word i
-    unfolding tableIn
-    table-broken e = sym (at-cell ∙ rw (← judged, e))
+    pub branch-broken : valid ≡ false → broken ≡ branchStep layout m word i
+    unfolding branchIn
+    branch-broken e = sym (at-cell ∙ rw (← judged, e))
 
-    pub table-taken : valid ≡ true → (below : ℕ) → below ≡ tableWord bytes i → (s : Step) → s ≡ wordStep below → s ≡ tableStep layout m word i
-    unfolding tableIn
-    table-taken e below there s step =
-        step ∙ ap wordStep (there ∙ ap (λ b. tableWord b i) cell) ∙ sym (at-cell ∙ rw (← judged, e))
+    pub branch-taken : valid ≡ true → (below : ℕ) → below ≡ branchWord bytes i → (s : Step) → s ≡ wordStep below → s ≡ branchStep layout m word i
+    unfolding branchIn
+    branch-taken e below there s step =
+        step ∙ ap wordStep (there ∙ ap (λ b. branchWord b i) cell) ∙ sym (at-cell ∙ rw (← judged, e))
 
 -- a split
 module _ (layout : Layout) (m : Memory) (c x : ℕ) (bytes : List ℕ) (cell : bytes ≡ m c) (valid : Bool) (read : valid ≡ validHead bytes) where
@@ -95,17 +95,17 @@ module _ (layout : Layout) (m : Memory) (c x : ℕ) (bytes : List ℕ) (cell : b
     unfolding splitStep wordStep onward
     split-missing e = rw (← cell, ← read, holds, ← there, e)
 
-    module _ (other : mid ≢ 0) (s : ChildStep) (step : stepOf s ≡ tableStep layout m mid (x / 8 % 8)) where
-      pub split-onwards : splitStep layout m c x ≡ onward (stepOf s) (λ end. tableStep layout m end (x % 8))
+    module _ (other : mid ≢ 0) (s : ChildStep) (step : stepOf s ≡ branchStep layout m mid (x / 8 % 8)) where
+      pub split-onwards : splitStep layout m c x ≡ onward (stepOf s) (λ end. branchStep layout m end (x % 8))
       unfolding splitStep wordStep onward
       split-onwards = rw (← cell, ← read, holds, ← there, ne-eqb mid 0 other, ← step)
 
       pub split-stops : AmongSteps (1 ∷ 2 ∷ []) s → stepOf s ≡ splitStep layout m c x
-      split-stops rest = rest-of-found s (λ end. tableStep layout m end (x % 8)) rest ∙ sym split-onwards
+      split-stops rest = rest-of-found s (λ end. branchStep layout m end (x % 8)) rest ∙ sym split-onwards
 
-      pub split-goes : (end : ℕ) → s ≡ Found end → (t : Step) → t ≡ tableStep layout m end (x % 8) → t ≡ splitStep layout m c x
+      pub split-goes : (end : ℕ) → s ≡ Found end → (t : Step) → t ≡ branchStep layout m end (x % 8) → t ≡ splitStep layout m c x
       unfolding onward
-      split-goes end case t last = last ∙ sym (split-onwards ∙ ap (λ r. onward (stepOf r) (λ e. tableStep layout m e (x % 8))) case)
+      split-goes end case t last = last ∙ sym (split-onwards ∙ ap (λ r. onward (stepOf r) (λ e. branchStep layout m e (x % 8))) case)
 
 -- a chain, sparse or split, by the case of the pointer
 module _ (layout : Layout) (m : Memory) (p : CodedPointer) (x c : ℕ) (s : Step) where

@@ -13,7 +13,7 @@ use Rattle.cells.specs.Word.{wordAt}
 use Rattle.cells.proofs.Choice.{absurd-bool, absurd-false}
 use Rattle.nodes.specs.Words.{wordsFrom, someIs}
 use Rattle.nodes.specs.Sparse.{someWord, everyWord}
-use Rattle.nodes.specs.Split.{tableWord, validTable}
+use Rattle.nodes.specs.Split.{branchWord, validBranch}
 
 module _ (words : ℕ → ℕ) where
   -- none is left
@@ -103,8 +103,8 @@ every-same f g same zero from = refl
 every-same f g same (suc count) from = rw (same from, every-same f g same count (from + 1))
 
 -- the row of a mid or an end starts at the first byte
-pub table-read : (bytes : List ℕ) (t : Bool) → t ≡ someIs true (wordsFrom bytes 0) 8 0 → t ≡ validTable bytes
-table-read bytes t e = some-told (wordsFrom bytes 0) 8 0 t e ∙ some-same (wordsFrom bytes 0) (tableWord bytes) (λ i. ap (wordAt bytes) (zero-add (4 * i))) 8 0
+pub branch-read : (bytes : List ℕ) (t : Bool) → t ≡ someIs true (wordsFrom bytes 0) 8 0 → t ≡ validBranch bytes
+branch-read bytes t e = some-told (wordsFrom bytes 0) 8 0 t e ∙ some-same (wordsFrom bytes 0) (branchWord bytes) (λ i. ap (wordAt bytes) (zero-add (4 * i))) 8 0
 
 -- some word is a pointer just where one at a position is
 pub some-word-is : (words : ℕ → ℕ) (count from q : ℕ) → from ≤ q → q < from + count → words q ≢ 0 → someWord words count from ≡ true

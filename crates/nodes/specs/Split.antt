@@ -17,15 +17,15 @@ abbrev pub headWord : List ℕ → ℕ → ℕ
 headWord bytes i = wordAt bytes (0x10 + 4 * i)
 
 -- the word of three bits, in a mid or an end
-abbrev pub tableWord : List ℕ → ℕ → ℕ
-tableWord bytes i = wordAt bytes (4 * i)
+abbrev pub branchWord : List ℕ → ℕ → ℕ
+branchWord bytes i = wordAt bytes (4 * i)
 
 -- 01: "A split head, mid and end each hold at least one pointer."
 abbrev pub validHead : List ℕ → Bool
 validHead bytes = someWord (headWord bytes) 4 0
 
-abbrev pub validTable : List ℕ → Bool
-validTable bytes = someWord (tableWord bytes) 8 0
+abbrev pub validBranch : List ℕ → Bool
+validBranch bytes = someWord (branchWord bytes) 8 0
 
 -- joins what is found for each of so many numbers from one on; nothing where one has nothing
 unfoldable pub gather : (ℕ → Option (List ℕ)) → ℕ → ℕ → Option (List ℕ)
@@ -49,13 +49,13 @@ splitCell invalid = none
 -- the cell that the word of an end visits
 unfoldable pub endCells : Layout → Memory → ℕ → Option (List ℕ)
 endCells layout m word =
-    bind (splitCell (pointer layout word)) (λ c. cond (validTable (m c)) (some (c ∷ [])) none)
+    bind (splitCell (pointer layout word)) (λ c. cond (validBranch (m c)) (some (c ∷ [])) none)
 
 -- the cells that the word of a mid visits: its own, then its ends
 unfoldable pub midCells : Layout → Memory → ℕ → Option (List ℕ)
 midCells layout m word =
     bind (splitCell (pointer layout word))
-    (λ c. cond (validTable (m c)) (bind (gather (λ j. under (endCells layout m) (tableWord (m c) j)) 8 0) (λ ends. some (c ∷ ends))) none)
+    (λ c. cond (validBranch (m c)) (bind (gather (λ j. under (endCells layout m) (branchWord (m c) j)) 8 0) (λ ends. some (c ∷ ends))) none)
 
 -- the cells that a head's words visit
 unfoldable pub headCells : Layout → Memory → ℕ → Option (List ℕ)
@@ -63,7 +63,7 @@ headCells layout m c = gather (λ i. under (midCells layout m) (headWord (m c) i
 
 -- a word of the mid or end that a word names, NONE where that is NONE
 unfoldable pub wordBelow : Memory → ℕ → ℕ → ℕ
-wordBelow m word i = let there = tableWord (m (word / 32)) i in cond (eqb word 0) 0 there
+wordBelow m word i = let there = branchWord (m (word / 32)) i in cond (eqb word 0) 0 there
 
 -- the child word of a character, by its bits
 unfoldable pub splitChild : Memory → ℕ → ℕ → ℕ

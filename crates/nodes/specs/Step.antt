@@ -9,7 +9,7 @@ use Rattle.nodes.specs.Pointer.{Pointer, pointer}
 use Rattle.nodes.specs.Pointer.Pointer.{nothing, leaf, chain, split, sparse, prefix, invalid}
 use Rattle.nodes.specs.Chain.{chainCharacter, chainChild}
 use Rattle.nodes.specs.Sparse.{validSparse, sparseChild}
-use Rattle.nodes.specs.Split.{headWord, tableWord, validHead, validTable, splitCell}
+use Rattle.nodes.specs.Split.{headWord, branchWord, validHead, validBranch, splitCell}
 use Rattle.nodes.specs.Prefix.{prefixLink, validPrefix}
 use mathlib.Core.Bool.{cond}
 
@@ -39,19 +39,19 @@ unfoldable pub sparseStep : List ℕ → ℕ → Step
 sparseStep bytes x = cond (validSparse bytes) (wordStep (sparseChild bytes x)) broken
 
 -- in the mid or end that a word names
-unfoldable pub tableIn : Memory → Option ℕ → ℕ → Step
-tableIn m none i = broken
-tableIn m (some c) i = cond (validTable (m c)) (wordStep (tableWord (m c) i)) broken
+unfoldable pub branchIn : Memory → Option ℕ → ℕ → Step
+branchIn m none i = broken
+branchIn m (some c) i = cond (validBranch (m c)) (wordStep (branchWord (m c) i)) broken
 
-unfoldable pub tableStep : Layout → Memory → ℕ → ℕ → Step
-tableStep layout m word i = tableIn m (splitCell (pointer layout word)) i
+unfoldable pub branchStep : Layout → Memory → ℕ → ℕ → Step
+branchStep layout m word i = branchIn m (splitCell (pointer layout word)) i
 
 -- in a split: its head, then a mid, then an end
 unfoldable pub splitStep : Layout → Memory → ℕ → ℕ → Step
 splitStep layout m c x =
     cond (validHead (m c))
     (onward (wordStep (headWord (m c) (x / 64)))
-    (λ mid. onward (tableStep layout m mid (x / 8 % 8)) (λ end. tableStep layout m end (x % 8))))
+    (λ mid. onward (branchStep layout m mid (x / 8 % 8)) (λ end. branchStep layout m end (x % 8))))
     broken
 
 -- at a chain, sparse or split

@@ -18,7 +18,7 @@ use crate::sparse::sparse_count;
 use crate::sparse::sparse_position;
 use crate::split::is_valid_head;
 use crate::step::ChildStep;
-use crate::step::table_step;
+use crate::step::branch_step;
 use cells::cell;
 use cells::word_at;
 
@@ -81,12 +81,12 @@ fn split_least(layout: Layout, block: &[u8], number: usize, from: usize) -> Leas
         if mid == 0 {
             x = (x / 64 + 1) * 64;
         } else {
-            let below = table_step(layout, block, mid, x / 8 % 8);
+            let below = branch_step(layout, block, mid, x / 8 % 8);
             match below {
                 ChildStep::Broken => return Least::Broken,
                 ChildStep::Missing => x = (x / 8 + 1) * 8,
                 ChildStep::Found(end) => {
-                    let last = table_step(layout, block, end, x % 8);
+                    let last = branch_step(layout, block, end, x % 8);
                     match last {
                         ChildStep::Broken => return Least::Broken,
                         ChildStep::Missing => x += 1,

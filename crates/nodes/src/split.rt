@@ -1,7 +1,7 @@
 // Splits: a head, its mids and their ends.
 ghost use mathlib.Core.Path.{_≡_};
 ghost use lib.ListN.{length};
-ghost use Rattle.nodes.specs.Split.{validHead, validTable};
+ghost use Rattle.nodes.specs.Split.{validHead, validBranch};
 use crate::words::some_is;
 
 // Whether a head holds a pointer.
@@ -13,9 +13,9 @@ pub fn is_valid_head(cell: &[u8]) -> bool
 }
 
 // Whether a mid or an end holds a pointer.
-pub fn is_valid_table(cell: &[u8]) -> bool
+pub fn is_valid_branch(cell: &[u8]) -> bool
     requires { ⌜ length (now cell) ≡ 32 ⌝ }
-    ensures { λ r. ⌜ r ≡ validTable (now (cell .entry)) ⌝ }
+    ensures { λ r. ⌜ r ≡ validBranch (now (cell .entry)) ⌝ }
 {
     some_is(cell, 0, 8, 0, true)
 }

@@ -4,7 +4,7 @@ ghost use Prim.Native.Nat.{_*_, _<_, _≤_};
 ghost use lib.ListN.{length};
 ghost use Rattle.cells.specs.Memory.{memoryOf};
 ghost use Rattle.nodes.specs.Layout.{cellLimit, Covered};
-ghost use Rattle.nodes.specs.Step.{wordStep, chainStep, sparseStep, tableStep, splitStep, plainStep, prefixStep, childStep};
+ghost use Rattle.nodes.specs.Step.{wordStep, chainStep, sparseStep, branchStep, splitStep, plainStep, prefixStep, childStep};
 ghost use Rattle.nodes.specs.Coded.{pointerOf, Named, stepOf};
 use crate::chains::chain_child;
 use crate::layout::Layout;
@@ -15,7 +15,7 @@ use crate::prefix::linked_word;
 use crate::sparse::is_valid_sparse;
 use crate::sparse::sparse_child;
 use crate::split::is_valid_head;
-use crate::split::is_valid_table;
+use crate::split::is_valid_branch;
 use cells::cell;
 use cells::word_at;
 
@@ -63,15 +63,15 @@ fn sparse_step(bytes: &[u8], character: u8) -> ChildStep
 }
 
 // A step in the mid or end that a word names.
-pub fn table_step(layout: Layout, block: &[u8], word: u32, index: usize) -> ChildStep
+pub fn branch_step(layout: Layout, block: &[u8], word: u32, index: usize) -> ChildStep
     requires { ⌜ (layout .cells * 32 ≤ length (now block)) × (index < 8) ⌝ }
-    ensures { λ r. ⌜ stepOf r ≡ tableStep layout (memoryOf (now (block .entry))) word index ⌝ }
+    ensures { λ r. ⌜ stepOf r ≡ branchStep layout (memoryOf (now (block .entry))) word index ⌝ }
 {
     let Pointer::Split(number) = pointer_of(layout, word) else {
         return ChildStep::Broken;
     };
     let bytes = cell(block, number);
-    if !is_valid_table(bytes) {
+    if !is_valid_branch(bytes) {
         return ChildStep::Broken;
     }
     word_step(word_at(bytes, 4 * index))
@@ -91,11 +91,11 @@ fn split_step(layout: Layout, block: &[u8], number: usize, character: u8) -> Chi
     if mid == 0 {
         return ChildStep::Missing;
     }
-    let below = table_step(layout, block, mid, x / 8 % 8);
+    let below = branch_step(layout, block, mid, x / 8 % 8);
     let ChildStep::Found(end) = below else {
         return below;
     };
-    table_step(layout, block, end, x % 8)
+    branch_step(layout, block, end, x % 8)
 }
 
 // A step at a chain, sparse or split; any other is broken where one of these is called for.

@@ -4,7 +4,7 @@ use Prim.Native.Nat.{ℕ, _*_}
 use lib.IntN.{pos}
 use lib.ListN.{replicate}
 use Rattle.calendar.specs.Date.{yearOf, monthOf, dayOf, dateOf, packedDate}
-use Rattle.blocks.specs.Refusal.{Inserted}
+use Rattle.blocks.specs.Refusal.{Counted}
 use Rattle.blocks.specs.Trailer.{layoutOf, rootWord}
 use Rattle.store.specs.Format.{format}
 use Rattle.store.specs.Insert.{insert}
@@ -19,28 +19,28 @@ use Rattle.dosing.specs.Verdict.{Verdict, verdict}
 unfoldable pub fresh : ℕ → List ℕ
 fresh n = format (replicate (n * 32) 0xA5) .block
 
-unfoldable pub sampleA : Inserted
+unfoldable pub sampleA : Counted
 sampleA = insert (fresh 4) (0x41 ∷ []) 0
 
-unfoldable pub sampleB : Inserted
+unfoldable pub sampleB : Counted
 sampleB = insert (snapshot (sampleA .block) 1 .block) (0x41 ∷ []) 1
 
-unfoldable pub sampleC : Inserted
+unfoldable pub sampleC : Counted
 sampleC = insert (sampleB .block) (0x41 ∷ []) 2
 
-unfoldable pub sampleD : Inserted
+unfoldable pub sampleD : Counted
 sampleD = insert (restore (sampleB .block) 1 .block) (0x41 ∷ []) 2
 
-unfoldable pub sampleE : Inserted
+unfoldable pub sampleE : Counted
 sampleE = insert (fresh 8) (0x43 ∷ 0x48 ∷ 0x41 ∷ []) 0
 
-unfoldable pub sampleF : Inserted
+unfoldable pub sampleF : Counted
 sampleF = insert (sampleE .block) (0x41 ∷ []) 1
 
-unfoldable pub sampleG : Inserted
+unfoldable pub sampleG : Counted
 sampleG = insert (sampleF .block) (0x35 ∷ []) 2
 
-unfoldable pub sampleH : Inserted
+unfoldable pub sampleH : Counted
 sampleH = insert (sampleE .block) (0x43 ∷ []) 5
 
 -- 7 March 2025

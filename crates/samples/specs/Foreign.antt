@@ -6,7 +6,7 @@ use Prim.Native.Nat.{ℕ}
 use lib.ListN.{replicate}
 use Rattle.cells.specs.Bytes.{zeros}
 use Rattle.cells.specs.Memory.{memoryOf}
-use Rattle.blocks.specs.Refusal.{Inserted}
+use Rattle.blocks.specs.Refusal.{Counted}
 use Rattle.blocks.specs.Read.{validate, get}
 use Rattle.store.specs.Insert.{insert}
 use Rattle.store.specs.Computing.{callsOpen}
@@ -30,7 +30,7 @@ foreign =
     ++ junk 256
     ++ (word 0x0000003C ++ zeros 16 ++ word 0x00000010 ++ zeros 4 ++ word 0x00000001)
 
-unfoldable pub added : Inserted
+unfoldable pub added : Counted
 added = insert foreign (0x41 ∷ 0x41 ∷ 0x42 ∷ []) 4
 
 abbrev cellOf : ℕ → List ℕ

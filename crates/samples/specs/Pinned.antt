@@ -7,7 +7,7 @@ use lib.ListN.{replicate, set}
 use Rattle.cells.specs.Bytes.{zeros}
 use Rattle.cells.specs.Word.{withWord}
 use Rattle.cells.specs.Memory.{memoryOf}
-use Rattle.blocks.specs.Refusal.{Inserted}
+use Rattle.blocks.specs.Refusal.{Counted}
 use Rattle.blocks.specs.Read.{validate}
 use Rattle.store.specs.Insert.{insert}
 use Rattle.snapshots.specs.Snapshots.{snapshot}
@@ -25,10 +25,10 @@ entered block (x ∷ xs) value = entered (insert block (x ∷ []) value .block) 
 unfoldable pub sixth : List ℕ
 sixth = entered (fresh 16) (0x33 ∷ 0x35 ∷ 0x41 ∷ 0x42 ∷ 0x43 ∷ 0x50 ∷ []) 0
 
-unfoldable pub seventh : Inserted
+unfoldable pub seventh : Counted
 seventh = insert sixth (0x51 ∷ []) 6
 
-abbrev cellOf : Inserted → ℕ → List ℕ
+abbrev cellOf : Counted → ℕ → List ℕ
 cellOf inserted c = memoryOf (inserted .block) c
 
 pub split-of-seven :

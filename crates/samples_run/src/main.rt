@@ -4,7 +4,7 @@ mod print;
 mod verdicts;
 
 use blocks::answer::ChangeAnswer;
-use blocks::answer::InsertAnswer;
+use blocks::answer::CountAnswer;
 use cells::word_at;
 use snapshots::restore;
 use snapshots::snapshot;
@@ -12,18 +12,18 @@ use store::formatting::format;
 use store::inserting::insert;
 
 // The answer number of an insertion.
-pub fn insert_number(answer: InsertAnswer) -> u32 {
+pub fn insert_number(answer: CountAnswer) -> u32 {
     match answer {
-        InsertAnswer::Done(_) => 0,
-        InsertAnswer::Refused(refusal) => blocks::answer::number(refusal) as u32,
+        CountAnswer::Done(_) => 0,
+        CountAnswer::Refused(refusal) => blocks::answer::number(refusal) as u32,
     }
 }
 
 // The count of an insertion, 0 where it was refused.
-pub fn insert_count(answer: InsertAnswer) -> u32 {
+pub fn insert_count(answer: CountAnswer) -> u32 {
     match answer {
-        InsertAnswer::Done(count) => count,
-        InsertAnswer::Refused(_) => 0,
+        CountAnswer::Done(count) => count,
+        CountAnswer::Refused(_) => 0,
     }
 }
 

@@ -12,7 +12,7 @@ use Rattle.cells.specs.Memory.{Memory, memoryOf}
 use Rattle.cells.proofs.Words.{set-bytes, zeros-length, bytes-zeros, length-withWord, remainder-byte, withWord-bytes}
 use Rattle.cells.proofs.Memory.{memory-length, memory-bytes}
 use Rattle.nodes.specs.Sparse.{sparseCount}
-use Rattle.staging.specs.NewCells.{blank, chainCell, prefixCell, pairCell, sparsePair, withoutCharacters, sparseCopy, withOrder, appendedCell, tableCopy, headCopy, withWords}
+use Rattle.staging.specs.NewCells.{blank, chainCell, prefixCell, pairCell, sparsePair, withoutCharacters, sparseCopy, withOrder, appendedCell, branchCopy, headCopy, withWords}
 
 -- 32 bytes
 pub record IsCell (s : List ℕ) : Type 0 where
@@ -80,6 +80,6 @@ pub headCopy-cell : (s : List ℕ) → IsCell (headCopy s)
 unfolding headCopy
 headCopy-cell s = word-cell _ 28 _ (word-cell _ 24 _ (word-cell _ 20 _ (word-cell _ 16 _ blank-cell)))
 
-pub tableCopy-cell : (m : Memory) → ((c : ℕ) → IsCell (m c)) → (word : ℕ) → IsCell (tableCopy m word)
-unfolding tableCopy
-tableCopy-cell m each word = cond-cell (eqb word 0) blank-cell (each (word / 32))
+pub branchCopy-cell : (m : Memory) → ((c : ℕ) → IsCell (m c)) → (word : ℕ) → IsCell (branchCopy m word)
+unfolding branchCopy
+branchCopy-cell m each word = cond-cell (eqb word 0) blank-cell (each (word / 32))

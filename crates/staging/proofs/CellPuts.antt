@@ -9,7 +9,7 @@ use borrow.Author.Tests.{lt-ltb, le-ltb, ne-eqb, eq-eqb}
 use Rattle.cells.specs.Word.{wordAt, withWord}
 use Rattle.cells.specs.Memory.{memoryOf}
 use Rattle.cells.proofs.Memory.{memory-word}
-use Rattle.staging.specs.NewCells.{blank, chainCell, prefixCell, pairCell, sparsePair, tableCopy, headCopy, withWords}
+use Rattle.staging.specs.NewCells.{blank, chainCell, prefixCell, pairCell, sparsePair, branchCopy, headCopy, withWords}
 use Rattle.staging.specs.Stage.{Put}
 use Rattle.staging.proofs.StageLaws.{put-then, put-as}
 
@@ -60,13 +60,13 @@ module _ {s after : List ℕ} {at : ℕ} (x word y other : ℕ) where
 
 -- a table that is there or not
 module _ {s after : List ℕ} {at : ℕ} (block : List ℕ) (word : ℕ) where
-  pub put-table-none : word ≡ 0 → Put s after at blank → Put s after at (tableCopy (memoryOf block) word)
-  unfolding tableCopy
-  put-table-none none put = rw (eq-eqb word 0 none) put
+  pub put-branch-none : word ≡ 0 → Put s after at blank → Put s after at (branchCopy (memoryOf block) word)
+  unfolding branchCopy
+  put-branch-none none put = rw (eq-eqb word 0 none) put
 
-  pub put-table-some : word ≢ 0 → Put s after at (memoryOf block (word / 32)) → Put s after at (tableCopy (memoryOf block) word)
-  unfolding tableCopy
-  put-table-some other put = rw (ne-eqb word 0 other) put
+  pub put-branch-some : word ≢ 0 → Put s after at (memoryOf block (word / 32)) → Put s after at (branchCopy (memoryOf block) word)
+  unfolding branchCopy
+  put-branch-some other put = rw (ne-eqb word 0 other) put
 
 -- one word more, the same as in a cell of the block
 pub put-same-law : {s after : List ℕ} {at : ℕ} (block : List ℕ) (cell offset word : ℕ) → offset + 4 ≤ 32 → word ≡ wordAt block (cell * 32 + offset)

@@ -1,5 +1,5 @@
 pub mod CellBytes
-pub mod TableWords
+pub mod BranchWords
 pub mod StageLaws
 pub mod StageWrites
 pub mod CellPuts

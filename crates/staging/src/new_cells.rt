@@ -3,7 +3,7 @@ ghost use Prim.Native.Nat.{_+_, _*_, _/_, _≤_, _<_};
 ghost use lib.ListN.{length, getD};
 ghost use Rattle.cells.specs.Word.{wordAt, withWord};
 ghost use Rattle.cells.specs.Memory.{memoryOf};
-ghost use Rattle.staging.specs.NewCells.{blank, chainCell, prefixCell, pairCell, sparsePair, tableCopy, headCopy, withWords};
+ghost use Rattle.staging.specs.NewCells.{blank, chainCell, prefixCell, pairCell, sparsePair, branchCopy, headCopy, withWords};
 ghost use Rattle.staging.specs.Stage.{stageCells, Put};
 use crate::stage::STAGE_SIZE;
 use crate::stage::put_blank;
@@ -59,9 +59,9 @@ pub fn put_pair(stage: &mut [u8; STAGE_SIZE], at: usize, x: u8, word: u32, y: u8
 }
 
 // The eight words of the mid or end that a word names, all NONE where that is NONE.
-fn put_table(stage: &mut [u8; STAGE_SIZE], at: usize, block: &[u8], word: u32)
+fn put_branch(stage: &mut [u8; STAGE_SIZE], at: usize, block: &[u8], word: u32)
     requires { ⌜ (at < stageCells) × (word / 32 * 32 + 32 ≤ length (now block)) ⌝ }
-    ensures { λ _. ⌜ Put (now (stage .entry)) (now (stage .exit)) at (tableCopy (memoryOf (now (block .entry))) word) ⌝ }
+    ensures { λ _. ⌜ Put (now (stage .entry)) (now (stage .exit)) at (branchCopy (memoryOf (now (block .entry))) word) ⌝ }
 {
     if word == 0 {
         put_blank(stage, at);
@@ -71,7 +71,7 @@ fn put_table(stage: &mut [u8; STAGE_SIZE], at: usize, block: &[u8], word: u32)
 }
 
 // The same with one of them replaced.
-pub fn put_table_copy(
+pub fn put_branch_copy(
     stage: &mut [u8; STAGE_SIZE],
     at: usize,
     block: &[u8],
@@ -80,9 +80,9 @@ pub fn put_table_copy(
     value: u32,
 )
     requires { ⌜ (at < stageCells) × (word / 32 * 32 + 32 ≤ length (now block)) × (i < 8) ⌝ }
-    ensures { λ _. ⌜ Put (now (stage .entry)) (now (stage .exit)) at (withWord (tableCopy (memoryOf (now (block .entry))) word) (4 * i) value) ⌝ }
+    ensures { λ _. ⌜ Put (now (stage .entry)) (now (stage .exit)) at (withWord (branchCopy (memoryOf (now (block .entry))) word) (4 * i) value) ⌝ }
 {
-    put_table(stage, at, block, word);
+    put_branch(stage, at, block, word);
     put_word_in(stage, at, 4 * i, value);
 }
 

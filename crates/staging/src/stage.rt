@@ -7,8 +7,8 @@ ghost use Rattle.cells.specs.Memory.{memoryOf};
 ghost use Rattle.cells.specs.Writes.{written, cellWrites};
 ghost use Rattle.nodes.specs.Pointer.{wordTo};
 ghost use Rattle.staging.specs.NewCells.{blank};
-ghost use Rattle.staging.specs.Numbering.{numberFrom, Numbered};
-ghost use Rattle.staging.specs.Stage.{stageCells, Put, allocated};
+ghost use Rattle.staging.specs.Numbering.{numberFrom};
+ghost use Rattle.staging.specs.Stage.{stageCells, Put, allocated, Numbered};
 use cells::put_word;
 use cells::word_at;
 use nodes::layout::KEY_LIMIT;
@@ -21,7 +21,7 @@ pub const STAGE_CELLS: usize = 4 * KEY_LIMIT + 10;
 pub const STAGE_SIZE: usize = 32 * STAGE_CELLS;
 
 // What a build has made so far: the word of the new node, whether its cell is the newest, and how many cells are staged.
-pub struct Made {
+pub struct BuildState {
     pub word: u32,
     pub own: bool,
     pub count: usize,
@@ -127,13 +127,13 @@ pub fn allocated_as(
     free: usize,
     kind: usize,
     count: usize,
-) -> Made
+) -> BuildState
     requires { ⌜ Numbered layout free × (kind < 32) × (count < stageCells) ⌝ }
     ensures { λ r. ⌜ r ≡ allocated (numberFrom layout (take free (now (numbers .entry)))) kind count ⌝ }
 {
     let number = number_at(layout, numbers, free, count);
     let word = word_to(number, kind);
-    Made {
+    BuildState {
         word,
         own: true,
         count: count + 1,

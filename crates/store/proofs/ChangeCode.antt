@@ -15,9 +15,9 @@ use Rattle.cells.proofs.Occurrences.{occurrences-at}
 use Rattle.nodes.specs.Layout.{Layout, keyLimit}
 use Rattle.nodes.proofs.Pointers.{usable-inside}
 use Rattle.trees.specs.Tree.{tree}
-use Rattle.staging.specs.Numbering.{numberFrom, Numbered}
-use Rattle.staging.specs.Stage.{stageCells, staged}
-use Rattle.staging.specs.declared.stage.Made.{Made}
+use Rattle.staging.specs.Numbering.{numberFrom}
+use Rattle.staging.specs.Stage.{stageCells, staged, Numbered}
+use Rattle.staging.specs.declared.stage.BuildState.{BuildState}
 use Rattle.staging.proofs.StageLaws.{staged-length, number-listed}
 use Rattle.updates.specs.Built.{Built}
 use Rattle.updates.specs.Commit.{buildWrites}
@@ -28,8 +28,8 @@ use Rattle.blocks.specs.Sound.{soundWith}
 use Rattle.blocks.proofs.ValidateSteps.{layout-fits}
 use Rattle.blocks.proofs.Roots.{root-parts, sound-parts}
 use Rattle.store.specs.Free.{free}
-use Rattle.store.specs.Committed.{Inside, numbering, commitWrites}
-use Rattle.store.specs.Changeable.{Changeable, InStage}
+use Rattle.store.specs.Committed.{numbering, commitWrites}
+use Rattle.store.specs.Changeable.{Changeable, InStage, Inside}
 use Rattle.store.proofs.Free.{free-usable}
 use Rattle.store.proofs.CommitSteps.{writes-same}
 
@@ -74,7 +74,7 @@ module _ (layout : Layout) (b numbers : List ℕ) (count : ℕ) (key : List ℕ)
         | no over ↦ lt-leb n count (omega (arith, over)) ∙ sym (lt-leb n (length (free layout b)) (omega (arith, over, most, many)))
       ]
 
-  module _ (x : Built) (made : Made) (stage : List ℕ) (fits : Bool) (s : InStage layout b x made stage fits) where
+  module _ (x : Built) (made : BuildState) (stage : List ℕ) (fits : Bool) (s : InStage layout b x made stage fits) where
     pub made-count : made .count ≡ length (x .cells)
     made-count = sym (staged-length stage (made .count)) ∙ ap (λ (y : Built). length (y .cells)) (s .built)
 

@@ -10,8 +10,8 @@ use lib.ListN.{length, getD}
 use lib.Seq.{ext-getD}
 use Rattle.cells.specs.Bytes.{IsBytes}
 use Rattle.cells.specs.Memory.{memoryOf}
-use Rattle.blocks.specs.Refusal.{Changed, badNewKey, badValue, Inserted}
-use Rattle.blocks.specs.Tables.{Asked, Passes}
+use Rattle.blocks.specs.Refusal.{Changed, badNewKey, badValue, Counted}
+use Rattle.blocks.specs.Tables.{PassesKey, Passes}
 use Rattle.blocks.proofs.Trailer.{byte-in-cell}
 use Rattle.blocks.proofs.Determined.{both, passes-or, beside-told, changed-told}
 use Rattle.store.specs.Format.{badNewSize, format}
@@ -38,18 +38,18 @@ module _ (b : List ℕ) where
       go false e = both (t .done) (format-table b .done) e
 
   -- insertion
-  module _ (key : List ℕ) (value : ℕ) (q r : Inserted) (t : InsertTable b key value q) (u : InsertTable b key value r) where
+  module _ (key : List ℕ) (value : ℕ) (q r : Counted) (t : InsertTable b key value q) (u : InsertTable b key value r) where
     insert-answer-told : q .answer ≡ r .answer
     insert-answer-told =
         passes-or b (both (t .bad-size) (u .bad-size)) (both (t .unsound) (u .unsound)) (λ p. known p (badNewKey key) refl)
       where
-        enough : Asked b (badNewKey key) → badValue value ≡ false → q .answer ≡ r .answer
+        enough : PassesKey b (badNewKey key) → badValue value ≡ false → q .answer ≡ r .answer
         enough a v = elim (decLt (cellsFree b) (cellsToInsert b key)) [
           | yes more ↦ both (t .no-room) (u .no-room) (a, (v, more))
           | no fits ↦ both (t .done) (u .done) (a, (v, omega arith))
         ]
 
-        valued : Asked b (badNewKey key) → (s : Bool) → badValue value ≡ s → q .answer ≡ r .answer
+        valued : PassesKey b (badNewKey key) → (s : Bool) → badValue value ≡ s → q .answer ≡ r .answer
         valued a true e = both (t .bad-value) (u .bad-value) (a, e)
         valued a false e = enough a e
 
@@ -78,5 +78,5 @@ module _ (b : List ℕ) where
         beside-told (q .answer) (r .answer) (q .block) (r .block) b same (laid-told bytes is-bytes) (λ no. t .refused no .1) (λ no. u .refused no .1) in
         λ i. record { answer = same i; count = count i; block = block i }
 
-  pub insert-told : (key : List ℕ) (value : ℕ) (r : Inserted) → IsBytes b → IsBytes key → InsertTable b key value r → r ≡ insert b key value
+  pub insert-told : (key : List ℕ) (value : ℕ) (r : Counted) → IsBytes b → IsBytes key → InsertTable b key value r → r ≡ insert b key value
   insert-told key value r bytes is-bytes t = tables-told key value r (insert b key value) t (insert-table b key value) bytes is-bytes

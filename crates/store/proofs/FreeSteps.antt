@@ -20,7 +20,7 @@ use Rattle.blocks.specs.Stamps.{Stamped, Validated}
 use Rattle.blocks.specs.Trailer.{rootWord}
 use Rattle.store.specs.Free.{countUp, allocationOrder, free}
 use Rattle.store.specs.Unstamped.{unstamped, Listed}
-use Rattle.store.specs.Changeable.{Judged}
+use Rattle.store.specs.Changeable.{FreeAnswer}
 use Rattle.store.proofs.Free.{select-kept, select-dropped}
 
 -- one number more in an array that has room for it
@@ -123,7 +123,7 @@ unstamped-free layout block stamps most least told =
 -- a block judged, and its free cells listed
 pub judged-listed : (layout : Layout) (block stamps numbers : List ℕ) (passed : Bool) (root count : ℕ) → Fits layout (length block)
     → Validated layout block stamps passed → passed ≡ true → root ≡ rootWord layout block
-    → Listed numbers count (take stageCells (unstamped layout root stamps)) → Judged layout block numbers true count
+    → Listed numbers count (take stageCells (unstamped layout root stamps)) → FreeAnswer layout block numbers true count
 judged-listed layout block stamps numbers passed root count f validated yes-sound root-is listed =
     let same : unstamped layout root stamps ≡ free layout block =
     ap (λ (r : ℕ). unstamped layout r stamps) root-is ∙ unstamped-free layout block stamps (f .most) (omega (arith, f .least)) (validated .stamped yes-sound) in
@@ -133,6 +133,6 @@ judged-listed layout block stamps numbers passed root count f validated yes-soun
     }
 
 pub judged-unsound : (layout : Layout) (block stamps numbers : List ℕ) (passed : Bool) → Validated layout block stamps passed → passed ≡ false
-    → Judged layout block numbers false 0
+    → FreeAnswer layout block numbers false 0
 judged-unsound layout block stamps numbers passed validated not-sound =
     record { verdict = sym not-sound ∙ validated .verdict; listed = λ e. absurd-bool (sym e) }

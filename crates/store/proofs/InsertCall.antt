@@ -23,7 +23,7 @@ use Rattle.updates.proofs.Taken.{enough-free}
 use Rattle.updates.proofs.ChangeLaw.{insert-law}
 use Rattle.blocks.specs.Trailer.{badSize, layoutOf, rootWord, inUse}
 use Rattle.blocks.specs.Sound.{sound}
-use Rattle.blocks.specs.Refusal.{firstRefusal, overLong, badKey, badNewKey, badValue, Inserted}
+use Rattle.blocks.specs.Refusal.{firstRefusal, overLong, badKey, badNewKey, badValue, Counted}
 use Rattle.blocks.specs.Read.{shown}
 use Rattle.blocks.specs.Tables.{Exactly}
 use Rattle.blocks.proofs.Trailer.{sized, either-left, either-right}
@@ -91,8 +91,8 @@ module _ (b key : List ℕ) (value : ℕ) where
 
   pub insert-number : insert b key value .answer ≡ firstRefusal (insertRefusals b key value)
   insert-number = elim (ℕ-discrete (firstRefusal (insertRefusals b key value)) 0) [
-    | yes e ↦ ap (λ (i : Inserted). i .answer) (insert-done e) ∙ sym e
-    | no n ↦ ap (λ (i : Inserted). i .answer) (insert-not-done n)
+    | yes e ↦ ap (λ (i : Counted). i .answer) (insert-done e) ∙ sym e
+    | no n ↦ ap (λ (i : Counted). i .answer) (insert-not-done n)
   ]
 
   -- 0 exactly where nothing is refused; any other answer leaves the block and counts nothing
@@ -115,10 +115,10 @@ module _ (b key : List ℕ) (value : ℕ) where
       }
 
   pub insert-refused : insert b key value .answer ≢ 0 → insert b key value .block ≡ b
-  insert-refused n = ap (λ (i : Inserted). i .block) (insert-not-done (λ e. n (insert-number ∙ e)))
+  insert-refused n = ap (λ (i : Counted). i .block) (insert-not-done (λ e. n (insert-number ∙ e)))
 
   pub insert-refused-count : insert b key value .answer ≢ 0 → insert b key value .count ≡ 0
-  insert-refused-count n = ap (λ (i : Inserted). i .count) (insert-not-done (λ e. n (insert-number ∙ e)))
+  insert-refused-count n = ap (λ (i : Counted). i .count) (insert-not-done (λ e. n (insert-number ∙ e)))
 
   -- 7 exactly where none of 1 to 4 applies and more cells are needed than are free
   pub insert-seven : Exactly (insert b key value .answer) 7 (Lacks b (MayInsert key value) (cellsToInsert b key))
@@ -142,10 +142,10 @@ module _ (b key : List ℕ) (value : ℕ) where
     pub insert-after : After b (insert b key value .block) (update (shown b) key value) (inUse (layoutOf b) b) (slotShown b)
     insert-after =
         let e : firstRefusal (insertRefusals b key value) ≡ 0 = sym insert-number ∙ done in
-        subst (λ (i : Inserted). After b (i .block) (update (shown b) key value) (inUse (layoutOf b) b) (slotShown b)) (sym (insert-done e))
+        subst (λ (i : Counted). After b (i .block) (update (shown b) key value) (inUse (layoutOf b) b) (slotShown b)) (sym (insert-done e))
         (change-after b key (blockBuild b key value) (some value) bytes (inserted-change bytes is-bytes (accepted e)))
 
     pub insert-laid : Laid b key (blockBuild b key value) (insert b key value .count) (insert b key value .block)
     insert-laid =
         let e : firstRefusal (insertRefusals b key value) ≡ 0 = sym insert-number ∙ done in
-        subst (λ (i : Inserted). Laid b key (blockBuild b key value) (i .count) (i .block)) (sym (insert-done e)) (change-laid b key (blockBuild b key value) (some value) bytes (inserted-change bytes is-bytes (accepted e)))
+        subst (λ (i : Counted). Laid b key (blockBuild b key value) (i .count) (i .block)) (sym (insert-done e)) (change-laid b key (blockBuild b key value) (some value) bytes (inserted-change bytes is-bytes (accepted e)))

@@ -13,7 +13,7 @@ use Rattle.cells.specs.Writes.{written}
 use Rattle.nodes.specs.Layout.{Layout}
 use Rattle.staging.specs.Numbering.{numberFrom}
 use Rattle.staging.specs.Stage.{stageCells}
-use Rattle.staging.specs.declared.stage.Made.{Made}
+use Rattle.staging.specs.declared.stage.BuildState.{BuildState}
 use Rattle.staging.proofs.StageLaws.{staged-length}
 use Rattle.updates.specs.Built.{Built}
 use Rattle.updates.specs.Build.{build, cellsNeeded}
@@ -53,7 +53,7 @@ module _ (layout : Layout) (b numbers : List ℕ) (count : ℕ) (key : List ℕ)
       ∙ ap (λ (r : ℕ). build layout (numberFrom layout (free layout b)) (memoryOf b) r key value) root-is
       ∙ ap (λ (l : Layout). build l (numberFrom l (free l b)) (memoryOf b) (rootWord l b) key value) (p .stated)
 
-  pub insertion-staged : (root : ℕ) → root ≡ rootWord layout b → (made : Made) (stage : List ℕ)
+  pub insertion-staged : (root : ℕ) → root ≡ rootWord layout b → (made : BuildState) (stage : List ℕ)
       → builtOf made stage ≡ build layout (numberFrom layout (take count numbers)) (memoryOf b) root key value
       → InStage layout b (blockBuild b key value) made stage (leb (made .count) count)
   insertion-staged root root-is made stage built =
@@ -61,7 +61,7 @@ module _ (layout : Layout) (b numbers : List ℕ) (count : ℕ) (key : List ℕ)
       let many : made .count ≡ length (blockBuild b key value .cells) = sym (staged-length stage (made .count)) ∙ ap (λ (x : Built). length (x .cells)) is in
       record { built = is; fitting = fits-same layout b numbers count key p (made .count) (omega (arith, many, build-most)) }
 
-  module _ (made : Made) (stage : List ℕ) (fits : Bool) (s : InStage layout b (blockBuild b key value) made stage fits) where
+  module _ (made : BuildState) (stage : List ℕ) (fits : Bool) (s : InStage layout b (blockBuild b key value) made stage fits) where
     many-made : made .count ≡ length (blockBuild b key value .cells)
     many-made = made-count layout b numbers count key p (blockBuild b key value) made stage fits s
 

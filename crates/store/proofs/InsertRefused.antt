@@ -9,14 +9,14 @@ use borrow.Author.Tests.{lt-ltb, le-ltb}
 use Rattle.nodes.specs.Layout.{Layout}
 use Rattle.blocks.specs.Trailer.{badSize, layoutOf}
 use Rattle.blocks.specs.Sound.{soundWith, sound}
-use Rattle.blocks.specs.Refusal.{badKey, badNewKey, badValue, Inserted}
+use Rattle.blocks.specs.Refusal.{badKey, badNewKey, badValue, Counted}
 use Rattle.store.specs.Insert.{insert}
-use Rattle.store.specs.Changeable.{Judged, Changeable}
+use Rattle.store.specs.Changeable.{FreeAnswer, Changeable}
 use Rattle.store.proofs.CallAnswers.{insert-answers}
 use Rattle.store.proofs.InsertCall.{key-fits, insert-number, insert-answer, insert-refused, insert-refused-count}
 
 -- an insertion that is refused: the number, a zero and the block as it was
-abbrev pub refusedInsert : ℕ → List ℕ → Inserted
+abbrev pub refusedInsert : ℕ → List ℕ → Counted
 refusedInsert number block = record { answer = number; count = 0; block = block }
 
 module _ (b key : List ℕ) (value : ℕ) where
@@ -29,7 +29,7 @@ module _ (b key : List ℕ) (value : ℕ) where
   insert-size bad = refused-as 1 (insert-number b key value ∙ insert-answers b key value .0 .given (tt, bad)) (λ e. omega arith)
 
   module _ (size : badSize b ≡ false) where
-    module _ (layout : Layout) (numbers : List ℕ) (passed : Bool) (count : ℕ) (stated : layout ≡ layoutOf b) (judged : Judged layout b numbers passed count) where
+    module _ (layout : Layout) (numbers : List ℕ) (passed : Bool) (count : ℕ) (stated : layout ≡ layoutOf b) (judged : FreeAnswer layout b numbers passed count) where
       told : sound b ≡ passed
       told = sym (judged .verdict ∙ ap (λ (l : Layout). soundWith l b) stated)
 

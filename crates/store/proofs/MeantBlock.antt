@@ -33,7 +33,7 @@ BlockMeans b c i =
     × TreeMeans (layoutOf b) (memoryOf b) keyLimit (slotWord (layoutOf b) b slot) c i)
 
 -- what such blocks have in common
-pub record JudgedAlike (b b′ : List ℕ) : Type 0 where
+pub record AnswersAlike (b b′ : List ℕ) : Type 0 where
   pub answer : validate b ≡ validate b′
   pub reaches : reachable (layoutOf b) b ≡ reachable (layoutOf b′) b′
   pub frees : free (layoutOf b) b ≡ free (layoutOf b′) b′
@@ -196,8 +196,8 @@ module _ (b b′ : List ℕ) (size : length b ≡ length b′) (alike : AlikeAt 
       table-alike (layoutOf b) (memoryOf b) (memoryOf b′) keyLimit w (p .cells) (p .found) means key
       ∙ ap (λ (l : Layout). lookup l (memoryOf b′) w key) (sym layout-is)
 
-  pub judged-alike : JudgedAlike b b′
-  judged-alike =
+  pub answers-alike : AnswersAlike b b′
+  answers-alike =
       record {
         answer = validate-same;
         reaches = reachable-same;

@@ -7,7 +7,7 @@ use lib.ListN.{length}
 use Rattle.cells.specs.Bytes.{IsBytes}
 use Rattle.updates.specs.Commit.{buildWrites}
 use Rattle.blocks.specs.Trailer.{layoutOf}
-use Rattle.blocks.specs.Refusal.{Changed, Inserted}
+use Rattle.blocks.specs.Refusal.{Changed, Counted}
 use Rattle.store.specs.Free.{free}
 use Rattle.store.specs.Format.{format}
 use Rattle.store.specs.Committed.{numbering}
@@ -27,7 +27,7 @@ format-told = determined.format-told
 pub insert-meets : (b key : List ℕ) (value : ℕ) → InsertTable b key value (insert b key value)
 insert-meets = insert-table
 
-pub insert-told : (b key : List ℕ) (value : ℕ) (r : Inserted) → IsBytes b → IsBytes key → InsertTable b key value r → r ≡ insert b key value
+pub insert-told : (b key : List ℕ) (value : ℕ) (r : Counted) → IsBytes b → IsBytes key → InsertTable b key value r → r ≡ insert b key value
 insert-told = determined.insert-told
 
 -- every write of a build that fits, but for the root word, goes into a free cell

@@ -2,12 +2,12 @@
 use mathlib.Core.Path.{_≡_}
 use mathlib.Core.Bool.{Bool, true, false}
 use mathlib.Core.List.{List}
-use Prim.Native.Nat.{ℕ, _≤_}
+use Prim.Native.Nat.{ℕ, _+_, _*_, _≤_, _<_}
 use lib.Dec.{leb}
-use lib.ListN.{length, take}
+use lib.ListN.{length, getD, take}
 use Rattle.nodes.specs.Layout.{Layout, keyLimit}
 use Rattle.staging.specs.Stage.{stageCells}
-use Rattle.staging.specs.declared.stage.Made.{Made}
+use Rattle.staging.specs.declared.stage.BuildState.{BuildState}
 use Rattle.updates.specs.Built.{Built}
 use Rattle.updates.specs.Staged.{builtOf}
 use Rattle.blocks.specs.Trailer.{badSize, layoutOf}
@@ -20,7 +20,7 @@ abbrev pub FreeListed : Layout → List ℕ → List ℕ → ℕ → Type 0
 FreeListed layout block numbers count = Listed numbers count (take stageCells (free layout block))
 
 -- a block judged, and its free cells listed where it is sound
-pub record Judged (layout : Layout) (block numbers : List ℕ) (passed : Bool) (count : ℕ) : Type 0 where
+pub record FreeAnswer (layout : Layout) (block numbers : List ℕ) (passed : Bool) (count : ℕ) : Type 0 where
   pub verdict : passed ≡ soundWith layout block
   pub listed : passed ≡ true → FreeListed layout block numbers count
 
@@ -33,6 +33,10 @@ pub record Changeable (layout : Layout) (block numbers : List ℕ) (count : ℕ)
   pub short : length key ≤ keyLimit
 
 -- a build in the stage, and whether as many cells are free
-pub record InStage (layout : Layout) (block : List ℕ) (b : Built) (made : Made) (stage : List ℕ) (fits : Bool) : Type 0 where
+pub record InStage (layout : Layout) (block : List ℕ) (b : Built) (made : BuildState) (stage : List ℕ) (fits : Bool) : Type 0 where
   pub built : builtOf made stage ≡ b
   pub fitting : fits ≡ leb (made .count) (length (free layout block))
+
+-- the cells of the first so many numbers lie inside so many bytes
+abbrev pub Inside : List ℕ → ℕ → ℕ → Type 0
+Inside numbers count size = (i : ℕ) → i < count → getD numbers i 0 * 32 + 32 ≤ size

@@ -1,7 +1,6 @@
 -- A build written into a block, its cells at the numbers of free ones.
 use mathlib.Core.List.{List, [], _∷_, _++_}
-use Prim.Native.Nat.{ℕ, _+_, _*_, _≤_, _<_}
-use lib.ListN.{getD}
+use Prim.Native.Nat.{ℕ, _+_}
 use Rattle.cells.specs.Writes.{Write, written}
 use Rattle.nodes.specs.Layout.{Layout}
 use Rattle.staging.specs.Numbering.{numberFrom}
@@ -9,10 +8,6 @@ use Rattle.updates.specs.Built.{Built}
 use Rattle.updates.specs.Commit.{buildWrites}
 use Rattle.blocks.specs.Trailer.{rootAt, layoutOf}
 use Rattle.store.specs.Free.{free}
-
--- the cells of the first so many numbers lie inside so many bytes
-abbrev pub Inside : List ℕ → ℕ → ℕ → Type 0
-Inside numbers count size = (i : ℕ) → i < count → getD numbers i 0 * 32 + 32 ≤ size
 
 -- the cells in the order allocated, eight words each in rising position, then the root word; 01: "The root word is then set."
 unfoldable pub commitWrites : Layout → (ℕ → ℕ) → Built → List Write

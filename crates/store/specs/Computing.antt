@@ -19,9 +19,9 @@ use Rattle.nodes.specs.Value.{pointerValue}
 use Rattle.trees.specs.Tree.{spread, step, tree}
 use Rattle.trees.specs.Root.{isRoot, rootTree, onceVisited, cellsOf}
 use Rattle.trees.specs.Lookup.{lookup}
-use Rattle.staging.specs.NewCells.{blank, chainCell, prefixCell, pairCell, sparsePair, withoutCharacters, sparseCopy, withOrder, appendedCell, tableCopy, headCopy, withWords}
+use Rattle.staging.specs.NewCells.{blank, chainCell, prefixCell, pairCell, sparsePair, withoutCharacters, sparseCopy, withOrder, appendedCell, branchCopy, headCopy, withWords}
 use Rattle.updates.specs.Built.{allocate, room, characterBefore, chainWith, chainOver}
-use Rattle.updates.specs.SplitBuild.{tableRow, rows, endRow, midRow, splitOf, splitCopied}
+use Rattle.updates.specs.SplitBuild.{branchRow, rows, endRow, midRow, splitOf, splitCopied}
 use Rattle.updates.specs.SetChild.{chainSet, sparseSet, setChild}
 use Rattle.updates.specs.Build.{wordAside, putBack, childOf, pathCopy, valueAt, build, cellsNeeded}
 use Rattle.staging.specs.Numbering.{numberFrom}
@@ -48,7 +48,7 @@ treesOpen = tt
 
 -- the build of an insertion
 unfoldable pub buildsOpen : Unit {0}
-unfolding blank chainCell prefixCell pairCell sparsePair withoutCharacters sparseCopy withOrder appendedCell tableCopy headCopy withWords allocate room characterBefore chainWith chainOver tableRow rows endRow midRow splitOf splitCopied chainSet sparseSet setChild wordAside pointerValue putBack childOf pathCopy valueAt build cellsNeeded numberFrom buildWrites
+unfolding blank chainCell prefixCell pairCell sparsePair withoutCharacters sparseCopy withOrder appendedCell branchCopy headCopy withWords allocate room characterBefore chainWith chainOver branchRow rows endRow midRow splitOf splitCopied chainSet sparseSet setChild wordAside pointerValue putBack childOf pathCopy valueAt build cellsNeeded numberFrom buildWrites
 buildsOpen = tt
 
 -- the calls, with all of these

@@ -8,7 +8,7 @@ use Rattle.cells.specs.Memory.{memoryOf}
 use Rattle.updates.specs.Built.{Built}
 use Rattle.updates.specs.Build.{build, cellsNeeded}
 use Rattle.blocks.specs.Trailer.{layoutOf, rootWord}
-use Rattle.blocks.specs.Refusal.{Refusal, refusal, firstRefusal, Inserted, badNewKey, badValue}
+use Rattle.blocks.specs.Refusal.{Refusal, refusal, firstRefusal, Counted, badNewKey, badValue}
 use Rattle.blocks.specs.Read.{blockRefusals}
 use Rattle.store.specs.Free.{free}
 use Rattle.store.specs.Committed.{numbering, committed}
@@ -35,7 +35,7 @@ blockBuild block key value =
     build layout (numbering block) (memoryOf block) (rootWord layout block) key value
 
 -- 01: "The answer counts the cells taken."
-unfoldable pub insert : List ℕ → List ℕ → ℕ → Inserted
+unfoldable pub insert : List ℕ → List ℕ → ℕ → Counted
 insert block key value =
     let answer = firstRefusal (insertRefusals block key value) in
     let b = blockBuild block key value in

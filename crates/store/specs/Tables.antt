@@ -12,9 +12,9 @@ use Rattle.nodes.specs.Layout.{usable}
 use Rattle.trees.specs.Lookup.{emptyTable, update}
 use Rattle.blocks.specs.Trailer.{badSize, layoutOf, inUse}
 use Rattle.blocks.specs.Sound.{sound, reachable}
-use Rattle.blocks.specs.Refusal.{Changed, Inserted, badNewKey, badValue}
+use Rattle.blocks.specs.Refusal.{Changed, Counted, badNewKey, badValue}
 use Rattle.blocks.specs.Read.{shown}
-use Rattle.blocks.specs.Tables.{Exactly, Asked, Passes}
+use Rattle.blocks.specs.Tables.{Exactly, PassesKey, Passes}
 use Rattle.blocks.specs.After.{slotShown, After}
 use Rattle.store.specs.Free.{allocationOrder, free}
 use Rattle.store.specs.Format.{newLayout, freshOf, badNewSize}
@@ -45,13 +45,13 @@ pub record FormatTable (b : List ℕ) (r : Changed) : Type 0 where
   pub fresh : r .answer ≡ 0 → Fresh 1 b (r .block)
 
 -- 01's table for an insertion
-pub record InsertTable (b key : List ℕ) (value : ℕ) (r : Inserted) : Type 0 where
+pub record InsertTable (b key : List ℕ) (value : ℕ) (r : Counted) : Type 0 where
   pub bad-size : Exactly (r .answer) 1 (badSize b ≡ true)
   pub unsound : Exactly (r .answer) 2 ((badSize b ≡ false) × (sound b ≡ false))
   pub bad-key : Exactly (r .answer) 3 (Passes b × (badNewKey key ≡ true))
-  pub bad-value : Exactly (r .answer) 4 (Asked b (badNewKey key) × (badValue value ≡ true))
-  pub no-room : Exactly (r .answer) 7 (Asked b (badNewKey key) × ((badValue value ≡ false) × (cellsFree b < cellsToInsert b key)))
-  pub done : Exactly (r .answer) 0 (Asked b (badNewKey key) × ((badValue value ≡ false) × (cellsToInsert b key ≤ cellsFree b)))
+  pub bad-value : Exactly (r .answer) 4 (PassesKey b (badNewKey key) × (badValue value ≡ true))
+  pub no-room : Exactly (r .answer) 7 (PassesKey b (badNewKey key) × ((badValue value ≡ false) × (cellsFree b < cellsToInsert b key)))
+  pub done : Exactly (r .answer) 0 (PassesKey b (badNewKey key) × ((badValue value ≡ false) × (cellsToInsert b key ≤ cellsFree b)))
   pub refused : r .answer ≢ 0 → (r .count ≡ 0) × (r .block ≡ b)
   -- the block left shows the old table with the value at the key, and each slot what it did
   pub after : IsBytes b → IsBytes key → r .answer ≡ 0 → After b (r .block) (update (shown b) key value) (inUse (layoutOf b) b) (slotShown b)

@@ -7,10 +7,11 @@ ghost use Rattle.staging.specs.Stage.{stageCells, staged};
 ghost use Rattle.updates.specs.Commit.{buildWrites};
 ghost use Rattle.updates.specs.Staged.{builtOf};
 ghost use Rattle.blocks.specs.Fits.{Fits};
-ghost use Rattle.store.specs.Committed.{Inside, commitWrites};
+ghost use Rattle.store.specs.Committed.{commitWrites};
+ghost use Rattle.store.specs.Changeable.{Inside};
 use blocks::trailer_writes::put_root;
 use nodes::layout::Layout;
-use staging::stage::Made;
+use staging::stage::BuildState;
 use staging::stage::STAGE_CELLS;
 use staging::stage::STAGE_SIZE;
 use staging::stage::copy_cell;
@@ -39,7 +40,7 @@ pub fn commit(
     block: &mut [u8],
     stage: &[u8; STAGE_SIZE],
     numbers: &[u16; STAGE_CELLS],
-    made: Made,
+    made: BuildState,
 )
     requires { ⌜ Fits layout (length (now block)) × (made .count ≤ stageCells) × Inside (now numbers) (made .count) (length (now block)) ⌝ }
     ensures { λ _. ⌜ now (block .exit) ≡ written (now (block .entry)) (commitWrites layout (λ i. getD (now (numbers .entry)) i 0) (builtOf made (now (stage .entry)))) ⌝ }

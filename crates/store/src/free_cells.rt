@@ -6,7 +6,7 @@ ghost use Rattle.nodes.specs.Layout.{leastCells, cellLimit};
 ghost use Rattle.staging.specs.Stage.{stageCells};
 ghost use Rattle.blocks.specs.Fits.{Fits};
 ghost use Rattle.store.specs.Unstamped.{unstamped, Listed};
-ghost use Rattle.store.specs.Changeable.{Judged};
+ghost use Rattle.store.specs.Changeable.{FreeAnswer};
 use blocks::trailer_fields::root_word;
 use blocks::validate::is_sound;
 use nodes::layout::CELL_LIMIT;
@@ -59,7 +59,7 @@ fn free_cells(
 // Judges a block and lists its free cells; the stamps are not needed any longer then.
 pub fn free_list(layout: Layout, block: &[u8], numbers: &mut [u16; STAGE_CELLS]) -> FreeList
     requires { ⌜ Fits layout (length (now block)) ⌝ }
-    ensures { λ r. ⌜ Judged layout (now (block .entry)) (now (numbers .exit)) (r .sound) (r .count) ⌝ }
+    ensures { λ r. ⌜ FreeAnswer layout (now (block .entry)) (now (numbers .exit)) (r .sound) (r .count) ⌝ }
 {
     let mut stamps = [0u8; CELL_LIMIT];
     if !is_sound(layout, block, &mut stamps) {

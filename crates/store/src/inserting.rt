@@ -1,27 +1,27 @@
 // Insertion of a pair into a block.
 ghost use mathlib.Core.Path.{_≡_};
 ghost use mathlib.Core.Bool.{false};
-ghost use Rattle.blocks.specs.Answers.{insertedOutcome};
+ghost use Rattle.blocks.specs.Answers.{countedOutcome};
 ghost use Rattle.blocks.specs.Refusal.{badNewKey, badValue};
 ghost use Rattle.store.specs.Insert.{blockBuild, insert};
 ghost use Rattle.store.specs.Changeable.{Changeable, InStage};
 use crate::committing::commit;
 use crate::free_cells::free_list;
-use blocks::answer::InsertAnswer;
+use blocks::answer::CountAnswer;
 use blocks::answer::Refusal;
 use blocks::key::is_bad_key;
 use blocks::trailer_fields::is_bad_size;
 use blocks::trailer_fields::layout_of;
 use blocks::trailer_fields::root_word;
 use nodes::layout::Layout;
-use staging::stage::Made;
+use staging::stage::BuildState;
 use staging::stage::STAGE_CELLS;
 use staging::stage::STAGE_SIZE;
 use updates::build::build;
 
 // What is built in the stage, and whether as many cells are free.
 pub struct Staged {
-    pub made: Made,
+    pub made: BuildState,
     pub fits: bool,
 }
 
@@ -52,39 +52,39 @@ fn insert_valid(
     free: usize,
     key: &[u8],
     value: u32,
-) -> InsertAnswer
+) -> CountAnswer
     requires { ⌜ Changeable layout (now block) (now numbers) free (now key) × (badNewKey (now key) ≡ false) × (badValue value ≡ false) ⌝ }
-    ensures { λ r. ⌜ insert (now (block .entry)) (now (key .entry)) value ≡ insertedOutcome r (now (block .exit)) ⌝ }
+    ensures { λ r. ⌜ insert (now (block .entry)) (now (key .entry)) value ≡ countedOutcome r (now (block .exit)) ⌝ }
 {
     let mut stage = [0u8; STAGE_SIZE];
     let staged = stage_insertion(layout, block, numbers, free, &mut stage, key, value);
     if !staged.fits {
-        return InsertAnswer::Refused(Refusal::NoRoom);
+        return CountAnswer::Refused(Refusal::NoRoom);
     }
     let made = staged.made;
     let count = made.count;
     commit(layout, block, &stage, numbers, made);
-    InsertAnswer::Done(count as u32)
+    CountAnswer::Done(count as u32)
 }
 
 // Inserts a pair into a block and tells how many cells it allocated.
-pub fn insert(block: &mut [u8], key: &[u8], value: u32) -> InsertAnswer
-    ensures { λ r. ⌜ insert (now (block .entry)) (now (key .entry)) value ≡ insertedOutcome r (now (block .exit)) ⌝ }
+pub fn insert(block: &mut [u8], key: &[u8], value: u32) -> CountAnswer
+    ensures { λ r. ⌜ insert (now (block .entry)) (now (key .entry)) value ≡ countedOutcome r (now (block .exit)) ⌝ }
 {
     if is_bad_size(block) {
-        return InsertAnswer::Refused(Refusal::BadSize);
+        return CountAnswer::Refused(Refusal::BadSize);
     }
     let layout = layout_of(block);
     let mut numbers = [0u16; STAGE_CELLS];
     let free = free_list(layout, block, &mut numbers);
     if !free.sound {
-        return InsertAnswer::Refused(Refusal::Unsound);
+        return CountAnswer::Refused(Refusal::Unsound);
     }
     if is_bad_key(key) {
-        return InsertAnswer::Refused(Refusal::BadKey);
+        return CountAnswer::Refused(Refusal::BadKey);
     }
     if 2147483647 < value {
-        return InsertAnswer::Refused(Refusal::BadValue);
+        return CountAnswer::Refused(Refusal::BadValue);
     }
     let count = free.count;
     insert_valid(layout, block, &numbers, count, key, value)

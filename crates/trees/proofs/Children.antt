@@ -15,7 +15,7 @@ use Rattle.nodes.specs.Pointer.{Pointer, pointer}
 use Rattle.nodes.specs.Pointer.Pointer.{nothing, leaf, chain, split, sparse, prefix, invalid}
 use Rattle.nodes.specs.Chain.{chainCharacter, chainChild}
 use Rattle.nodes.specs.Sparse.{sparseWord, sparseCharacter, sparseDigits, sparseCount, validSparse, sparseChild}
-use Rattle.nodes.specs.Split.{headWord, tableWord, validHead, under, endCells, midCells, headCells, wordBelow, splitChild}
+use Rattle.nodes.specs.Split.{headWord, branchWord, validHead, under, endCells, midCells, headCells, wordBelow, splitChild}
 use Rattle.nodes.specs.Prefix.{prefixValue}
 use Rattle.nodes.specs.Node.{Node, childless, chainNode, sparseNode, splitNode, plain, readAt, read}
 use Rattle.nodes.proofs.Pointers.{names}
@@ -52,30 +52,30 @@ sparse-parent bytes c each valid = (sparseCharacter bytes 0, each .below 0x18, s
 module _ (layout : Layout) (m : Memory) where
   -- the child of a split by the parts of its character: word of the head, of the mid and of the end
   split-child-parts : (c i j l mid end : ℕ) → i < 4 → j < 8 → l < 8 → pointer layout (headWord (m c) i) ≡ split mid
-      → pointer layout (tableWord (m mid) j) ≡ split end → splitChild m c (i * 64 + j * 8 + l) ≡ tableWord (m end) l
+      → pointer layout (branchWord (m mid) j) ≡ split end → splitChild m c (i * 64 + j * 8 + l) ≡ branchWord (m end) l
   unfolding splitChild
   split-child-parts c i j l mid end low middle last to-mid to-end =
       let top : (i * 64 + j * 8 + l) / 64 ≡ i = omega arith in
       let inner : (i * 64 + j * 8 + l) / 8 % 8 ≡ j = omega arith in
       let rest : (i * 64 + j * 8 + l) % 8 ≡ l = omega arith in
       rw (top, inner, rest)
-      (ap (λ u. wordBelow m u l) (below-split layout m (headWord (m c) i) mid j to-mid) ∙ below-split layout m (tableWord (m mid) j) end l to-end)
+      (ap (λ u. wordBelow m u l) (below-split layout m (headWord (m c) i) mid j to-mid) ∙ below-split layout m (branchWord (m mid) j) end l to-end)
 
   -- an end has a pointer, a mid has one to an end, and a split one to a mid
   end-pointer : (w : ℕ) (a : List ℕ) → w ≢ 0 → under (endCells layout m) w ≡ some a
-      → (end : ℕ) × (l : ℕ) × (pointer layout w ≡ split end) × (l < 8) × (tableWord (m end) l ≢ 0)
+      → (end : ℕ) × (l : ℕ) × (pointer layout w ≡ split end) × (l < 8) × (branchWord (m end) l ≢ 0)
   end-pointer w a other e =
       let r = end-cut layout m w a (sym (under-word (endCells layout m) w other) ∙ e) in
-      let l = some-word-at (tableWord (m (r .0))) 8 0 (r .2) in
+      let l = some-word-at (branchWord (m (r .0))) 8 0 (r .2) in
       (r .0, l .0, r .1, l .2, l .3)
 
   mid-pointer : (w : ℕ) (a : List ℕ) → w ≢ 0 → under (midCells layout m) w ≡ some a
-      → (mid : ℕ) × (j : ℕ) × (b : List ℕ) × (pointer layout w ≡ split mid) × (j < 8) × (tableWord (m mid) j ≢ 0)
-      × (under (endCells layout m) (tableWord (m mid) j) ≡ some b)
+      → (mid : ℕ) × (j : ℕ) × (b : List ℕ) × (pointer layout w ≡ split mid) × (j < 8) × (branchWord (m mid) j ≢ 0)
+      × (under (endCells layout m) (branchWord (m mid) j) ≡ some b)
   mid-pointer w a other e =
       let r = mid-cut layout m w a (sym (under-word (midCells layout m) w other) ∙ e) in
-      let j = some-word-at (tableWord (m (r .0))) 8 0 (r .3) in
-      let at = gather-at (λ l. under (endCells layout m) (tableWord (m (r .0)) l)) 8 0 (j .0) (r .1) (j .1) (j .2) (r .4) in
+      let j = some-word-at (branchWord (m (r .0))) 8 0 (r .3) in
+      let at = gather-at (λ l. under (endCells layout m) (branchWord (m (r .0)) l)) 8 0 (j .0) (r .1) (j .1) (j .2) (r .4) in
       (r .0, j .0, at .0, r .2, j .2, j .3, at .1)
 
   head-pointer : (c : ℕ) (cs : List ℕ) → validHead (m c) ≡ true → headCells layout m c ≡ some cs
@@ -85,10 +85,10 @@ module _ (layout : Layout) (m : Memory) where
       let at = gather-at (λ j. under (midCells layout m) (headWord (m c) j)) 4 0 (i .0) cs (i .1) (i .2) (sym (head-is layout m c) ∙ found) in
       (i .0, at .0, i .2, i .3, at .1)
 
-  end-parent : (c i j mid : ℕ) (b cs : List ℕ) → i < 4 → pointer layout (headWord (m c) i) ≡ split mid → j < 8 → tableWord (m mid) j ≢ 0
-      → under (endCells layout m) (tableWord (m mid) j) ≡ some b → Parent (splitNode m c cs)
+  end-parent : (c i j mid : ℕ) (b cs : List ℕ) → i < 4 → pointer layout (headWord (m c) i) ≡ split mid → j < 8 → branchWord (m mid) j ≢ 0
+      → under (endCells layout m) (branchWord (m mid) j) ≡ some b → Parent (splitNode m c cs)
   end-parent c i j mid b cs low to-mid middle other found =
-      let r = end-pointer (tableWord (m mid) j) b other found in
+      let r = end-pointer (branchWord (m mid) j) b other found in
       let last : r .1 < 8 = r .3 in (
         i * 64 + j * 8 + r .1,
         omega arith,

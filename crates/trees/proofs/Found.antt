@@ -13,11 +13,11 @@ use Rattle.nodes.specs.Pointer.{pointer}
 use Rattle.trees.specs.Root.{isRoot, rootTree}
 use Rattle.trees.specs.Entries.{Entry, entries, nextEntry}
 use Rattle.trees.specs.NextWalk.{nextFrom}
-use Rattle.trees.specs.Coded.{Grown, Told}
+use Rattle.trees.specs.Coded.{Grown, KeyWritten}
 use Rattle.trees.specs.declared.next_key.NextStep.{NextStep}
 use Rattle.trees.proofs.NextParts.{key-of-some, key-of-none}
 use Rattle.trees.proofs.NextWalk.{next-key}
-use Rattle.trees.proofs.NextTold.{no-key-told, key-told}
+use Rattle.trees.proofs.NextWritten.{no-key-told, key-told}
 
 -- a root that obeys every rule has a tree
 pub root-grown : (layout : Layout) (m : Memory) (word : ℕ) (cs : List ℕ) → rootTree layout m word ≡ some cs → Grown layout m keyLimit word
@@ -25,7 +25,7 @@ unfolding rootTree
 root-grown layout m word cs e = (cs, kept (isRoot (pointer layout word)) e .1)
 
 module _ (layout : Layout) (m : Memory) (bytes : (c : ℕ) → IsBytes (m c)) (word : ℕ) (g : Grown layout m keyLimit word) (key : List ℕ)
-    (each : IsBytes key) (characters : List ℕ) (step : NextStep) (told : Told characters 0 step (nextFrom layout m keyLimit word key)) where
+    (each : IsBytes key) (characters : List ℕ) (step : NextStep) (told : KeyWritten characters 0 step (nextFrom layout m keyLimit word key)) where
   -- no pair is next
   pub next-absent : step .found ≡ false → nextEntry key (entries layout m keyLimit word) ≡ none
   next-absent e = key-of-none _

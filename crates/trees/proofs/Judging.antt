@@ -9,88 +9,88 @@ use native.Mathlib.Omega.{arith}
 use lib.ListN.{getD, set}
 use Rattle.cells.proofs.Choice.{absurd-bool, absurd-false}
 use Rattle.nodes.specs.Split.{gather}
-use Rattle.trees.specs.Visit.{admit, visit, cellIf, Judged}
+use Rattle.trees.specs.Visit.{stampEach, visit, cellIf, VisitAnswer}
 use Rattle.trees.proofs.Joins.{joined, bind-assoc, bind-same, bind-swap, bind-of, bind-none, joined-nil, joined-end, joined-assoc}
 use Rattle.trees.proofs.Gathered.{gather-none, gather-first}
-use Rattle.trees.proofs.Admit.{admit-none, admit-twice, admit-new, admit-append}
+use Rattle.trees.proofs.Stamping.{stampEach-none, stampEach-twice, stampEach-new, stampEach-append}
 
 module _ (stamp : ℕ) where
   -- nothing found, no cells found, one cell, and one list behind the other
   pub visit-nothing : (stamps : List ℕ) → visit stamp none stamps ≡ none
-  visit-nothing stamps = bind-none (λ cs. admit stamp cs stamps)
+  visit-nothing stamps = bind-none (λ cs. stampEach stamp cs stamps)
 
-  pub visit-found : (cs stamps : List ℕ) → visit stamp (some cs) stamps ≡ admit stamp cs stamps
-  visit-found cs stamps = bind-of cs (λ cs. admit stamp cs stamps)
+  pub visit-found : (cs stamps : List ℕ) → visit stamp (some cs) stamps ≡ stampEach stamp cs stamps
+  visit-found cs stamps = bind-of cs (λ cs. stampEach stamp cs stamps)
 
   pub visit-empty : (stamps : List ℕ) → visit stamp (some []) stamps ≡ some stamps
-  visit-empty stamps = visit-found [] stamps ∙ admit-none stamp stamps
+  visit-empty stamps = visit-found [] stamps ∙ stampEach-none stamp stamps
 
   pub visit-joined : (o p : Option (List ℕ)) (stamps : List ℕ)
       → visit stamp (joined o p) stamps ≡ bind (visit stamp o stamps) (λ after. visit stamp p after)
   visit-joined o p stamps =
-      bind-assoc o (λ a. bind p (λ b. some (a ++ b))) (λ cs. admit stamp cs stamps)
-      ∙ bind-same o _ _ first ∙ sym (bind-assoc o (λ a. admit stamp a stamps) (λ after. visit stamp p after))
+      bind-assoc o (λ a. bind p (λ b. some (a ++ b))) (λ cs. stampEach stamp cs stamps)
+      ∙ bind-same o _ _ first ∙ sym (bind-assoc o (λ a. stampEach stamp a stamps) (λ after. visit stamp p after))
     where
-      first : (a : List ℕ) → visit stamp (bind p (λ b. some (a ++ b))) stamps ≡ bind (admit stamp a stamps) (λ after. visit stamp p after)
+      first : (a : List ℕ) → visit stamp (bind p (λ b. some (a ++ b))) stamps ≡ bind (stampEach stamp a stamps) (λ after. visit stamp p after)
       first a =
-          bind-assoc p (λ b. some (a ++ b)) (λ cs. admit stamp cs stamps)
-          ∙ bind-same p _ _ (λ b. visit-found (a ++ b) stamps ∙ admit-append stamp a b stamps)
-          ∙ bind-swap p (admit stamp a stamps) (λ b after. admit stamp b after)
+          bind-assoc p (λ b. some (a ++ b)) (λ cs. stampEach stamp cs stamps)
+          ∙ bind-same p _ _ (λ b. visit-found (a ++ b) stamps ∙ stampEach-append stamp a b stamps)
+          ∙ bind-swap p (stampEach stamp a stamps) (λ b after. stampEach stamp b after)
 
 -- a judgement from the visit itself, and from a visit that comes to the same
 module _ (cells : Option (List ℕ)) (stamp : ℕ) (before after : List ℕ) where
-  pub judged-passed : visit stamp cells before ≡ some after → Judged cells stamp before after true
+  pub judged-passed : visit stamp cells before ≡ some after → VisitAnswer cells stamp before after true
   judged-passed e = record { accepted = λ t. e; refused = λ t. absurd-bool t }
 
-  pub judged-failed : visit stamp cells before ≡ none → Judged cells stamp before after false
+  pub judged-failed : visit stamp cells before ≡ none → VisitAnswer cells stamp before after false
   judged-failed e = record { accepted = λ t. absurd-false t; refused = λ t. e }
 
   pub judged-by : (other : Option (List ℕ)) (between : List ℕ) (passed : Bool) → visit stamp cells before ≡ visit stamp other between
-      → Judged other stamp between after passed → Judged cells stamp before after passed
+      → VisitAnswer other stamp between after passed → VisitAnswer cells stamp before after passed
   judged-by other between passed e judged =
       record { accepted = λ t. e ∙ judged .accepted t; refused = λ t. e ∙ judged .refused t }
 
-  pub judged-same : (other : Option (List ℕ)) (passed : Bool) → cells ≡ other → Judged other stamp before after passed
-      → Judged cells stamp before after passed
+  pub judged-same : (other : Option (List ℕ)) (passed : Bool) → cells ≡ other → VisitAnswer other stamp before after passed
+      → VisitAnswer cells stamp before after passed
   judged-same other passed e judged = judged-by other before passed (ap (λ o. visit stamp o before) e) judged
 
   -- nothing found fails, and no cells pass
-  pub judged-none : cells ≡ none → Judged cells stamp before after false
+  pub judged-none : cells ≡ none → VisitAnswer cells stamp before after false
   judged-none e = judged-failed (ap (λ o. visit stamp o before) e ∙ visit-nothing stamp before)
 
-pub judged-empty : (cells : Option (List ℕ)) (stamp : ℕ) (stamps : List ℕ) → cells ≡ some [] → Judged cells stamp stamps stamps true
+pub judged-empty : (cells : Option (List ℕ)) (stamp : ℕ) (stamps : List ℕ) → cells ≡ some [] → VisitAnswer cells stamp stamps stamps true
 judged-empty cells stamp stamps e =
     judged-passed cells stamp stamps stamps (ap (λ o. visit stamp o stamps) e ∙ visit-empty stamp stamps)
 
 -- one cell that is valid, or is not
-pub cell-invalid : (c stamp : ℕ) (before after : List ℕ) (valid : Bool) → valid ≡ false → Judged (cellIf valid c) stamp before after false
+pub cell-invalid : (c stamp : ℕ) (before after : List ℕ) (valid : Bool) → valid ≡ false → VisitAnswer (cellIf valid c) stamp before after false
 cell-invalid c stamp before after valid t = judged-none (cellIf valid c) stamp before after (ap (λ b. cellIf b c) t)
 
-pub cell-valid : (c stamp : ℕ) (before after : List ℕ) (valid passed : Bool) → valid ≡ true → Judged (some (c ∷ [])) stamp before after passed
-    → Judged (cellIf valid c) stamp before after passed
+pub cell-valid : (c stamp : ℕ) (before after : List ℕ) (valid passed : Bool) → valid ≡ true → VisitAnswer (some (c ∷ [])) stamp before after passed
+    → VisitAnswer (cellIf valid c) stamp before after passed
 cell-valid c stamp before after valid passed t = judged-same (cellIf valid c) stamp before after (some (c ∷ [])) passed (ap (λ b. cellIf b c) t)
 
-pub cell-twice : (c stamp : ℕ) (before after : List ℕ) → getD before c 0 ≡ stamp → Judged (some (c ∷ [])) stamp before after false
+pub cell-twice : (c stamp : ℕ) (before after : List ℕ) → getD before c 0 ≡ stamp → VisitAnswer (some (c ∷ [])) stamp before after false
 cell-twice c stamp before after has =
-    judged-failed (some (c ∷ [])) stamp before after (visit-found stamp (c ∷ []) before ∙ admit-twice stamp c [] before has)
+    judged-failed (some (c ∷ [])) stamp before after (visit-found stamp (c ∷ []) before ∙ stampEach-twice stamp c [] before has)
 
-pub cell-new : (c stamp : ℕ) (before : List ℕ) → getD before c 0 ≢ stamp → Judged (some (c ∷ [])) stamp before (set before c stamp) true
+pub cell-new : (c stamp : ℕ) (before : List ℕ) → getD before c 0 ≢ stamp → VisitAnswer (some (c ∷ [])) stamp before (set before c stamp) true
 cell-new c stamp before other =
     judged-passed (some (c ∷ [])) stamp before (set before c stamp)
-    (visit-found stamp (c ∷ []) before ∙ admit-new stamp c [] before other ∙ admit-none stamp (set before c stamp))
+    (visit-found stamp (c ∷ []) before ∙ stampEach-new stamp c [] before other ∙ stampEach-none stamp (set before c stamp))
 
 -- two parts, of which the first fails, or passes and leaves the verdict to the second
 module _ (cells first second : Option (List ℕ)) (stamp : ℕ) (before between after : List ℕ) (passed : Bool)
-    (parts : cells ≡ joined first second) (judged : Judged first stamp before between passed) where
+    (parts : cells ≡ joined first second) (judged : VisitAnswer first stamp before between passed) where
   parts-visit : visit stamp cells before ≡ bind (visit stamp first before) (λ after. visit stamp second after)
   parts-visit = ap (λ o. visit stamp o before) parts ∙ visit-joined stamp first second before
 
-  pub first-failed : passed ≡ false → Judged cells stamp before after false
+  pub first-failed : passed ≡ false → VisitAnswer cells stamp before after false
   first-failed t =
       judged-failed cells stamp before after
       (parts-visit ∙ ap (λ o. bind o (λ after. visit stamp second after)) (judged .refused t) ∙ bind-none (λ after. visit stamp second after))
 
-  pub then-second : (result : Bool) → passed ≡ true → Judged second stamp between after result → Judged cells stamp before after result
+  pub then-second : (result : Bool) → passed ≡ true → VisitAnswer second stamp between after result → VisitAnswer cells stamp before after result
   then-second result t =
       judged-by cells stamp before after second between result
       (parts-visit ∙ ap (λ o. bind o (λ after. visit stamp second after)) (judged .accepted t) ∙ bind-of between (λ after. visit stamp second after))
@@ -105,7 +105,7 @@ module _ (cells : Option (List ℕ)) (f : ℕ → Option (List ℕ)) (rest : Opt
 
   module _ (left : ℕ) (more : count ≡ left + 1) where
     -- what is found at the place has two parts, of which the first is judged
-    module _ (first inner : Option (List ℕ)) (parts : f i ≡ joined first inner) (next : List ℕ) (passed : Bool) (judged : Judged first stamp here next passed) where
+    module _ (first inner : Option (List ℕ)) (parts : f i ≡ joined first inner) (next : List ℕ) (passed : Bool) (judged : VisitAnswer first stamp here next passed) where
       abbrev behind : Option (List ℕ)
       behind = joined inner (joined (gather f left (i + 1)) rest)
 
@@ -118,7 +118,7 @@ module _ (cells : Option (List ℕ)) (f : ℕ → Option (List ℕ)) (rest : Opt
           ∙ ap (λ o. joined o (joined (gather f left (i + 1)) rest)) parts ∙ joined-assoc first inner (joined (gather f left (i + 1)) rest))
           ∙ visit-joined stamp first behind here
 
-      pub part-fails : (after : List ℕ) → passed ≡ false → Judged cells stamp before after false
+      pub part-fails : (after : List ℕ) → passed ≡ false → VisitAnswer cells stamp before after false
       part-fails after t =
           judged-failed cells stamp before after
           (part-visit ∙ ap (λ o. bind o (λ after. visit stamp behind after)) (judged .refused t) ∙ bind-none (λ after. visit stamp behind after))
@@ -128,8 +128,8 @@ module _ (cells : Option (List ℕ)) (f : ℕ → Option (List ℕ)) (rest : Opt
           part-visit ∙ ap (λ o. bind o (λ after. visit stamp behind after)) (judged .accepted t) ∙ bind-of next (λ after. visit stamp behind after)
 
     -- all of it is judged
-    module _ (next : List ℕ) (passed : Bool) (judged : Judged (f i) stamp here next passed) where
-      pub walk-fails : (after : List ℕ) → passed ≡ false → Judged cells stamp before after false
+    module _ (next : List ℕ) (passed : Bool) (judged : VisitAnswer (f i) stamp here next passed) where
+      pub walk-fails : (after : List ℕ) → passed ≡ false → VisitAnswer cells stamp before after false
       walk-fails = part-fails (f i) (some []) (sym (joined-end (f i))) next passed judged
 
       pub walk-goes-on : passed ≡ true → visit stamp cells before ≡ visit stamp (joined (gather f left (i + 1)) rest) next
@@ -149,6 +149,6 @@ module _ (cells : Option (List ℕ)) (f : ℕ → Option (List ℕ)) (stamp : �
       ap (λ o. visit stamp o before) (e ∙ sym (joined-end (gather f all 0))) ∙ ap (λ n. visit stamp (joined (gather f n 0) (some [])) before) (sym whole)
 
   pub walk-ends : (i count : ℕ) (here : List ℕ) → visit stamp cells before ≡ visit stamp (joined (gather f count i) (some [])) here → count ≡ 0
-      → Judged cells stamp before here true
+      → VisitAnswer cells stamp before here true
   walk-ends i count here walked z =
       judged-passed cells stamp before here (walk-leaves cells f (some []) stamp before i count here walked z ∙ visit-empty stamp here)

@@ -14,7 +14,7 @@ pub mod NextParts
 pub mod NextWalk
 pub mod Joins
 pub mod Gathered
-pub mod Admit
+pub mod Stamping
 pub mod Judging
 pub mod Reordered
 pub mod ChildTrees
@@ -26,7 +26,7 @@ pub mod Reading
 pub mod RootCheck
 pub mod LookSteps
 pub mod NextSteps
-pub mod NextTold
+pub mod NextWritten
 pub mod NextAnswers
 pub mod Found
 pub mod MeantTree

@@ -22,11 +22,11 @@ use Rattle.nodes.proofs.StepRead.{value-read}
 use Rattle.nodes.proofs.FirstStep.{least-read}
 use Rattle.trees.specs.Tree.{tree}
 use Rattle.trees.specs.NextWalk.{behind, firstKey, nextFrom}
-use Rattle.trees.specs.Coded.{Grown, keyBelow, Told}
+use Rattle.trees.specs.Coded.{Grown, keyBelow, KeyWritten}
 use Rattle.trees.specs.declared.next_key.NextStep.{NextStep}
 use Rattle.trees.proofs.LookSteps.{grown-read, child-grown, rest-none}
 use Rattle.trees.proofs.NextSteps.{AmongLeast, least-held, told-least, told-no-least, below-none, below-some, first-own-key, first-below-key, next-at-end, next-stops, next-grown, next-inside, next-outside}
-use Rattle.trees.proofs.NextTold.{told-same, noKey, keyOfSize, told-none, no-key-told, key-told, told-one, told-more}
+use Rattle.trees.proofs.NextWritten.{told-same, noKey, keyOfSize, told-none, no-key-told, key-told, told-one, told-more}
 
 -- the least key below a node's children, which is written from a position on
 module _ (layout : Layout) (m : Memory) (at w from : ℕ) (room : at ≤ keyLimit) (g : Grown layout m (keyLimit - at) w)
@@ -35,7 +35,7 @@ module _ (layout : Layout) (m : Memory) (at w from : ℕ) (room : at ≤ keyLimi
   told-word = grown-read layout m (keyLimit - at) w g
 
   -- there is no child
-  pub first-missing : AmongLeast (1 ∷ 2 ∷ []) s → (characters : List ℕ) → Told characters at noKey (keyBelow layout m (keyLimit - (at + 1)) w from)
+  pub first-missing : AmongLeast (1 ∷ 2 ∷ []) s → (characters : List ℕ) → KeyWritten characters at noKey (keyBelow layout m (keyLimit - (at + 1)) w from)
   first-missing rest characters =
       let node = told-word in
       told-none characters at _ room
@@ -68,7 +68,7 @@ module _ (layout : Layout) (m : Memory) (at w from : ℕ) (room : at ≤ keyLimi
     -- the child has a value: its own key is its least
     pub first-one-written : (n : ℕ) → some n ≡ valueOf layout m v → (characters written : List ℕ)
         → (length characters ≡ keyLimit) × (written ≡ set characters at x)
-        → Told written at (keyOfSize 1) (keyBelow layout m (keyLimit - (at + 1)) w from)
+        → KeyWritten written at (keyOfSize 1) (keyBelow layout m (keyLimit - (at + 1)) w from)
     unfolding behind
     first-one-written n value characters written put =
         let node = grown-read layout m (keyLimit - (at + 1)) v (first-grown .1) in
@@ -79,7 +79,7 @@ module _ (layout : Layout) (m : Memory) (at w from : ℕ) (room : at ≤ keyLimi
 
     -- the child has no value: its least key is below its own children
     module _ (value : none ≡ valueOf layout m v) (characters : List ℕ) (step : NextStep)
-        (told : Told characters (at + 1) step (keyBelow layout m (keyLimit - (at + 1 + 1)) v 0)) where
+        (told : KeyWritten characters (at + 1) step (keyBelow layout m (keyLimit - (at + 1 + 1)) v 0)) where
       told-deeper : keyBelow layout m (keyLimit - (at + 1)) w from ≡ behind x (keyBelow layout m (keyLimit - (at + 1 + 1)) v 0)
       told-deeper =
           let node = grown-read layout m (keyLimit - (at + 1)) v (first-grown .1) in
@@ -90,14 +90,14 @@ module _ (layout : Layout) (m : Memory) (at w from : ℕ) (room : at ≤ keyLimi
           ∙ first-below-key layout m (keyLimit - (at + 1)) (keyLimit - (at + 1 + 1)) v (first-grown .1) (node .0) (node .1)
           (sym (value-read layout m v (node .0) (node .1)) ∙ sym value) (omega arith))
 
-      pub first-deeper-none : step .found ≡ false → Told characters at noKey (keyBelow layout m (keyLimit - (at + 1)) w from)
+      pub first-deeper-none : step .found ≡ false → KeyWritten characters at noKey (keyBelow layout m (keyLimit - (at + 1)) w from)
       unfolding behind
       first-deeper-none e =
           told-none characters at _ room (told-deeper ∙ ap (behind x) (no-key-told characters (at + 1) step _ told e))
 
       pub first-deeper-written : step .found ≡ true → (n : ℕ) → n ≡ step .size + 1 → (written : List ℕ)
           → (length characters ≡ keyLimit) × (written ≡ set characters at x)
-          → Told written at (keyOfSize n) (keyBelow layout m (keyLimit - (at + 1)) w from)
+          → KeyWritten written at (keyOfSize n) (keyBelow layout m (keyLimit - (at + 1)) w from)
       unfolding behind
       first-deeper-written e n size written put =
           told-more characters written at x n step _ (first-grown .0) put (told .fits)
@@ -106,8 +106,8 @@ module _ (layout : Layout) (m : Memory) (at w from : ℕ) (room : at ≤ keyLimi
 -- the least key greater than the rest of a key from a position on
 module _ (layout : Layout) (m : Memory) (i w : ℕ) (key : List ℕ) (g : Grown layout m (keyLimit - i) w) where
   -- the key is at its end
-  pub next-ended : length key ≤ i → (characters : List ℕ) (step : NextStep) → Told characters i step (keyBelow layout m (keyLimit - (i + 1)) w 0)
-      → Told characters i step (nextFrom layout m (keyLimit - i) w (drop i key))
+  pub next-ended : length key ≤ i → (characters : List ℕ) (step : NextStep) → KeyWritten characters i step (keyBelow layout m (keyLimit - (i + 1)) w 0)
+      → KeyWritten characters i step (nextFrom layout m (keyLimit - i) w (drop i key))
   next-ended past characters step told =
       told-same characters i step _ _ told
       (ap (nextFrom layout m (keyLimit - i) w) (rest-none key i past) ∙ next-at-end layout m (keyLimit - i) (keyLimit - (i + 1)) w g (omega arith))
@@ -118,17 +118,17 @@ module _ (layout : Layout) (m : Memory) (i w : ℕ) (key : List ℕ) (g : Grown 
 
     -- below a later character
     abbrev Later : List ℕ → NextStep → Type 0
-    Later characters step = Told characters i step (keyBelow layout m (keyLimit - (i + 1)) w (getD key i 0 + 1))
+    Later characters step = KeyWritten characters i step (keyBelow layout m (keyLimit - (i + 1)) w (getD key i 0 + 1))
 
     as-later : nextFrom layout m (keyLimit - i) w (getD key i 0 ∷ drop (i + 1) key) ≡ keyBelow layout m (keyLimit - (i + 1)) w (getD key i 0 + 1)
-        → (characters : List ℕ) (step : NextStep) → Later characters step → Told characters i step (nextFrom layout m (keyLimit - i) w (drop i key))
+        → (characters : List ℕ) (step : NextStep) → Later characters step → KeyWritten characters i step (nextFrom layout m (keyLimit - i) w (drop i key))
     as-later is characters step told =
         let depth : keyLimit - (i + 1) ≡ keyLimit - (i + 1) = omega arith in
         told-same characters i step _ _ told (at-character ∙ is ∙ ap (λ n. keyBelow layout m n w (getD key i 0 + 1)) depth)
 
     -- there is no child
     pub next-missing : AmongSteps (1 ∷ 2 ∷ []) s → (characters : List ℕ) (step : NextStep) → Later characters step
-        → Told characters i step (nextFrom layout m (keyLimit - i) w (drop i key))
+        → KeyWritten characters i step (nextFrom layout m (keyLimit - i) w (drop i key))
     next-missing others =
         as-later (next-stops layout m (keyLimit - i) (keyLimit - (i + 1)) w (getD key i 0) (drop (i + 1) key) near g (omega arith) s coded others)
 
@@ -140,10 +140,10 @@ module _ (layout : Layout) (m : Memory) (i w : ℕ) (key : List ℕ) (g : Grown 
           (omega (arith, r .0), r .1)
 
       module _ (characters : List ℕ) (step : NextStep)
-          (told : Told characters (i + 1) step (nextFrom layout m (keyLimit - (i + 1)) v (drop (i + 1) key))) where
+          (told : KeyWritten characters (i + 1) step (nextFrom layout m (keyLimit - (i + 1)) v (drop (i + 1) key))) where
         -- no key below the child is greater
         pub next-later : step .found ≡ false → (others : List ℕ) (last : NextStep) → Later others last
-            → Told others i last (nextFrom layout m (keyLimit - i) w (drop i key))
+            → KeyWritten others i last (nextFrom layout m (keyLimit - i) w (drop i key))
         next-later e =
             as-later
             (next-outside layout m (keyLimit - i) (keyLimit - (i + 1)) w (getD key i 0) (drop (i + 1) key) near g (omega arith) s coded v case
@@ -152,7 +152,7 @@ module _ (layout : Layout) (m : Memory) (i w : ℕ) (key : List ℕ) (g : Grown 
         -- one is
         pub next-written : step .found ≡ true → (n : ℕ) → n ≡ step .size + 1 → (written : List ℕ)
             → (length characters ≡ keyLimit) × (written ≡ set characters i (getD key i 0))
-            → Told written i (keyOfSize n) (nextFrom layout m (keyLimit - i) w (drop i key))
+            → KeyWritten written i (keyOfSize n) (nextFrom layout m (keyLimit - i) w (drop i key))
         next-written e n size written put =
             told-more characters written i (getD key i 0) n step _ (next-room .0) put (told .fits)
             (at-character

@@ -8,10 +8,10 @@ use native.Mathlib.Decide.{ℕ-discrete}
 use lib.ListN.{getD, set}
 use lib.Seq.{getD-set-other, set-comm}
 use Rattle.nodes.specs.Split.{gather}
-use Rattle.trees.specs.Visit.{admit, visit}
+use Rattle.trees.specs.Visit.{stampEach, visit}
 use Rattle.trees.proofs.Joins.{joined, bind-assoc, bind-same, bind-of, bind-none, bind-some, bind-to-none, joined-nil, joined-assoc}
 use Rattle.trees.proofs.Gathered.{gather-none, gather-first}
-use Rattle.trees.proofs.Admit.{admit-none, admit-twice, admit-new, admit-append}
+use Rattle.trees.proofs.Stamping.{stampEach-none, stampEach-twice, stampEach-new, stampEach-append}
 use Rattle.trees.proofs.Judging.{visit-nothing, visit-found, visit-joined}
 
 -- two steps over the stamps that come to the same in either order
@@ -34,68 +34,68 @@ commute-some f s = bind-some (f s) ∙ sym (bind-of s f)
 
 module _ (stamp : ℕ) where
   -- one cell
-  one-has : (c : ℕ) (s : List ℕ) → getD s c 0 ≡ stamp → (f : List ℕ → Option (List ℕ)) → bind (admit stamp (c ∷ []) s) f ≡ none
-  one-has c s has f = ap (λ o. bind o f) (admit-twice stamp c [] s has) ∙ bind-none f
+  one-has : (c : ℕ) (s : List ℕ) → getD s c 0 ≡ stamp → (f : List ℕ → Option (List ℕ)) → bind (stampEach stamp (c ∷ []) s) f ≡ none
+  one-has c s has f = ap (λ o. bind o f) (stampEach-twice stamp c [] s has) ∙ bind-none f
 
-  one-new : (c : ℕ) (s : List ℕ) → getD s c 0 ≢ stamp → (f : List ℕ → Option (List ℕ)) → bind (admit stamp (c ∷ []) s) f ≡ f (set s c stamp)
+  one-new : (c : ℕ) (s : List ℕ) → getD s c 0 ≢ stamp → (f : List ℕ → Option (List ℕ)) → bind (stampEach stamp (c ∷ []) s) f ≡ f (set s c stamp)
   one-new c s new f =
-      ap (λ o. bind o f) (admit-new stamp c [] s new ∙ admit-none stamp (set s c stamp)) ∙ bind-of (set s c stamp) f
+      ap (λ o. bind o f) (stampEach-new stamp c [] s new ∙ stampEach-none stamp (set s c stamp)) ∙ bind-of (set s c stamp) f
 
   -- two cells
   module _ (c d : ℕ) (s : List ℕ) (other : d ≢ c) where
-    second-has : getD s d 0 ≡ stamp → admit stamp (d ∷ []) (set s c stamp) ≡ none
-    second-has has = admit-twice stamp d [] (set s c stamp) (getD-set-other s c d stamp 0 other ∙ has)
+    second-has : getD s d 0 ≡ stamp → stampEach stamp (d ∷ []) (set s c stamp) ≡ none
+    second-has has = stampEach-twice stamp d [] (set s c stamp) (getD-set-other s c d stamp 0 other ∙ has)
 
-    second-new : getD s d 0 ≢ stamp → admit stamp (d ∷ []) (set s c stamp) ≡ some (set (set s c stamp) d stamp)
+    second-new : getD s d 0 ≢ stamp → stampEach stamp (d ∷ []) (set s c stamp) ≡ some (set (set s c stamp) d stamp)
     second-new new =
-        admit-new stamp d [] (set s c stamp) (λ e. new (sym (getD-set-other s c d stamp 0 other) ∙ e))
-        ∙ admit-none stamp (set (set s c stamp) d stamp)
+        stampEach-new stamp d [] (set s c stamp) (λ e. new (sym (getD-set-other s c d stamp 0 other) ∙ e))
+        ∙ stampEach-none stamp (set (set s c stamp) d stamp)
 
-  two-cells : (c d : ℕ) → Commute (admit stamp (c ∷ [])) (admit stamp (d ∷ []))
+  two-cells : (c d : ℕ) → Commute (stampEach stamp (c ∷ [])) (stampEach stamp (d ∷ []))
   two-cells c d s = elim (ℕ-discrete c d) [
     | yes same ↦
-        ap (λ n. bind (admit stamp (c ∷ []) s) (admit stamp (n ∷ []))) (sym same)
-        ∙ ap (λ n. bind (admit stamp (n ∷ []) s) (admit stamp (c ∷ []))) same
+        ap (λ n. bind (stampEach stamp (c ∷ []) s) (stampEach stamp (n ∷ []))) (sym same)
+        ∙ ap (λ n. bind (stampEach stamp (n ∷ []) s) (stampEach stamp (c ∷ []))) same
     | no other ↦ elim (ℕ-discrete (getD s c 0) stamp) [
-      | yes has ↦ one-has c s has (admit stamp (d ∷ [])) ∙ elim (ℕ-discrete (getD s d 0) stamp) [
-        | yes too ↦ sym (one-has d s too (admit stamp (c ∷ [])))
-        | no new ↦ sym (one-new d s new (admit stamp (c ∷ [])) ∙ second-has d c s other has)
+      | yes has ↦ one-has c s has (stampEach stamp (d ∷ [])) ∙ elim (ℕ-discrete (getD s d 0) stamp) [
+        | yes too ↦ sym (one-has d s too (stampEach stamp (c ∷ [])))
+        | no new ↦ sym (one-new d s new (stampEach stamp (c ∷ [])) ∙ second-has d c s other has)
       ]
-      | no fresh ↦ one-new c s fresh (admit stamp (d ∷ [])) ∙ elim (ℕ-discrete (getD s d 0) stamp) [
-        | yes has ↦ second-has c d s (λ e. other (sym e)) has ∙ sym (one-has d s has (admit stamp (c ∷ [])))
+      | no fresh ↦ one-new c s fresh (stampEach stamp (d ∷ [])) ∙ elim (ℕ-discrete (getD s d 0) stamp) [
+        | yes has ↦ second-has c d s (λ e. other (sym e)) has ∙ sym (one-has d s has (stampEach stamp (c ∷ [])))
         | no new ↦
             second-new c d s (λ e. other (sym e)) new ∙ ap some (set-comm s c d stamp stamp other)
-            ∙ sym (one-new d s new (admit stamp (c ∷ [])) ∙ second-new d c s other fresh)
+            ∙ sym (one-new d s new (stampEach stamp (c ∷ [])) ∙ second-new d c s other fresh)
       ]
     ]
   ]
 
   -- a cell and a list, and two lists
-  list-commutes : (f : List ℕ → Option (List ℕ)) → ((c : ℕ) → Commute f (admit stamp (c ∷ []))) → (cs : List ℕ) → Commute f (admit stamp cs)
-  list-commutes f each [] = commute-same f some (admit stamp []) (λ t. sym (admit-none stamp t)) (commute-some f)
+  list-commutes : (f : List ℕ → Option (List ℕ)) → ((c : ℕ) → Commute f (stampEach stamp (c ∷ []))) → (cs : List ℕ) → Commute f (stampEach stamp cs)
+  list-commutes f each [] = commute-same f some (stampEach stamp []) (λ t. sym (stampEach-none stamp t)) (commute-some f)
   list-commutes f each (c ∷ cs) =
-      commute-same f (λ t. bind (admit stamp (c ∷ []) t) (admit stamp cs)) (admit stamp (c ∷ cs))
-      (λ t. sym (admit-append stamp (c ∷ []) cs t))
-      (commute-then f (admit stamp (c ∷ [])) (admit stamp cs) (each c) (list-commutes f each cs))
+      commute-same f (λ t. bind (stampEach stamp (c ∷ []) t) (stampEach stamp cs)) (stampEach stamp (c ∷ cs))
+      (λ t. sym (stampEach-append stamp (c ∷ []) cs t))
+      (commute-then f (stampEach stamp (c ∷ [])) (stampEach stamp cs) (each c) (list-commutes f each cs))
 
-  lists-commute : (cs ds : List ℕ) → Commute (admit stamp cs) (admit stamp ds)
+  lists-commute : (cs ds : List ℕ) → Commute (stampEach stamp cs) (stampEach stamp ds)
   lists-commute cs ds =
-      list-commutes (admit stamp cs)
-      (λ d. commute-turned (admit stamp (d ∷ [])) (admit stamp cs) (list-commutes (admit stamp (d ∷ [])) (λ c. two-cells d c) cs)) ds
+      list-commutes (stampEach stamp cs)
+      (λ d. commute-turned (stampEach stamp (d ∷ [])) (stampEach stamp cs) (list-commutes (stampEach stamp (d ∷ [])) (λ c. two-cells d c) cs)) ds
 
   -- what is found, if anything
-  found-commutes : (f : List ℕ → Option (List ℕ)) → ((cs : List ℕ) → Commute f (admit stamp cs)) → (o : Option (List ℕ)) → Commute f (visit stamp o)
+  found-commutes : (f : List ℕ → Option (List ℕ)) → ((cs : List ℕ) → Commute f (stampEach stamp cs)) → (o : Option (List ℕ)) → Commute f (visit stamp o)
   found-commutes f each none =
       λ s.
       bind-same (f s) (visit stamp none) (λ t. none) (λ t. visit-nothing stamp t) ∙ bind-to-none (f s)
       ∙ sym (ap (λ o. bind o f) (visit-nothing stamp s) ∙ bind-none f)
   found-commutes f each (some cs) =
-      commute-same f (admit stamp cs) (visit stamp (some cs)) (λ t. sym (visit-found stamp cs t)) (each cs)
+      commute-same f (stampEach stamp cs) (visit stamp (some cs)) (λ t. sym (visit-found stamp cs t)) (each cs)
 
   pub visits-commute : (o p : Option (List ℕ)) → Commute (visit stamp o) (visit stamp p)
   visits-commute o p =
       found-commutes (visit stamp o)
-      (λ cs. commute-turned (admit stamp cs) (visit stamp o) (found-commutes (admit stamp cs) (lists-commute cs) o)) p
+      (λ cs. commute-turned (stampEach stamp cs) (visit stamp o) (found-commutes (stampEach stamp cs) (lists-commute cs) o)) p
 
 -- what comes to the same visit
 abbrev pub Alike : Option (List ℕ) → Option (List ℕ) → Type 0

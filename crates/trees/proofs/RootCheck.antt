@@ -14,9 +14,9 @@ use Rattle.nodes.specs.Layout.{Layout, keyLimit}
 use Rattle.nodes.specs.Pointer.{pointer}
 use Rattle.nodes.proofs.Pointers.{usable-inside}
 use Rattle.trees.specs.Root.{isRoot, rootTree, onceVisited, validRoot, cellsOf, rootCells}
-use Rattle.trees.specs.Visit.{admit, visit, Judged}
+use Rattle.trees.specs.Visit.{stampEach, visit, VisitAnswer}
 use Rattle.trees.proofs.Usable.{Usable, tree-usable}
-use Rattle.trees.proofs.Admit.{Inside, Admitted, admitted, distinct-admit, admit-refused}
+use Rattle.trees.proofs.Stamping.{Inside, StampedOnce, stamped-once, distinct-stamped, stampEach-refused}
 use Rattle.trees.proofs.Judging.{visit-nothing, visit-found}
 
 -- every cell that a root visits is usable
@@ -25,7 +25,7 @@ unfolding rootTree
 root-usable layout m word cs e = tree-usable layout m keyLimit word cs (kept (isRoot (pointer layout word)) e .1)
 
 -- a verdict on the cells found, over an array that has the stamp nowhere
-module _ (cells : Option (List ℕ)) (stamp : ℕ) (before after : List ℕ) (passed : Bool) (judged : Judged cells stamp before after passed)
+module _ (cells : Option (List ℕ)) (stamp : ℕ) (before after : List ℕ) (passed : Bool) (judged : VisitAnswer cells stamp before after passed)
     (inside : (cs : List ℕ) → cells ≡ some cs → Inside cs before) (fresh : (c : ℕ) → c < length before → getD before c 0 ≢ stamp) where
   pub judged-once : passed ≡ onceVisited cells
   unfolding onceVisited
@@ -35,27 +35,27 @@ module _ (cells : Option (List ℕ)) (stamp : ℕ) (before after : List ℕ) (pa
       by none e true p = never (sym (visit-nothing stamp before) ∙ ap (λ o. visit stamp o before) (sym e) ∙ judged .accepted p)
       by none e false p = refl
       by (some cs) e true p =
-          sym (distinct-admit stamp cs before (inside cs e) fresh after
+          sym (distinct-stamped stamp cs before (inside cs e) fresh after
           (sym (visit-found stamp cs before) ∙ ap (λ o. visit stamp o before) (sym e) ∙ judged .accepted p))
       by (some cs) e false p =
-          sym (admit-refused stamp cs before (inside cs e) fresh
+          sym (stampEach-refused stamp cs before (inside cs e) fresh
           (sym (visit-found stamp cs before) ∙ ap (λ o. visit stamp o before) (sym e) ∙ judged .refused p))
 
   -- where it passed: the cells that were found were admitted
-  pub judged-admits : passed ≡ true → (cells ≡ some (cellsOf cells)) × (admit stamp (cellsOf cells) before ≡ some after)
+  pub judged-stamps-each : passed ≡ true → (cells ≡ some (cellsOf cells)) × (stampEach stamp (cellsOf cells) before ≡ some after)
   unfolding cellsOf
-  judged-admits p = by cells refl
+  judged-stamps-each p = by cells refl
     where
-      by : (o : Option (List ℕ)) → cells ≡ o → (o ≡ some (cellsOf o)) × (admit stamp (cellsOf o) before ≡ some after)
+      by : (o : Option (List ℕ)) → cells ≡ o → (o ≡ some (cellsOf o)) × (stampEach stamp (cellsOf o) before ≡ some after)
       by none e = never (sym (visit-nothing stamp before) ∙ ap (λ o. visit stamp o before) (sym e) ∙ judged .accepted p)
       by (some cs) e = (refl, sym (visit-found stamp cs before) ∙ ap (λ o. visit stamp o before) (sym e) ∙ judged .accepted p)
 
-  pub judged-admitted : passed ≡ true → Admitted stamp (cellsOf cells) before after
-  judged-admitted p = let a = judged-admits p in admitted stamp (cellsOf cells) before after (inside (cellsOf cells) (a .0)) (a .1)
+  pub judged-stamped-once : passed ≡ true → StampedOnce stamp (cellsOf cells) before after
+  judged-stamped-once p = let a = judged-stamps-each p in stamped-once stamp (cellsOf cells) before after (inside (cellsOf cells) (a .0)) (a .1)
 
 -- a root: it passed just where it is valid, and then the cells that it visits have the stamp, and all others are as before
 module _ (layout : Layout) (m : Memory) (word stamp : ℕ) (before after : List ℕ) (passed : Bool)
-    (judged : Judged (rootTree layout m word) stamp before after passed) (room : layout .cells ≤ length before)
+    (judged : VisitAnswer (rootTree layout m word) stamp before after passed) (room : layout .cells ≤ length before)
     (fresh : (c : ℕ) → c < length before → getD before c 0 ≢ stamp) where
   root-inside : (cs : List ℕ) → rootTree layout m word ≡ some cs → Inside cs before
   root-inside cs e c h = omega (arith, usable-inside layout c (root-usable layout m word cs e c h))
@@ -64,7 +64,7 @@ module _ (layout : Layout) (m : Memory) (word stamp : ℕ) (before after : List 
   root-valid = judged-once (rootTree layout m word) stamp before after passed judged root-inside fresh
 
   pub root-stamped : passed ≡ true → (c : ℕ) → 1 ≤ occurrences c (rootCells layout m word) → getD after c 0 ≡ stamp
-  root-stamped p = judged-admitted (rootTree layout m word) stamp before after passed judged root-inside fresh p .stamped
+  root-stamped p = judged-stamped-once (rootTree layout m word) stamp before after passed judged root-inside fresh p .stamped
 
   pub root-others : passed ≡ true → (c : ℕ) → occurrences c (rootCells layout m word) ≡ 0 → getD after c 0 ≡ getD before c 0
-  root-others p = judged-admitted (rootTree layout m word) stamp before after passed judged root-inside fresh p .others
+  root-others p = judged-stamped-once (rootTree layout m word) stamp before after passed judged root-inside fresh p .others

@@ -14,13 +14,13 @@ use Rattle.cells.proofs.Choice.{bound}
 use Rattle.nodes.specs.Layout.{Layout}
 use Rattle.nodes.specs.Pointer.{pointer}
 use Rattle.nodes.specs.Pointer.Pointer.{split}
-use Rattle.nodes.specs.Split.{gather, under, splitCell, headWord, tableWord, validHead, validTable, endCells, midCells, headCells, wordBelow, splitChild}
+use Rattle.nodes.specs.Split.{gather, under, splitCell, headWord, branchWord, validHead, validBranch, endCells, midCells, headCells, wordBelow, splitChild}
 use Rattle.nodes.specs.Node.{Node, splitNode, plain}
 use Rattle.nodes.proofs.Gather.{under-zero, under-word}
 use Rattle.nodes.proofs.Pointers.{names, usable-inside}
 use Rattle.nodes.proofs.Frame.{split-cell, split-cell-is, split-word-cell, below-zero, below-word, end-cut, head-is}
-use Rattle.trees.specs.Visit.{cellIf, Judged}
-use Rattle.trees.specs.Parts.{childTree, plainTree, tables, splitTables}
+use Rattle.trees.specs.Visit.{cellIf, VisitAnswer}
+use Rattle.trees.specs.Parts.{childTree, plainTree, branches, splitBranches}
 use Rattle.trees.proofs.Joins.{joined, joined-nil, joined-assoc, bind-of, bind-none}
 use Rattle.trees.proofs.Gathered.{gather-blocks, gather-moved, gather-equal, gather-nothing}
 use Rattle.trees.proofs.Reordered.{Alike, alike-same, alike-then, alike-turned, alike-behind, gather-apart}
@@ -60,47 +60,47 @@ gather-by-bits f =
 
 -- the cells of a mid: its own, then its ends
 mid-is : (layout : Layout) (m : Memory) (w : ℕ) → midCells layout m w
-    ≡ joined (endCells layout m w) (gather (λ j. under (endCells layout m) (tableWord (m (w / 32)) j)) 8 0)
+    ≡ joined (endCells layout m w) (gather (λ j. under (endCells layout m) (branchWord (m (w / 32)) j)) 8 0)
 unfolding midCells endCells
 mid-is layout m w = by (splitCell (pointer layout w)) refl
   where
     endsOf : ℕ → Option (List ℕ)
-    endsOf c = gather (λ j. under (endCells layout m) (tableWord (m c) j)) 8 0
+    endsOf c = gather (λ j. under (endCells layout m) (branchWord (m c) j)) 8 0
 
     here : (c : ℕ) (valid : Bool) → cond valid (bind (endsOf c) (λ ends. some (c ∷ ends))) none ≡ joined (cellIf valid c) (endsOf c)
     here c true = sym (bind-of (c ∷ []) (λ a. bind (endsOf c) (λ b. some (a ++ b))))
     here c false = sym (bind-none (λ a. bind (endsOf c) (λ b. some (a ++ b))))
 
     by : (o : Option ℕ) → splitCell (pointer layout w) ≡ o
-        → bind o (λ c. cond (validTable (m c)) (bind (endsOf c) (λ ends. some (c ∷ ends))) none)
-        ≡ joined (bind o (λ c. cellIf (validTable (m c)) c)) (endsOf (w / 32))
+        → bind o (λ c. cond (validBranch (m c)) (bind (endsOf c) (λ ends. some (c ∷ ends))) none)
+        ≡ joined (bind o (λ c. cellIf (validBranch (m c)) c)) (endsOf (w / 32))
     by none e = unfold bind in refl
     by (some c) e =
-        bind-of c _ ∙ here c (validTable (m c))
-        ∙ ap (λ n. joined (cellIf (validTable (m c)) c) (endsOf n)) (sym (split-word-cell layout w c (split-cell (pointer layout w) c e)))
-        ∙ ap (λ o. joined o (endsOf (w / 32))) (sym (bind-of c (λ c. cellIf (validTable (m c)) c)))
+        bind-of c _ ∙ here c (validBranch (m c))
+        ∙ ap (λ n. joined (cellIf (validBranch (m c)) c) (endsOf n)) (sym (split-word-cell layout w c (split-cell (pointer layout w) c e)))
+        ∙ ap (λ o. joined o (endsOf (w / 32))) (sym (bind-of c (λ c. cellIf (validBranch (m c)) c)))
 
 module _ (layout : Layout) (m : Memory) (found : ℕ → Option (List ℕ)) where
   -- what is visited for a word, by the tables left
-  tables-last : (w : ℕ) → tables layout m found 0 w ≡ found w
-  unfolding tables
-  tables-last w = refl
+  branches-last : (w : ℕ) → branches layout m found 0 w ≡ found w
+  unfolding branches
+  branches-last w = refl
 
-  table-under : (level w : ℕ) → tables layout m found (suc level) w
-      ≡ under (λ v. joined (endCells layout m v) (gather (λ i. tables layout m found level (tableWord (m (v / 32)) i)) 8 0)) w
-  unfolding tables
-  table-under level w = refl
+  branch-under : (level w : ℕ) → branches layout m found (suc level) w
+      ≡ under (λ v. joined (endCells layout m v) (gather (λ i. branches layout m found level (branchWord (m (v / 32)) i)) 8 0)) w
+  unfolding branches
+  branch-under level w = refl
 
-  pub tables-none : found 0 ≡ some [] → (level w : ℕ) → w ≡ 0 → tables layout m found level w ≡ some []
-  tables-none nothing-there zero w z = tables-last w ∙ ap found z ∙ nothing-there
-  tables-none nothing-there (suc level) w z = ap (tables layout m found (suc level)) z ∙ table-under level 0 ∙ under-zero _
+  pub branches-none : found 0 ≡ some [] → (level w : ℕ) → w ≡ 0 → branches layout m found level w ≡ some []
+  branches-none nothing-there zero w z = branches-last w ∙ ap found z ∙ nothing-there
+  branches-none nothing-there (suc level) w z = ap (branches layout m found (suc level)) z ∙ branch-under level 0 ∙ under-zero _
 
-  pub tables-word : (level w : ℕ) → w ≢ 0 → tables layout m found (suc level) w
-      ≡ joined (endCells layout m w) (gather (λ i. tables layout m found level (tableWord (m (w / 32)) i)) 8 0)
-  tables-word level w other = table-under level w ∙ under-word _ w other
+  pub branches-word : (level w : ℕ) → w ≢ 0 → branches layout m found (suc level) w
+      ≡ joined (endCells layout m w) (gather (λ i. branches layout m found level (branchWord (m (w / 32)) i)) 8 0)
+  branches-word level w other = branch-under level w ∙ under-word _ w other
 
   -- the words of a table that a word names
-  below-words : (g : ℕ → Option (List ℕ)) (w : ℕ) → w ≢ 0 → gather (λ i. g (wordBelow m w i)) 8 0 ≡ gather (λ i. g (tableWord (m (w / 32)) i)) 8 0
+  below-words : (g : ℕ → Option (List ℕ)) (w : ℕ) → w ≢ 0 → gather (λ i. g (wordBelow m w i)) 8 0 ≡ gather (λ i. g (branchWord (m (w / 32)) i)) 8 0
   below-words g w other = gather-equal _ _ 8 (λ i h. ap g (below-word m w i other))
 
   below-none : (g : ℕ → Option (List ℕ)) → g 0 ≡ some [] → (w : ℕ) → w ≡ 0 → gather (λ i. g (wordBelow m w i)) 8 0 ≡ some []
@@ -119,32 +119,32 @@ module _ (layout : Layout) (m : Memory) (found : ℕ → Option (List ℕ)) wher
     nothing-visited f own below w e p q =
         alike-same _ _ (e ∙ sym (joined-nil (some [])) ∙ ap (λ o. joined o (some [])) (sym p) ∙ ap (joined (own w)) (sym q))
 
-    end-apart : (w : ℕ) → Alike (tables layout m found 1 w) (joined (under (endCells layout m) w) (ends w))
+    end-apart : (w : ℕ) → Alike (branches layout m found 1 w) (joined (under (endCells layout m) w) (ends w))
     end-apart w = elim (ℕ-discrete w 0) [
       | yes z ↦
-          nothing-visited (tables layout m found 1) (under (endCells layout m)) ends w (tables-none nothing-there 1 w z)
+          nothing-visited (branches layout m found 1) (under (endCells layout m)) ends w (branches-none nothing-there 1 w z)
           (ap (under (endCells layout m)) z ∙ under-zero (endCells layout m)) (below-none found nothing-there w z)
       | no other ↦
           alike-same _ _
-          (tables-word 0 w other
-          ∙ ap (joined (endCells layout m w)) (gather-equal _ _ 8 (λ i h. tables-last (tableWord (m (w / 32)) i)) ∙ sym (below-words found w other))
+          (branches-word 0 w other
+          ∙ ap (joined (endCells layout m w)) (gather-equal _ _ 8 (λ i h. branches-last (branchWord (m (w / 32)) i)) ∙ sym (below-words found w other))
           ∙ ap (λ o. joined o (ends w)) (sym (under-word (endCells layout m) w other)))
     ]
 
-    mid-apart : (w : ℕ) → Alike (tables layout m found 2 w) (joined (under (midCells layout m) w) (mids w))
+    mid-apart : (w : ℕ) → Alike (branches layout m found 2 w) (joined (under (midCells layout m) w) (mids w))
     mid-apart w = elim (ℕ-discrete w 0) [
       | yes z ↦
-          nothing-visited (tables layout m found 2) (under (midCells layout m)) mids w (tables-none nothing-there 2 w z)
+          nothing-visited (branches layout m found 2) (under (midCells layout m)) mids w (branches-none nothing-there 2 w z)
           (ap (under (midCells layout m)) z ∙ under-zero (midCells layout m))
           (below-none ends (below-none found nothing-there 0 refl) w z)
       | no other ↦
           alike-then _ (joined (endCells layout m w) (joined (endsUnder w) (mids w))) _
-          (alike-then _ (joined (endCells layout m w) (gather (λ j. tables layout m found 1 (tableWord (m (w / 32)) j)) 8 0)) _
-          (alike-same _ _ (tables-word 1 w other))
+          (alike-then _ (joined (endCells layout m w) (gather (λ j. branches layout m found 1 (branchWord (m (w / 32)) j)) 8 0)) _
+          (alike-same _ _ (branches-word 1 w other))
           (alike-behind (endCells layout m w) _ _
-          (alike-then _ (joined (endsUnder w) (gather (λ j. ends (tableWord (m (w / 32)) j)) 8 0)) _
-          (gather-apart (λ j. tables layout m found 1 (tableWord (m (w / 32)) j)) (λ j. under (endCells layout m) (tableWord (m (w / 32)) j))
-          (λ j. ends (tableWord (m (w / 32)) j)) (λ j. end-apart (tableWord (m (w / 32)) j)) 8 0)
+          (alike-then _ (joined (endsUnder w) (gather (λ j. ends (branchWord (m (w / 32)) j)) 8 0)) _
+          (gather-apart (λ j. branches layout m found 1 (branchWord (m (w / 32)) j)) (λ j. under (endCells layout m) (branchWord (m (w / 32)) j))
+          (λ j. ends (branchWord (m (w / 32)) j)) (λ j. end-apart (branchWord (m (w / 32)) j)) 8 0)
           (alike-same _ _ (ap (joined (endsUnder w)) (sym (below-words ends w other)))))))
           (alike-same _ _
           (sym (joined-assoc (endCells layout m w) (endsUnder w) (mids w))
@@ -152,14 +152,14 @@ module _ (layout : Layout) (m : Memory) (found : ℕ → Option (List ℕ)) wher
     ]
       where
         endsUnder : ℕ → Option (List ℕ)
-        endsUnder w = gather (λ j. under (endCells layout m) (tableWord (m (w / 32)) j)) 8 0
+        endsUnder w = gather (λ j. under (endCells layout m) (branchWord (m (w / 32)) j)) 8 0
 
-    pub head-apart : (c : ℕ) → Alike (gather (λ i. tables layout m found 2 (headWord (m c) i)) 4 0)
+    pub head-apart : (c : ℕ) → Alike (gather (λ i. branches layout m found 2 (headWord (m c) i)) 4 0)
         (joined (headCells layout m c) (gather (λ x. found (splitChild m c x)) 256 0))
     head-apart c =
         alike-then _ (joined (headCells layout m c) (gather (λ i. mids (headWord (m c) i)) 4 0)) _
         (alike-then _ (joined (gather (λ i. under (midCells layout m) (headWord (m c) i)) 4 0) (gather (λ i. mids (headWord (m c) i)) 4 0)) _
-        (gather-apart (λ i. tables layout m found 2 (headWord (m c) i)) (λ i. under (midCells layout m) (headWord (m c) i))
+        (gather-apart (λ i. branches layout m found 2 (headWord (m c) i)) (λ i. under (midCells layout m) (headWord (m c) i))
         (λ i. mids (headWord (m c) i)) (λ i. mid-apart (headWord (m c) i)) 4 0)
         (alike-same _ _ (ap (λ o. joined o (gather (λ i. mids (headWord (m c) i)) 4 0)) (sym (head-is layout m c)))))
         (alike-same _ _ (ap (joined (headCells layout m c)) (sym by-character)))
@@ -175,7 +175,7 @@ module _ (layout : Layout) (m : Memory) (found : ℕ → Option (List ℕ)) wher
 module _ (layout : Layout) (m : Memory) where
   -- the tree of a word that names a split: its head, then the walk along its words
   pub split-tree : (d w c : ℕ) (valid : Bool) → pointer layout w ≡ split c → valid ≡ validHead (m c)
-      → Alike (plainTree layout m d w) (joined (cellIf valid c) (splitTables layout m d c))
+      → Alike (plainTree layout m d w) (joined (cellIf valid c) (splitBranches layout m d c))
   split-tree d w c valid named tested =
       alike-then _ (joined (cellIf valid c) (joined (headCells layout m c) children)) _
       (alike-same _ _ (plain-tree-read layout m d w (split c) named ∙ by valid tested))
@@ -184,8 +184,8 @@ module _ (layout : Layout) (m : Memory) where
       children : Option (List ℕ)
       children = gather (λ x. childTree layout m d (splitChild m c x)) 256 0
 
-      walked : Alike (joined (headCells layout m c) children) (splitTables layout m d c)
-      walked = unfold splitTables in alike-turned _ _ (head-apart layout m (childTree layout m d) (child-none layout m d 0 refl) c)
+      walked : Alike (joined (headCells layout m c) children) (splitBranches layout m d c)
+      walked = unfold splitBranches in alike-turned _ _ (head-apart layout m (childTree layout m d) (child-none layout m d 0 refl) c)
 
       below : Node → Option (List ℕ)
       below X = joined (some (X .cells)) (gather (λ x. childTree layout m d (X .child x)) 256 0)
@@ -222,35 +222,35 @@ cell-words found block c o count at start fits =
 module _ (layout : Layout) (block : List ℕ) (d : ℕ) where
   -- what the walk visits for the words at a byte position, so many tables down
   abbrev pub row : ℕ → ℕ → ℕ → Option (List ℕ)
-  row level at = foundAt (tables layout (memoryOf block) (childTree layout (memoryOf block) d) level) block at
+  row level at = foundAt (branches layout (memoryOf block) (childTree layout (memoryOf block) d) level) block at
 
-  pub row-head : (c at : ℕ) → at ≡ c * 32 + 16 → splitTables layout (memoryOf block) d c ≡ gather (row 2 at) 4 0
-  unfolding splitTables
+  pub row-head : (c at : ℕ) → at ≡ c * 32 + 16 → splitBranches layout (memoryOf block) d c ≡ gather (row 2 at) 4 0
+  unfolding splitBranches
   row-head c at start = cell-words _ block c 16 4 at start (omega arith)
 
   module _ (at i word : ℕ) (there : word ≡ wordAt block (at + 4 * i)) where
     pub row-none : (level : ℕ) → word ≡ 0 → row level at i ≡ some []
     row-none level z =
         found-word _ block at i word there
-        ∙ tables-none layout (memoryOf block) (childTree layout (memoryOf block) d) (child-none layout (memoryOf block) d 0 refl) level word z
+        ∙ branches-none layout (memoryOf block) (childTree layout (memoryOf block) d) (child-none layout (memoryOf block) d 0 refl) level word z
 
-    pub row-table : (level start : ℕ) → word ≢ 0 → start ≡ word / 32 * 32
+    pub row-branch : (level start : ℕ) → word ≢ 0 → start ≡ word / 32 * 32
         → row (suc level) at i ≡ joined (endCells layout (memoryOf block) word) (gather (row level start) 8 0)
-    row-table level start other begins =
+    row-branch level start other begins =
         found-word _ block at i word there
-        ∙ tables-word layout (memoryOf block) (childTree layout (memoryOf block) d) level word other
-        ∙ ap (joined (endCells layout (memoryOf block) word)) (table-words (omega arith))
+        ∙ branches-word layout (memoryOf block) (childTree layout (memoryOf block) d) level word other
+        ∙ ap (joined (endCells layout (memoryOf block) word)) (branch-words (omega arith))
       where
-        table-words : start ≡ word / 32 * 32 + 0 → gather (λ k. tables layout (memoryOf block) (childTree layout (memoryOf block) d) level (tableWord (memoryOf block (word / 32)) k)) 8 0 ≡ gather (row level start) 8 0
-        table-words begins =
+        branch-words : start ≡ word / 32 * 32 + 0 → gather (λ k. branches layout (memoryOf block) (childTree layout (memoryOf block) d) level (branchWord (memoryOf block (word / 32)) k)) 8 0 ≡ gather (row level start) 8 0
+        branch-words begins =
             gather-equal _ _ 8
             (λ k h.
             let p : 4 * k ≡ 0 + 4 * k = omega arith in
-            ap (λ o. tables layout (memoryOf block) (childTree layout (memoryOf block) d) level (wordAt (memoryOf block (word / 32)) o)) p)
+            ap (λ o. branches layout (memoryOf block) (childTree layout (memoryOf block) d) level (wordAt (memoryOf block (word / 32)) o)) p)
             ∙ cell-words _ block (word / 32) 0 8 start begins (omega arith)
 
     pub row-child : row 0 at i ≡ childTree layout (memoryOf block) d word
-    unfolding tables
+    unfolding branches
     row-child = found-word _ block at i word there
 
 -- the table that a word names, or none
@@ -258,15 +258,15 @@ pub end-other : (layout : Layout) (m : Memory) (w : ℕ) → splitCell (pointer 
 unfolding endCells
 end-other layout m w no-cell = rw no-cell (bind-none _)
 
-pub end-split : (layout : Layout) (m : Memory) (w c : ℕ) (valid : Bool) → pointer layout w ≡ split c → valid ≡ validTable (m c)
+pub end-split : (layout : Layout) (m : Memory) (w c : ℕ) (valid : Bool) → pointer layout w ≡ split c → valid ≡ validBranch (m c)
     → endCells layout m w ≡ cellIf valid c
 unfolding endCells
 end-split layout m w c valid named tested = rw (split-cell-is (pointer layout w) c named) (bind-of c _ ∙ ap (λ t. cellIf t c) (sym tested))
 
 -- a table that was visited stands in the block
-pub table-inside : (layout : Layout) (m : Memory) (word stamp : ℕ) (before after : List ℕ) (passed : Bool)
-    → Judged (endCells layout m word) stamp before after passed → passed ≡ true → word / 32 < layout .cells
-table-inside layout m word stamp before after passed judged t =
+pub branch-inside : (layout : Layout) (m : Memory) (word stamp : ℕ) (before after : List ℕ) (passed : Bool)
+    → VisitAnswer (endCells layout m word) stamp before after passed → passed ≡ true → word / 32 < layout .cells
+branch-inside layout m word stamp before after passed judged t =
     let found = bound (endCells layout m word) _ (judged .accepted t) in
     let cut = end-cut layout m word (found .0) (found .1) in
     omega (arith, usable-inside layout (cut .0) (names layout word (split (cut .0)) (cut .1) .0), split-word-cell layout word (cut .0) (cut .1))

@@ -13,7 +13,7 @@ use Rattle.cells.proofs.Occurrences.{occurrences-none, occurrences-cons-other, 
 use Rattle.nodes.specs.Layout.{Layout, usable}
 use Rattle.nodes.specs.Pointer.{Pointer, pointer}
 use Rattle.nodes.specs.Pointer.Pointer.{nothing, leaf, chain, split, sparse, prefix, invalid}
-use Rattle.nodes.specs.Split.{gather, under, endCells, midCells, headWord, tableWord}
+use Rattle.nodes.specs.Split.{gather, under, endCells, midCells, headWord, branchWord}
 use Rattle.nodes.specs.Prefix.{prefixLink}
 use Rattle.nodes.specs.Node.{Node, childless, plain, readAt, read}
 use Rattle.nodes.proofs.Pointers.{names}
@@ -78,7 +78,7 @@ module _ (layout : Layout) where
     mid-usable w a e =
         let p = mid-cut layout m w a e in
         subst (Usable layout) (p .5)
-        (usable-cons (p .0) (p .1) (names layout w (split (p .0)) (p .2) .0) (words-usable (endCells layout m) end-usable (tableWord (m (p .0))) 8 (p .1) (p .4)))
+        (usable-cons (p .0) (p .1) (names layout w (split (p .0)) (p .2) .0) (words-usable (endCells layout m) end-usable (branchWord (m (p .0))) 8 (p .1) (p .4)))
 
     plain-usable : (w : ℕ) (p : Pointer) (X : Node) → pointer layout w ≡ p → plain layout m p ≡ some X → Usable layout (X .cells)
     unfolding plain

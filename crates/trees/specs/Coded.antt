@@ -32,6 +32,6 @@ unfoldable pub toldKey : List ℕ → ℕ → NextStep → Option (List ℕ)
 toldKey characters at step = cond (step .found) (some (take (step .size) (drop at characters))) none
 
 -- an answer tells a key, and the key has room
-pub record Told (characters : List ℕ) (at : ℕ) (step : NextStep) (key : Option (List ℕ)) : Type 0 where
+pub record KeyWritten (characters : List ℕ) (at : ℕ) (step : NextStep) (key : Option (List ℕ)) : Type 0 where
   pub tells : toldKey characters at step ≡ key
   pub fits : at + step .size ≤ keyLimit

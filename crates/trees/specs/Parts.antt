@@ -7,7 +7,7 @@ use Rattle.cells.specs.Memory.{Memory}
 use Rattle.nodes.specs.Layout.{Layout}
 use Rattle.nodes.specs.Pointer.{Pointer, pointer}
 use Rattle.nodes.specs.Pointer.Pointer.{nothing, leaf, chain, split, sparse, prefix, invalid}
-use Rattle.nodes.specs.Split.{gather, under, headWord, tableWord, endCells}
+use Rattle.nodes.specs.Split.{gather, under, headWord, branchWord, endCells}
 use Rattle.trees.specs.Tree.{tree}
 
 -- the cells below a child word, with so many characters left at the node that has it
@@ -30,11 +30,11 @@ unfoldable pub plainTree : Layout → Memory → ℕ → ℕ → Option (List �
 plainTree layout m depth word = cond (isPlain (pointer layout word)) (tree layout m depth word) none
 
 -- what the walk of a split visits for a word, so many tables down: each table before its words, and then what is found for a child
-unfoldable pub tables : Layout → Memory → (ℕ → Option (List ℕ)) → ℕ → ℕ → Option (List ℕ)
-tables layout m found zero word = found word
-tables layout m found (suc level) word =
-    under (λ w. bind (endCells layout m w) (λ own. bind (gather (λ i. tables layout m found level (tableWord (m (w / 32)) i)) 8 0) (λ below. some (own ++ below)))) word
+unfoldable pub branches : Layout → Memory → (ℕ → Option (List ℕ)) → ℕ → ℕ → Option (List ℕ)
+branches layout m found zero word = found word
+branches layout m found (suc level) word =
+    under (λ w. bind (endCells layout m w) (λ own. bind (gather (λ i. branches layout m found level (branchWord (m (w / 32)) i)) 8 0) (λ below. some (own ++ below)))) word
 
 -- what it visits behind the head: each mid, each of its ends, and the cells below the children there
-unfoldable pub splitTables : Layout → Memory → ℕ → ℕ → Option (List ℕ)
-splitTables layout m depth c = gather (λ i. tables layout m (childTree layout m depth) 2 (headWord (m c) i)) 4 0
+unfoldable pub splitBranches : Layout → Memory → ℕ → ℕ → Option (List ℕ)
+splitBranches layout m depth c = gather (λ i. branches layout m (childTree layout m depth) 2 (headWord (m c) i)) 4 0

@@ -8,10 +8,10 @@ use lib.Dec.{eqb}
 use lib.ListN.{getD, set}
 
 -- 01: "In the tree of one root no cell is entered twice": each cell in turn gets the stamp, and nothing where one has it already
-unfoldable pub admit : ℕ → List ℕ → List ℕ → Option (List ℕ)
-admit stamp [] stamps = some stamps
-admit stamp (c ∷ cs) stamps =
-    let later = admit stamp cs (set stamps c stamp) in
+unfoldable pub stampEach : ℕ → List ℕ → List ℕ → Option (List ℕ)
+stampEach stamp [] stamps = some stamps
+stampEach stamp (c ∷ cs) stamps =
+    let later = stampEach stamp cs (set stamps c stamp) in
     cond (eqb (getD stamps c 0) stamp) none later
 
 -- a cell that is visited where it is valid; nothing where it is not
@@ -20,9 +20,9 @@ cellIf valid c = cond valid (some (c ∷ [])) none
 
 -- the stamps after a visit of the cells found; nothing where nothing is found
 abbrev pub visit : ℕ → Option (List ℕ) → List ℕ → Option (List ℕ)
-visit stamp cells stamps = bind cells (λ cs. admit stamp cs stamps)
+visit stamp cells stamps = bind cells (λ cs. stampEach stamp cs stamps)
 
 -- what a judgement says: it passed, and these are the stamps after the visit, or there is no such visit
-pub record Judged (cells : Option (List ℕ)) (stamp : ℕ) (before after : List ℕ) (passed : Bool) : Type 0 where
+pub record VisitAnswer (cells : Option (List ℕ)) (stamp : ℕ) (before after : List ℕ) (passed : Bool) : Type 0 where
   pub accepted : passed ≡ true → visit stamp cells before ≡ some after
   pub refused : passed ≡ false → visit stamp cells before ≡ none

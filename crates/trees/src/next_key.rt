@@ -5,7 +5,7 @@ ghost use lib.ListN.{length, drop, set};
 ghost use Rattle.cells.specs.Memory.{memoryOf};
 ghost use Rattle.nodes.specs.Layout.{keyLimit, Covered};
 ghost use Rattle.trees.specs.NextWalk.{nextFrom};
-ghost use Rattle.trees.specs.Coded.{Grown, keyBelow, Told};
+ghost use Rattle.trees.specs.Coded.{Grown, keyBelow, KeyWritten};
 use nodes::layout::KEY_LIMIT;
 use nodes::layout::Layout;
 use nodes::least::Least;
@@ -40,7 +40,7 @@ fn first_below(
     out: &mut [u8; KEY_LIMIT],
 ) -> NextStep
     requires { ⌜ Covered layout (now block) × (at ≤ keyLimit) × Grown layout (memoryOf (now block)) (keyLimit - at) word ⌝ }
-    ensures { λ r. ⌜ Told (now (out .exit)) at r (keyBelow layout (memoryOf (now (block .entry))) (keyLimit - (at + 1)) word from) ⌝ }
+    ensures { λ r. ⌜ KeyWritten (now (out .exit)) at r (keyBelow layout (memoryOf (now (block .entry))) (keyLimit - (at + 1)) word from) ⌝ }
 {
     let Least::Found(character, child) = least_child(layout, block, word, from) else {
         return NextStep {
@@ -79,7 +79,7 @@ fn next_from(
     out: &mut [u8; KEY_LIMIT],
 ) -> NextStep
     requires { ⌜ Covered layout (now block) × (i ≤ keyLimit) × Grown layout (memoryOf (now block)) (keyLimit - i) word ⌝ }
-    ensures { λ r. ⌜ Told (now (out .exit)) i r (nextFrom layout (memoryOf (now (block .entry))) (keyLimit - i) word (drop i (now (key .entry)))) ⌝ }
+    ensures { λ r. ⌜ KeyWritten (now (out .exit)) i r (nextFrom layout (memoryOf (now (block .entry))) (keyLimit - i) word (drop i (now (key .entry)))) ⌝ }
 {
     if key.len() <= i {
         return first_below(layout, block, word, 0, i, out);
@@ -109,7 +109,7 @@ pub fn next_after(
     out: &mut [u8; KEY_LIMIT],
 ) -> NextStep
     requires { ⌜ Covered layout (now block) × Grown layout (memoryOf (now block)) keyLimit word ⌝ }
-    ensures { λ r. ⌜ Told (now (out .exit)) 0 r (nextFrom layout (memoryOf (now (block .entry))) keyLimit word (now (key .entry))) ⌝ }
+    ensures { λ r. ⌜ KeyWritten (now (out .exit)) 0 r (nextFrom layout (memoryOf (now (block .entry))) keyLimit word (now (key .entry))) ⌝ }
 {
     next_from(layout, block, word, key, 0, out)
 }

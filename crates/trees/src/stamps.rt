@@ -3,18 +3,18 @@ ghost use Prim.Native.Nat.{_<_};
 ghost use Rattle.cells.specs.Memory.{memoryOf};
 ghost use Rattle.nodes.specs.Layout.{cellLimit, Covered};
 ghost use Rattle.nodes.specs.Split.{endCells};
-ghost use Rattle.trees.specs.Visit.{Judged, cellIf};
+ghost use Rattle.trees.specs.Visit.{VisitAnswer, cellIf};
 use cells::cell;
 use nodes::layout::CELL_LIMIT;
 use nodes::layout::Layout;
 use nodes::pointer::Pointer;
 use nodes::pointer::pointer_of;
-use nodes::split::is_valid_table;
+use nodes::split::is_valid_branch;
 
 // Gives a valid cell the stamp; refused where the cell is not valid, or has the stamp already.
 pub fn stamp_cell(stamps: &mut [u8; CELL_LIMIT], stamp: u8, number: usize, valid: bool) -> bool
     requires { ⌜ number < cellLimit ⌝ }
-    ensures { λ r. ⌜ Judged (cellIf valid number) stamp (now (stamps .entry)) (now (stamps .exit)) r ⌝ }
+    ensures { λ r. ⌜ VisitAnswer (cellIf valid number) stamp (now (stamps .entry)) (now (stamps .exit)) r ⌝ }
 {
     if !valid {
         return false;
@@ -27,7 +27,7 @@ pub fn stamp_cell(stamps: &mut [u8; CELL_LIMIT], stamp: u8, number: usize, valid
 }
 
 // Gives the mid or end that a word names the stamp.
-pub fn stamp_table(
+pub fn stamp_branch(
     layout: Layout,
     block: &[u8],
     stamps: &mut [u8; CELL_LIMIT],
@@ -35,10 +35,10 @@ pub fn stamp_table(
     word: u32,
 ) -> bool
     requires { ⌜ Covered layout (now block) ⌝ }
-    ensures { λ r. ⌜ Judged (endCells layout (memoryOf (now (block .entry))) word) stamp (now (stamps .entry)) (now (stamps .exit)) r ⌝ }
+    ensures { λ r. ⌜ VisitAnswer (endCells layout (memoryOf (now (block .entry))) word) stamp (now (stamps .entry)) (now (stamps .exit)) r ⌝ }
 {
     let Pointer::Split(number) = pointer_of(layout, word) else {
         return false;
     };
-    stamp_cell(stamps, stamp, number, is_valid_table(cell(block, number)))
+    stamp_cell(stamps, stamp, number, is_valid_branch(cell(block, number)))
 }

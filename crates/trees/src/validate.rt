@@ -2,11 +2,11 @@
 ghost use Prim.Native.Nat.{_<_};
 ghost use Rattle.cells.specs.Memory.{memoryOf};
 ghost use Rattle.trees.specs.Root.{rootTree};
-ghost use Rattle.trees.specs.Visit.{Judged};
-ghost use Rattle.trees.specs.Parts.{childTree, plainTree, splitTables};
+ghost use Rattle.trees.specs.Visit.{VisitAnswer};
+ghost use Rattle.trees.specs.Parts.{childTree, plainTree, splitBranches};
 ghost use Rattle.nodes.specs.Layout.{Covered};
 use crate::stamps::stamp_cell;
-use crate::stamps::stamp_table;
+use crate::stamps::stamp_branch;
 use cells::cell;
 use cells::word_at;
 use nodes::layout::CELL_LIMIT;
@@ -31,7 +31,7 @@ fn node_check(
     depth: usize,
 ) -> bool
     requires { ⌜ Covered layout (now block) ⌝ }
-    ensures { λ r. ⌜ Judged (plainTree layout (memoryOf (now (block .entry))) depth word) stamp (now (stamps .entry)) (now (stamps .exit)) r ⌝ }
+    ensures { λ r. ⌜ VisitAnswer (plainTree layout (memoryOf (now (block .entry))) depth word) stamp (now (stamps .entry)) (now (stamps .exit)) r ⌝ }
 {
     match pointer_of(layout, word) {
         Pointer::Chain(number, place) => {
@@ -78,7 +78,7 @@ fn split_check(
     depth: usize,
 ) -> bool
     requires { ⌜ Covered layout (now block) × (number < layout .cells) ⌝ }
-    ensures { λ r. ⌜ Judged (splitTables layout (memoryOf (now (block .entry))) depth number) stamp (now (stamps .entry)) (now (stamps .exit)) r ⌝ }
+    ensures { λ r. ⌜ VisitAnswer (splitBranches layout (memoryOf (now (block .entry))) depth number) stamp (now (stamps .entry)) (now (stamps .exit)) r ⌝ }
 {
     let head = number * 32 + 16;
     for i in 0..4 {
@@ -86,7 +86,7 @@ fn split_check(
         if mid == 0 {
             continue;
         }
-        if !stamp_table(layout, block, stamps, stamp, mid) {
+        if !stamp_branch(layout, block, stamps, stamp, mid) {
             return false;
         }
         let ends = (mid / 32) as usize * 32;
@@ -95,7 +95,7 @@ fn split_check(
             if end == 0 {
                 continue;
             }
-            if !stamp_table(layout, block, stamps, stamp, end) {
+            if !stamp_branch(layout, block, stamps, stamp, end) {
                 return false;
             }
             let children = (end / 32) as usize * 32;
@@ -120,7 +120,7 @@ fn child_check(
     depth: usize,
 ) -> bool
     requires { ⌜ Covered layout (now block) ⌝ }
-    ensures { λ r. ⌜ Judged (childTree layout (memoryOf (now (block .entry))) depth word) stamp (now (stamps .entry)) (now (stamps .exit)) r ⌝ }
+    ensures { λ r. ⌜ VisitAnswer (childTree layout (memoryOf (now (block .entry))) depth word) stamp (now (stamps .entry)) (now (stamps .exit)) r ⌝ }
 {
     if word == 0 {
         return true;
@@ -151,7 +151,7 @@ pub fn root_check(
     word: u32,
 ) -> bool
     requires { ⌜ Covered layout (now block) ⌝ }
-    ensures { λ r. ⌜ Judged (rootTree layout (memoryOf (now (block .entry))) word) stamp (now (stamps .entry)) (now (stamps .exit)) r ⌝ }
+    ensures { λ r. ⌜ VisitAnswer (rootTree layout (memoryOf (now (block .entry))) word) stamp (now (stamps .entry)) (now (stamps .exit)) r ⌝ }
 {
     if word == 0 {
         return true;

@@ -8,7 +8,7 @@ use Rattle.cells.specs.Memory.{Memory}
 use Rattle.cells.proofs.Words.{bytes-tail}
 use Rattle.nodes.specs.Layout.{Layout}
 use Rattle.staging.specs.NewCells.{blank}
-use Rattle.staging.proofs.CellBytes.{IsCell, blank-cell, chain-cell, prefix-cell, sparsePair-cell, sparseCopy-cell, appended-cell, words-cell, headCopy-cell, tableCopy-cell, set-cell, word-cell}
+use Rattle.staging.proofs.CellBytes.{IsCell, blank-cell, chain-cell, prefix-cell, sparsePair-cell, sparseCopy-cell, appended-cell, words-cell, headCopy-cell, branchCopy-cell, set-cell, word-cell}
 use Rattle.updates.specs.Built.{Built, room, firstUsed}
 use Rattle.updates.specs.Build.{build}
 use Rattle.updates.proofs.Related.{Contents, Characters, Relation, EachCell, Related, build-related}
@@ -28,7 +28,7 @@ whole-contents m each =
       replaced = λ c p w. word-cell _ _ w (sparseCopy-cell _ (each c));
       appended = λ c x w near. appended-cell _ x w near (each c);
       words = λ ws count from. words-cell ws count from blank blank-cell;
-      tableCopied = λ u at w. word-cell _ at w (tableCopy-cell m each u);
+      branchCopied = λ u at w. word-cell _ at w (branchCopy-cell m each u);
       headCopied = λ c at w. word-cell _ at w (headCopy-cell (m c));
       prefixed = λ v w. prefix-cell v w;
     }

@@ -62,7 +62,7 @@ any-contents m =
       replaced = λ c p w. tt;
       appended = λ c x w _. tt;
       words = λ ws count from. tt;
-      tableCopied = λ u at w. tt;
+      branchCopied = λ u at w. tt;
       headCopied = λ c at w. tt;
       prefixed = λ v w. tt;
     }

@@ -27,7 +27,7 @@ use Rattle.nodes.proofs.Frame.{end-agree, mid-agree, below-same, head-is, mid-e
 use Rattle.trees.specs.Tree.{tree}
 use Rattle.trees.proofs.Tree.{tree-cut, tree-below}
 use Rattle.trees.proofs.Frame.{footprint-in, node-frame}
-use Rattle.staging.specs.NewCells.{blank, tableCopy, headCopy, prefixCell}
+use Rattle.staging.specs.NewCells.{blank, branchCopy, headCopy, prefixCell}
 use Rattle.updates.specs.Built.{Built, allocate}
 use Rattle.updates.specs.SplitBuild.{splitCopied}
 use Rattle.updates.specs.SetChild.{chainSet, sparseSet, setChild}
@@ -48,8 +48,8 @@ module _ (layout : Layout) (m m′ : Memory) where
   abbrev Same : ℕ → Type 0
   Same w = w ≢ 0 → m (w / 32) ≡ m′ (w / 32)
 
-  copy-same : (w : ℕ) → Same w → tableCopy m′ w ≡ tableCopy m w
-  unfolding tableCopy
+  copy-same : (w : ℕ) → Same w → branchCopy m′ w ≡ branchCopy m w
+  unfolding branchCopy
   copy-same w same = elim (ℕ-discrete w 0) [
     | yes zero-word ↦ rw (eq-eqb w 0 zero-word)
     | no other ↦ ap (λ s. cond (eqb w 0) blank s) (sym (same other))
@@ -72,12 +72,12 @@ module _ (layout : Layout) (m m′ : Memory) where
         let mid : Same w = mid-agree layout m m′ w (p .0) (p .1) agree-mid in
         let below : wordBelow m′ (headWord (m′ c) (x / 64)) (x / 8 % 8) ≡ v =
         ap (λ u. wordBelow m′ u (x / 8 % 8)) head ∙ sym (below-same layout m m′ w (x / 8 % 8) mid) in
-        let mids : tableCopy m′ (headWord (m′ c) (x / 64)) ≡ tableCopy m w = ap (tableCopy m′) head ∙ copy-same w mid in
-        let ends : tableCopy m′ (wordBelow m′ (headWord (m′ c) (x / 64)) (x / 8 % 8)) ≡ tableCopy m v =
-        ap (tableCopy m′) below ∙ copy-same v (end-agree layout m m′ v (r .0) (r .1) agree-end) in
-        ap (λ s. copied number x b s (tableCopy m′ (headWord (m′ c) (x / 64))) (tableCopy m′ (wordBelow m′ (headWord (m′ c) (x / 64)) (x / 8 % 8)))) cell
-        ∙ ap (λ s. copied number x b (m c) s (tableCopy m′ (wordBelow m′ (headWord (m′ c) (x / 64)) (x / 8 % 8)))) mids
-        ∙ ap (copied number x b (m c) (tableCopy m w)) ends
+        let mids : branchCopy m′ (headWord (m′ c) (x / 64)) ≡ branchCopy m w = ap (branchCopy m′) head ∙ copy-same w mid in
+        let ends : branchCopy m′ (wordBelow m′ (headWord (m′ c) (x / 64)) (x / 8 % 8)) ≡ branchCopy m v =
+        ap (branchCopy m′) below ∙ copy-same v (end-agree layout m m′ v (r .0) (r .1) agree-end) in
+        ap (λ s. copied number x b s (branchCopy m′ (headWord (m′ c) (x / 64))) (branchCopy m′ (wordBelow m′ (headWord (m′ c) (x / 64)) (x / 8 % 8)))) cell
+        ∙ ap (λ s. copied number x b (m c) s (branchCopy m′ (wordBelow m′ (headWord (m′ c) (x / 64)) (x / 8 % 8)))) mids
+        ∙ ap (copied number x b (m c) (branchCopy m w)) ends
 
     -- a child set in a node that is alike
     pub setChild-frame : (p : Pointer) (X : Node) → readAt layout m p ≡ some X → Agree m m′ (X .footprint)

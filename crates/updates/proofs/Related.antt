@@ -17,9 +17,9 @@ use Rattle.nodes.specs.Sparse.{someWord, sparseCount, positionOf}
 use Rattle.nodes.specs.Split.{headWord, wordBelow}
 use Rattle.nodes.specs.Node.{read}
 use Rattle.nodes.specs.Value.{pointerValue}
-use Rattle.staging.specs.NewCells.{blank, chainCell, prefixCell, sparsePair, replacedCell, appendedCell, tableCopy, headCopy, withWords}
+use Rattle.staging.specs.NewCells.{blank, chainCell, prefixCell, sparsePair, replacedCell, appendedCell, branchCopy, headCopy, withWords}
 use Rattle.updates.specs.Built.{Built, unowned, allocate, room, roomOf, firstUsed, firstUsedOf, characterBefore, chainWith, chainOver}
-use Rattle.updates.specs.SplitBuild.{Row, tableRow, rows, endRow, midRow, splitOf, splitCopied}
+use Rattle.updates.specs.SplitBuild.{Row, branchRow, rows, endRow, midRow, splitOf, splitCopied}
 use Rattle.updates.specs.SetChild.{chainSet, sparseSet, setChild}
 use Rattle.updates.specs.Build.{wordAside, putBack, childOf, pathCopy, valueAt, build}
 use Rattle.updates.proofs.Rooms.{room-most}
@@ -32,7 +32,7 @@ pub record Contents (m : Memory) (Character : ℕ → Type 0) (Content : List �
   pub replaced : (c p w : ℕ) → Content (replacedCell (m c) p w)
   pub appended : (c x w : ℕ) → Character x → Content (appendedCell (m c) x w)
   pub words : (ws : ℕ → ℕ) (count from : ℕ) → Content (withWords ws count from blank)
-  pub tableCopied : (u at w : ℕ) → Content (withWord (tableCopy m u) at w)
+  pub branchCopied : (u at w : ℕ) → Content (withWord (branchCopy m u) at w)
   pub headCopied : (c at w : ℕ) → Content (withWord (headCopy (m c)) at w)
   pub prefixed : (v w : ℕ) → Content (prefixCell v w)
 
@@ -134,10 +134,10 @@ module _ (Words : ℕ → ℕ → ℕ → Type 0) (Cells : ℕ → List ℕ → 
           cells = after .cells;
         }
 
-    table-related : (words words′ : ℕ → ℕ) (cells cells′ : List (List ℕ)) → ((y : ℕ) → Words (length cells) (words y) (words′ y))
-        → EachCell cells cells′ → RowsRelated (length cells) (tableRow number words cells) (tableRow number′ words′ cells′)
-    unfolding tableRow
-    table-related words words′ cells cells′ h e =
+    branch-related : (words words′ : ℕ → ℕ) (cells cells′ : List (List ℕ)) → ((y : ℕ) → Words (length cells) (words y) (words′ y))
+        → EachCell cells cells′ → RowsRelated (length cells) (branchRow number words cells) (branchRow number′ words′ cells′)
+    unfolding branchRow
+    branch-related words words′ cells cells′ h e =
         rw (some-same words words′ (λ y. relation .bothNone (length cells) (words y) (words′ y) (h y)) 8 0) (go (someWord words′ 8 0))
       where
         go : (t : Bool)
@@ -157,7 +157,7 @@ module _ (Words : ℕ → ℕ → ℕ → Type 0) (Cells : ℕ → List ℕ → 
           → RowsRelated (length cells) (endRow number child i j cells) (endRow number′ child′ i j cells′)
       unfolding endRow
       end-related i j cells cells′ low e =
-          table-related _ _ cells cells′ (λ k. relation .later _ _ _ _ low (h (64 * i + 8 * j + k))) e
+          branch-related _ _ cells cells′ (λ k. relation .later _ _ _ _ low (h (64 * i + 8 * j + k))) e
 
       mid-related : (i : ℕ) (cells cells′ : List (List ℕ)) → least ≤ length cells → EachCell cells cells′
           → RowsRelated (length cells) (midRow number child i cells) (midRow number′ child′ i cells′)
@@ -166,7 +166,7 @@ module _ (Words : ℕ → ℕ → ℕ → Type 0) (Cells : ℕ → List ℕ → 
           let ends = rows-related (endRow number child i) (endRow number′ child′ i) least (end-related i) 8 0 cells cells′ low e in
           let made : Row = rows (endRow number child i) 8 0 cells in
           let made′ : Row = rows (endRow number′ child′ i) 8 0 cells′ in
-          let table = table-related (made .words) (made′ .words) (made .cells) (made′ .cells) (ends .words) (ends .cells) in
+          let table = branch-related (made .words) (made′ .words) (made .cells) (made′ .cells) (ends .words) (ends .cells) in
           record { more = omega (arith, ends .more, table .more); words = table .words; cells = table .cells }
 
       splitOf-related : (cells cells′ : List (List ℕ)) → least ≤ length cells → EachCell cells cells′
@@ -237,9 +237,9 @@ module _ (Words : ℕ → ℕ → ℕ → Type 0) (Cells : ℕ → List ℕ → 
         let mid : ℕ = headWord (m c) (x / 64) in
         let end : ℕ = wordBelow m mid (x / 8 % 8) in
         let withEnd =
-        over-related 28 (withWord (tableCopy m end) (4 * (x % 8))) b b′ (omega arith) (λ w. contents .tableCopied end (4 * (x % 8)) w) r in
+        over-related 28 (withWord (branchCopy m end) (4 * (x % 8))) b b′ (omega arith) (λ w. contents .branchCopied end (4 * (x % 8)) w) r in
         let withMid =
-        over-related 28 (withWord (tableCopy m mid) (4 * (x / 8 % 8))) _ _ (omega arith) (λ w. contents .tableCopied mid (4 * (x / 8 % 8)) w) withEnd in
+        over-related 28 (withWord (branchCopy m mid) (4 * (x / 8 % 8))) _ _ (omega arith) (λ w. contents .branchCopied mid (4 * (x / 8 % 8)) w) withEnd in
         unfold allocate in
         over-related 28 (withWord (headCopy (m c)) (16 + 4 * (x / 64))) _ _ (omega arith) (λ w. contents .headCopied c (16 + 4 * (x / 64)) w) withMid
 

@@ -20,7 +20,7 @@ use Rattle.order_words.proofs.Rising.{map-same, extended-rising}
 use Rattle.nodes.specs.Sparse.{sparseWord, sparseCharacter, sparseOrder, sparseDigits, sparseCount, positionOf, childFrom, sparseChild}
 use Rattle.staging.specs.NewCells.{withoutCharacters, sparseCopy, replacedCell, withOrder, appendedCell}
 use Rattle.updates.specs.SetChild.{withChild}
-use Rattle.staging.proofs.TableWords.{table-set}
+use Rattle.staging.proofs.BranchWords.{branch-set}
 use Rattle.nodes.proofs.SparseChildren.{Sparse, position-has, position-first, child-at, child-alike, child-last}
 use mathlib.Core.Bool.{cond}
 
@@ -77,7 +77,7 @@ module _ (bytes : List ℕ) (whole : length bytes ≡ 32) (most : sparseCount by
 
     pub replaced-word : w < 4294967296 → (q : ℕ) → q < 6 → sparseWord (replacedCell bytes p w) q ≡ cond (eqb q p) w (sparseWord bytes q)
     replaced-word small q near =
-        table-set (sparseCopy bytes) p w q copy-length (omega arith) small ∙ ap (cond (eqb q p) w) (copy-word q near)
+        branch-set (sparseCopy bytes) p w q copy-length (omega arith) small ∙ ap (cond (eqb q p) w) (copy-word q near)
 
     pub replaced-byte : (j : ℕ) → 24 ≤ j → (j < 24 + sparseCount bytes) ⊎ (30 ≤ j) → getD (replacedCell bytes p w) j 0 ≡ getD bytes j 0
     replaced-byte j behind kept = byte-other (sparseCopy bytes) (4 * p) w j (inr (omega arith)) ∙ copy-byte j kept

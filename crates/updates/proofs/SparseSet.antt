@@ -23,7 +23,7 @@ use Rattle.updates.specs.SetChild.{withChild, sparseSet}
 use Rattle.updates.proofs.Claims.{BuildStands, Consistent, Placed}
 use Rattle.updates.proofs.Rooms.{allocate-before}
 use Rattle.updates.proofs.Pairs.{sparse-allocated}
-use Rattle.staging.proofs.TableWords.{sparseChild-bounded}
+use Rattle.staging.proofs.BranchWords.{sparseChild-bounded}
 use Rattle.updates.proofs.SplitOf.{splitOf-below-stands, splitOf-with}
 use Rattle.nodes.proofs.SparseChildren.{Sparse, sparse-parts, sparse-valid, position-first}
 use Rattle.updates.proofs.SparseCells.{replaced-sparse, replaced-child, appended-sparse, appended-child}

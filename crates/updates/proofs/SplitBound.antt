@@ -15,7 +15,7 @@ use Rattle.nodes.specs.Sparse.{someWord, sparseCharacter, sparseWord, sparseCou
 use Rattle.nodes.proofs.SparseSteps.{count-small}
 use Rattle.staging.specs.NewCells.{blank, withWords}
 use Rattle.updates.specs.Built.{allocate}
-use Rattle.updates.specs.SplitBuild.{Row, tableRow, rows, endRow, midRow, splitOf}
+use Rattle.updates.specs.SplitBuild.{Row, branchRow, rows, endRow, midRow, splitOf}
 use Rattle.updates.specs.SetChild.{withChild}
 
 -- how many words are pointers, of so many from one on
@@ -89,9 +89,9 @@ pointers-sparse bytes (suc positions) from count x =
 
 -- a split: an end for each child at most, and five cells more
 module _ (number : ℕ → ℕ) where
-  table-most : (words : ℕ → ℕ) (cells : List (List ℕ)) → length (tableRow number words cells .cells) ≤ length cells + pointers words 8 0
-  unfolding tableRow
-  table-most words cells = go (someWord words 8 0) (pointers-some words 8 0)
+  branch-most : (words : ℕ → ℕ) (cells : List (List ℕ)) → length (branchRow number words cells .cells) ≤ length cells + pointers words 8 0
+  unfolding branchRow
+  branch-most words cells = go (someWord words 8 0) (pointers-some words 8 0)
     where
       go : (t : Bool) → (t ≡ true → 1 ≤ pointers words 8 0)
           → length (cond {A = Row} t (record { words = λ _. wordTo (number (length cells)) 28; cells = withWords words 8 0 blank ∷ cells }) (record { words = λ _. 0; cells = cells }) .cells)
@@ -99,9 +99,9 @@ module _ (number : ℕ → ℕ) where
       go true h = let r = h refl in omega (arith, r)
       go false h = omega arith
 
-  table-one : (words : ℕ → ℕ) (cells : List (List ℕ)) → length (tableRow number words cells .cells) ≤ 1 + length cells
-  unfolding tableRow
-  table-one words cells = go (someWord words 8 0)
+  branch-one : (words : ℕ → ℕ) (cells : List (List ℕ)) → length (branchRow number words cells .cells) ≤ 1 + length cells
+  unfolding branchRow
+  branch-one words cells = go (someWord words 8 0)
     where
       go : (t : Bool)
           → length (cond {A = Row} t (record { words = λ _. wordTo (number (length cells)) 28; cells = withWords words 8 0 blank ∷ cells }) (record { words = λ _. 0; cells = cells }) .cells)
@@ -113,7 +113,7 @@ module _ (number : ℕ → ℕ) where
     end-most : (i j : ℕ) (cells : List (List ℕ)) → length (endRow number child i j cells .cells) ≤ length cells + pointers child 8 (64 * i + 8 * j)
     unfolding endRow
     end-most i j cells =
-        let a = table-most (λ k. child (64 * i + 8 * j + k)) cells in
+        let a = branch-most (λ k. child (64 * i + 8 * j + k)) cells in
         let b = pointers-shifted child (64 * i + 8 * j) 8 0 (64 * i + 8 * j) (omega arith) in
         omega (arith, a, b)
 
@@ -131,7 +131,7 @@ module _ (number : ℕ → ℕ) where
     unfolding midRow
     mid-most i cells =
         let ends = ends-most i 8 0 64 cells refl in
-        let table = table-one (rows (endRow number child i) 8 0 cells .words) (rows (endRow number child i) 8 0 cells .cells) in
+        let table = branch-one (rows (endRow number child i) 8 0 cells .words) (rows (endRow number child i) 8 0 cells .cells) in
         let start : 64 * i + 8 * 0 ≡ 64 * i = omega arith in
         omega (arith, ends, table, ap (pointers child 64) start)
 

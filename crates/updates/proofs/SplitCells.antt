@@ -12,7 +12,7 @@ use Rattle.cells.specs.Occurrences.{occurrences}
 use Rattle.cells.proofs.Occurrences.{occurrences-append}
 use Rattle.nodes.specs.Layout.{Layout, usable, cellLimit}
 use Rattle.nodes.specs.Pointer.{pointer, byKind, wordTo}
-use Rattle.nodes.specs.Split.{headWord, tableWord, validHead, validTable, gather, under, endCells, midCells, headCells, wordBelow, splitChild}
+use Rattle.nodes.specs.Split.{headWord, branchWord, validHead, validBranch, gather, under, endCells, midCells, headCells, wordBelow, splitChild}
 use Rattle.nodes.specs.Node.{Node, plain, splitNode}
 use Rattle.cells.proofs.Words.{word-agree}
 use Rattle.nodes.proofs.Gather.{gather-same}
@@ -34,15 +34,15 @@ module _ (layout : Layout) (c : ℕ) (free : usable layout c ≡ true) where
     made-bounded = omega (arith, usable-inside layout c free)
 
     -- its words are those of the cell
-    pub made-below : (m : Memory) (i : ℕ) → wordBelow m (wordTo c 0x1C) i ≡ tableWord (m c) i
+    pub made-below : (m : Memory) (i : ℕ) → wordBelow m (wordTo c 0x1C) i ≡ branchWord (m c) i
     made-below m i = below-split layout m (wordTo c 0x1C) c i (made-split layout c small free)
 
     -- it leads to an end, or to a mid with its ends, where the cell holds a pointer
-    pub made-end : (m : Memory) → validTable (m c) ≡ true → endCells layout m (wordTo c 0x1C) ≡ some (c ∷ [])
+    pub made-end : (m : Memory) → validBranch (m c) ≡ true → endCells layout m (wordTo c 0x1C) ≡ some (c ∷ [])
     made-end m valid = end-join layout m (wordTo c 0x1C) c (made-split layout c small free) valid
 
-    pub made-mid : (m : Memory) (ends : List ℕ) → validTable (m c) ≡ true
-        → gather (λ j. under (endCells layout m) (tableWord (m c) j)) 8 0 ≡ some ends → midCells layout m (wordTo c 0x1C) ≡ some (c ∷ ends)
+    pub made-mid : (m : Memory) (ends : List ℕ) → validBranch (m c) ≡ true
+        → gather (λ j. under (endCells layout m) (branchWord (m c) j)) 8 0 ≡ some ends → midCells layout m (wordTo c 0x1C) ≡ some (c ∷ ends)
     made-mid m ends valid found = mid-join layout m (wordTo c 0x1C) c ends (made-split layout c small free) valid found
 
 -- the cells allocated before the newest

@@ -19,18 +19,18 @@ use Rattle.nodes.specs.Layout.{Layout, cellLimit}
 use Rattle.nodes.specs.Pointer.{wordTo}
 use Rattle.nodes.specs.Pointer.Pointer.{split}
 use Rattle.nodes.specs.Sparse.{someWord}
-use Rattle.nodes.specs.Split.{headWord, tableWord, validTable, gather, under, endCells, midCells, headCells, wordBelow, splitChild}
+use Rattle.nodes.specs.Split.{headWord, branchWord, validBranch, gather, under, endCells, midCells, headCells, wordBelow, splitChild}
 use Rattle.nodes.specs.Node.{Node, plain}
 use Rattle.nodes.proofs.Gather.{gather-at, gather-same, gather-change, gather-nil, under-zero, under-word, Framed, under-frame}
 use Rattle.nodes.proofs.Frame.{below-zero, below-split, end-cut, mid-cut, mid-ends, head-is, split-cut, end-frame, mid-frame, split-child-frame}
-use Rattle.staging.specs.NewCells.{tableCopy, headCopy}
+use Rattle.staging.specs.NewCells.{branchCopy, headCopy}
 use Rattle.updates.specs.Built.{Built, allocate}
 use Rattle.updates.specs.SplitBuild.{splitCopied}
 use Rattle.updates.specs.SetChild.{withChild}
 use Rattle.updates.proofs.Claims.{CellStands, CellsStand, BuildStands, cells-stand-from, numbers-more, Consistent, Placed}
 use Rattle.staging.proofs.CellBytes.{headCopy-cell}
 use Rattle.nodes.proofs.WordRows.{some-word-is}
-use Rattle.staging.proofs.TableWords.{table-set, head-set, headCopy-word, tableCopy-length, tableCopy-word, bits-same}
+use Rattle.staging.proofs.BranchWords.{branch-set, head-set, headCopy-word, branchCopy-length, branchCopy-word, bits-same}
 use Rattle.updates.proofs.SplitCells.{made-nonzero, made-bounded, made-below, made-end, made-mid, allocate-older, head-placed}
 
 -- words with one of them replaced by a pointer: some word is a pointer, and what is gathered under them
@@ -69,7 +69,7 @@ module _ (layout : Layout) (m : Memory) where
     | no other ↦
         let p = mid-cut layout m w a (sym (under-word (midCells layout m) w other) ∙ e) in (
           p .1,
-          gather-same (λ j. under (endCells layout m) (tableWord (m (p .0)) j)) (λ j. under (endCells layout m) (wordBelow m w j)) 8 0 (p .1)
+          gather-same (λ j. under (endCells layout m) (branchWord (m (p .0)) j)) (λ j. under (endCells layout m) (wordBelow m w j)) 8 0 (p .1)
               (λ j b low high at _. ap (under (endCells layout m)) (below-split layout m w (p .0) j (p .2)) ∙ at) (p .4),
           λ c. omega (arith, occurrences-later c (p .0) (p .1), ap (occurrences c) (p .5)),
         )
@@ -82,7 +82,7 @@ module _ (layout : Layout) (m : Memory) where
     | no other ↦
         let p = end-cut layout m w a (sym (under-word (endCells layout m) w other) ∙ e) in
         let cell : m (p .0) ≡ m′ (p .0) = agree-head m m′ (p .0) [] (subst (Agree m m′) (sym (p .3)) agree) in
-        below-split layout m′ w (p .0) k (p .1) ∙ ap (λ l. tableWord l k) (sym cell) ∙ sym (below-split layout m w (p .0) k (p .1))
+        below-split layout m′ w (p .0) k (p .1) ∙ ap (λ l. branchWord l k) (sym cell) ∙ sym (below-split layout m w (p .0) k (p .1))
   ]
 
   -- the children by the words of a new head, mid and end
@@ -150,9 +150,9 @@ module _ (layout : Layout) (number : ℕ → ℕ) (m m′ : Memory) where
 module _ (layout : Layout) (small : layout .cells ≤ cellLimit) (number : ℕ → ℕ) (m m′ : Memory)
     (bytes : (c : ℕ) → IsBytes (m c)) (whole : (c : ℕ) → length (m c) ≡ 32) where
   -- the words of a mid or end copied, and of a head copied
-  table-copied : (w p v q : ℕ) → p < 8 → v < 4294967296 → tableWord (withWord (tableCopy m w) (4 * p) v) q ≡ cond (eqb q p) v (wordBelow m w q)
-  table-copied w p v q inside bounded =
-      table-set (tableCopy m w) p v q (tableCopy-length m w (whole (w / 32))) inside bounded ∙ ap (cond (eqb q p) v) (tableCopy-word m w q)
+  branch-copied : (w p v q : ℕ) → p < 8 → v < 4294967296 → branchWord (withWord (branchCopy m w) (4 * p) v) q ≡ cond (eqb q p) v (wordBelow m w q)
+  branch-copied w p v q inside bounded =
+      branch-set (branchCopy m w) p v q (branchCopy-length m w (whole (w / 32))) inside bounded ∙ ap (cond (eqb q p) v) (branchCopy-word m w q)
 
   head-copied : (c p v q : ℕ) → p < 4 → q < 4 → v < 4294967296
       → headWord (withWord (headCopy (m c)) (0x10 + 4 * p) v) q ≡ cond (eqb q p) v (headWord (m c) q)
@@ -161,15 +161,15 @@ module _ (layout : Layout) (small : layout .cells ≤ cellLimit) (number : ℕ �
 
   -- a mid or end copied that stands, with a pointer set in it
   module _ (w p v : ℕ) (inside : p < 8) (other : v ≢ 0) (bounded : v < 4294967296) (d : ℕ)
-      (stands : CellStands layout m′ 0 d (withWord (tableCopy m w) (4 * p) v)) where
-    copy-words : (q : ℕ) → q < 8 → tableWord (m′ d) q ≡ cond (eqb q p) v (wordBelow m w q)
-    copy-words q near = ap (λ l. tableWord l q) (stands .bytes) ∙ table-copied w p v q inside bounded
+      (stands : CellStands layout m′ 0 d (withWord (branchCopy m w) (4 * p) v)) where
+    copy-words : (q : ℕ) → q < 8 → branchWord (m′ d) q ≡ cond (eqb q p) v (wordBelow m w q)
+    copy-words q near = ap (λ l. branchWord l q) (stands .bytes) ∙ branch-copied w p v q inside bounded
 
     copy-below : (q : ℕ) → q < 8 → wordBelow m′ (wordTo d 0x1C) q ≡ cond (eqb q p) v (wordBelow m w q)
     copy-below q near = made-below layout d (stands .free) small m′ q ∙ copy-words q near
 
-    copy-valid : validTable (m′ d) ≡ true
-    copy-valid = some-replaced (wordBelow m w) (tableWord (m′ d)) 8 p v inside other copy-words
+    copy-valid : validBranch (m′ d) ≡ true
+    copy-valid = some-replaced (wordBelow m w) (branchWord (m′ d)) 8 p v inside other copy-words
 
     copied-end : endCells layout m′ (wordTo d 0x1C) ≡ some (d ∷ [])
     copied-end = made-end layout d (stands .free) small m′ copy-valid
@@ -183,7 +183,7 @@ module _ (layout : Layout) (small : layout .cells ≤ cellLimit) (number : ℕ �
         let at = gather-at (λ j. under (endCells layout m) (wordBelow m w j)) 8 0 p (o .0) (omega arith) (omega arith) (o .1) in
         let alike : Agree m m′ (o .0) = agree-less m m′ a (o .0) (λ c h. omega (arith, o .2 c)) agree in
         let r =
-        gather-replaced m m′ (endCells layout m) (endCells layout m′) (end-frame layout m m′) (wordBelow m w) (tableWord (m′ d)) 8 p v
+        gather-replaced m m′ (endCells layout m) (endCells layout m′) (end-frame layout m m′) (wordBelow m w) (branchWord (m′ d)) 8 p v
         (at .0) new (o .0) inside other (at .1) end copy-words (o .1) alike in (
           r .0,
           made-mid layout d (stands .free) small m′ (r .0) copy-valid (r .1),
@@ -199,10 +199,10 @@ module _ (layout : Layout) (small : layout .cells ≤ cellLimit) (number : ℕ �
     split-placed standing =
         let mid : ℕ = headWord (m c) (x / 64) in
         let end : ℕ = wordBelow m mid (x / 8 % 8) in
-        let newEnd : List ℕ = withWord (tableCopy m end) (4 * (x % 8)) (b .word) in
+        let newEnd : List ℕ = withWord (branchCopy m end) (4 * (x % 8)) (b .word) in
         let withEnd : List (List ℕ) = newEnd ∷ b .cells in
         let e : ℕ = number (length (b .cells)) in
-        let newMid : List ℕ = withWord (tableCopy m mid) (4 * (x / 8 % 8)) (wordTo e 0x1C) in
+        let newMid : List ℕ = withWord (branchCopy m mid) (4 * (x / 8 % 8)) (wordTo e 0x1C) in
         let withMid : List (List ℕ) = newMid ∷ withEnd in
         let d : ℕ = number (length withEnd) in
         let newHead : List ℕ = withWord (headCopy (m c)) (0x10 + 4 * (x / 64)) (wordTo d 0x1C) in

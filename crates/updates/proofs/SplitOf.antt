@@ -10,7 +10,7 @@ use borrow.Author.Tests.{eq-eqb}
 use Rattle.cells.specs.Memory.{Memory}
 use Rattle.cells.proofs.Occurrences.{occurrences-none}
 use Rattle.nodes.specs.Layout.{Layout, cellLimit}
-use Rattle.nodes.specs.Split.{headWord, tableWord, gather, under, endCells, midCells, wordBelow}
+use Rattle.nodes.specs.Split.{headWord, branchWord, gather, under, endCells, midCells, wordBelow}
 use Rattle.nodes.specs.Node.{Node}
 use Rattle.nodes.proofs.Gather.{gather-same, gather-nil, under-zero}
 use Rattle.nodes.proofs.Frame.{below-zero}
@@ -20,9 +20,9 @@ use Rattle.updates.specs.SplitBuild.{Row, rows, endRow, midRow, splitOf}
 use Rattle.updates.specs.SetChild.{withChild}
 use Rattle.updates.proofs.Claims.{CellsStand, BuildStands, cells-stand-from, Consistent, Placed}
 use Rattle.nodes.proofs.WordRows.{some-word-is}
-use Rattle.staging.proofs.TableWords.{cond-bounded, head-words, bits-join}
+use Rattle.staging.proofs.BranchWords.{cond-bounded, head-words, bits-join}
 use Rattle.updates.proofs.SplitCells.{allocate-older, head-placed, made-below, made-end, made-mid}
-use Rattle.updates.proofs.SplitRows.{WordMade, table-below-stands, rows-below-stands, rows-made, table-made}
+use Rattle.updates.proofs.SplitRows.{WordMade, branch-below-stands, rows-below-stands, rows-made, branch-made}
 
 -- nothing is found under words that are all NONE
 nothing-found : (found : ℕ → Option (List ℕ)) (words : ℕ → ℕ) (count : ℕ) (cells : List ℕ)
@@ -39,14 +39,14 @@ module _ (layout : Layout) (number : ℕ → ℕ) (m′ : Memory) where
   pub end-holds : (child : ℕ → ℕ) (i j : ℕ) (cells : List (List ℕ)) → CellsStand layout number m′ (endRow number child i j cells .cells)
       → CellsStand layout number m′ cells
   unfolding endRow
-  end-holds child i j cells standing = table-below-stands layout number m′ (λ k. child (64 * i + 8 * j + k)) cells standing
+  end-holds child i j cells standing = branch-below-stands layout number m′ (λ k. child (64 * i + 8 * j + k)) cells standing
 
   pub mid-holds : (child : ℕ → ℕ) (i : ℕ) (cells : List (List ℕ)) → CellsStand layout number m′ (midRow number child i cells .cells)
       → CellsStand layout number m′ cells
   unfolding midRow
   mid-holds child i cells standing =
       let ends : Row = rows (endRow number child i) 8 0 cells in
-      rows-below-stands layout number m′ (endRow number child i) (end-holds child i) 8 0 cells (table-below-stands layout number m′ (ends .words) (ends .cells) standing)
+      rows-below-stands layout number m′ (endRow number child i) (end-holds child i) 8 0 cells (branch-below-stands layout number m′ (ends .words) (ends .cells) standing)
 
   pub splitOf-below-stands : (child : ℕ → ℕ) (b : Built) → BuildStands layout number m′ (splitOf number child (b .cells)) → BuildStands layout number m′ b
   unfolding splitOf allocate
@@ -66,7 +66,7 @@ module _ (layout : Layout) (small : layout .cells ≤ cellLimit) (number : ℕ �
         → WordMade number (endCells layout m′) (EndWords i j) (endRow number child i j cells .words 0) cells (endRow number child i j cells .cells)
     unfolding endRow
     end-made i j cells =
-        table-made layout small number m′ (endCells layout m′) (EndWords i j) (λ k. child (64 * i + 8 * j + k)) (λ k. bounded (64 * i + 8 * j + k)) cells cells []
+        branch-made layout small number m′ (endCells layout m′) (EndWords i j) (λ k. child (64 * i + 8 * j + k)) (λ k. bounded (64 * i + 8 * j + k)) cells cells []
         (λ c. omega (arith, occurrences-none c)) (λ blanks. (refl, λ k inside. below-zero m′ k ∙ sym (blanks k inside)))
         (λ d free valid same. (made-end layout d free small m′ valid, λ k inside. made-below layout d free small m′ k ∙ same k inside))
 
@@ -77,15 +77,15 @@ module _ (layout : Layout) (small : layout .cells ≤ cellLimit) (number : ℕ �
         let ends : Row = rows (endRow number child i) 8 0 cells in
         let W =
         rows-made layout number m′ (endCells layout m′) (EndWords i) (endRow number child i) (end-holds layout number m′ child i) (end-made i) 8 0 cells
-        (table-below-stands layout number m′ (ends .words) (ends .cells) standing) in
-        table-made layout small number m′ (midCells layout m′) (MidWords i) (ends .words) (W .bounded) cells (ends .cells) (W .cells) (W .count)
+        (branch-below-stands layout number m′ (ends .words) (ends .cells) standing) in
+        branch-made layout small number m′ (midCells layout m′) (MidWords i) (ends .words) (W .bounded) cells (ends .cells) (W .cells) (W .count)
         (λ blanks. (
           nothing-found (endCells layout m′) (ends .words) 8 (W .cells) (W .finds) blanks,
           λ j k inside near. ap (λ v. wordBelow m′ v k) (below-zero m′ j ∙ sym (blanks j inside)) ∙ W .good j (omega arith) (omega arith) k near,
         ))
         (λ d free valid same. (
           made-mid layout d free small m′ (W .cells) valid
-              (gather-same (λ j. under (endCells layout m′) (ends .words j)) (λ j. under (endCells layout m′) (tableWord (m′ d) j)) 8 0 (W .cells)
+              (gather-same (λ j. under (endCells layout m′) (ends .words j)) (λ j. under (endCells layout m′) (branchWord (m′ d) j)) 8 0 (W .cells)
               (λ j a low high e _. ap (under (endCells layout m′)) (same j (omega arith)) ∙ e) (W .finds)),
           λ j k inside near.
               ap (λ v. wordBelow m′ v k) (made-below layout d free small m′ j ∙ same j inside) ∙ W .good j (omega arith) (omega arith) k near,

@@ -16,18 +16,18 @@ use Rattle.cells.proofs.Occurrences.{occurrences-append, occurrences-none}
 use Rattle.nodes.specs.Layout.{Layout, usable, cellLimit}
 use Rattle.nodes.specs.Pointer.{wordTo}
 use Rattle.nodes.specs.Sparse.{someWord}
-use Rattle.nodes.specs.Split.{tableWord, validTable, gather, under}
+use Rattle.nodes.specs.Split.{branchWord, validBranch, gather, under}
 use Rattle.nodes.proofs.Gather.{gather-join, gather-same, under-zero, under-word}
 use Rattle.staging.specs.NewCells.{blank, withWords}
-use Rattle.updates.specs.SplitBuild.{Row, tableRow, rows}
+use Rattle.updates.specs.SplitBuild.{Row, branchRow, rows}
 use Rattle.updates.proofs.Claims.{CellsStand, numbers, numbers-more}
 use Rattle.nodes.proofs.WordRows.{some-word-is, some-word-at, some-word-not}
-use Rattle.staging.proofs.TableWords.{cond-bounded, table-words}
+use Rattle.staging.proofs.BranchWords.{cond-bounded, branch-words}
 use Rattle.updates.proofs.SplitCells.{made-nonzero, made-bounded}
 
 -- a table's row, by whether some word of it is a pointer
-abbrev tableRowIf : (ℕ → ℕ) → (ℕ → ℕ) → List (List ℕ) → Bool → Row
-tableRowIf number words cells t =
+abbrev branchRowIf : (ℕ → ℕ) → (ℕ → ℕ) → List (List ℕ) → Bool → Row
+branchRowIf number words cells t =
     cond t (record { words = λ _. wordTo (number (length cells)) 0x1C; cells = withWords words 8 0 blank ∷ cells })
     (record { words = λ _. 0; cells = cells })
 
@@ -50,11 +50,11 @@ module _ (number : ℕ → ℕ) where
 
 module _ (layout : Layout) (number : ℕ → ℕ) (m′ : Memory) where
   -- the cells allocated before some rows stand where those after them do
-  pub table-below-stands : (words : ℕ → ℕ) (cells : List (List ℕ)) → CellsStand layout number m′ (tableRow number words cells .cells) → CellsStand layout number m′ cells
-  unfolding tableRow
-  table-below-stands words cells = go (someWord words 8 0)
+  pub branch-below-stands : (words : ℕ → ℕ) (cells : List (List ℕ)) → CellsStand layout number m′ (branchRow number words cells .cells) → CellsStand layout number m′ cells
+  unfolding branchRow
+  branch-below-stands words cells = go (someWord words 8 0)
     where
-      go : (t : Bool) → CellsStand layout number m′ (tableRowIf number words cells t .cells) → CellsStand layout number m′ cells
+      go : (t : Bool) → CellsStand layout number m′ (branchRowIf number words cells t .cells) → CellsStand layout number m′ cells
       go true standing = standing .1
       go false standing = standing
 
@@ -106,23 +106,23 @@ module _ (layout : Layout) (small : layout .cells ≤ cellLimit) (number : ℕ �
       (before cells : List (List ℕ)) (below : List ℕ)
       (count : (c : ℕ) → occurrences c below + occurrences c (numbers number before) ≡ occurrences c (numbers number cells))
       (empty : ((k : ℕ) → k < 8 → words k ≡ 0) → (below ≡ []) × Good 0)
-      (full : (d : ℕ) → usable layout d ≡ true → validTable (m′ d) ≡ true → ((k : ℕ) → k < 8 → tableWord (m′ d) k ≡ words k)
+      (full : (d : ℕ) → usable layout d ≡ true → validBranch (m′ d) ≡ true → ((k : ℕ) → k < 8 → branchWord (m′ d) k ≡ words k)
       → (found (wordTo d 0x1C) ≡ some (d ∷ below)) × Good (wordTo d 0x1C)) where
-    pub table-made : CellsStand layout number m′ (tableRow number words cells .cells)
-        → WordMade number found Good (tableRow number words cells .words 0) before (tableRow number words cells .cells)
-    unfolding tableRow
-    table-made = go (someWord words 8 0) refl
+    pub branch-made : CellsStand layout number m′ (branchRow number words cells .cells)
+        → WordMade number found Good (branchRow number words cells .words 0) before (branchRow number words cells .cells)
+    unfolding branchRow
+    branch-made = go (someWord words 8 0) refl
       where
-        go : (t : Bool) → someWord words 8 0 ≡ t → CellsStand layout number m′ (tableRowIf number words cells t .cells)
-            → WordMade number found Good (tableRowIf number words cells t .words 0) before (tableRowIf number words cells t .cells)
+        go : (t : Bool) → someWord words 8 0 ≡ t → CellsStand layout number m′ (branchRowIf number words cells t .cells)
+            → WordMade number found Good (branchRowIf number words cells t .words 0) before (branchRowIf number words cells t .cells)
         go true e standing =
             let d : ℕ = number (length cells) in
             let q = some-word-at words 8 0 e in
-            let same : (k : ℕ) → k < 8 → tableWord (m′ d) k ≡ words k =
-            λ k inside. ap (λ l. tableWord l k) (standing .0 .bytes) ∙ table-words words k inside (bounded k) in
+            let same : (k : ℕ) → k < 8 → branchWord (m′ d) k ≡ words k =
+            λ k inside. ap (λ l. branchWord l k) (standing .0 .bytes) ∙ branch-words words k inside (bounded k) in
             let near : q .0 < 8 = omega (arith, q .2) in
-            let valid : validTable (m′ d) ≡ true =
-            some-word-is (tableWord (m′ d)) 8 0 (q .0) (omega arith) (omega arith) (λ z. q .3 (sym (same (q .0) near) ∙ z)) in
+            let valid : validBranch (m′ d) ≡ true =
+            some-word-is (branchWord (m′ d)) 8 0 (q .0) (omega arith) (omega arith) (λ z. q .3 (sym (same (q .0) near) ∙ z)) in
             let r = full d (standing .0 .free) valid same in
             record {
               cells = d ∷ below;

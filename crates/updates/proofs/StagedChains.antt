@@ -15,7 +15,7 @@ use Rattle.updates.specs.Built.{Built, room, allocate, characterBefore, 
 use Rattle.updates.specs.SetChild.{chainSet}
 use Rattle.staging.specs.Stage.{stageCells, staged, Put, allocated}
 use Rattle.updates.specs.Staged.{builtOf, Fitting}
-use Rattle.staging.specs.declared.stage.Made.{Made}
+use Rattle.staging.specs.declared.stage.BuildState.{BuildState}
 use Rattle.updates.proofs.Rooms.{room-most}
 use Rattle.staging.proofs.StageLaws.{staged-length, put-next}
 use Rattle.updates.proofs.StagedCell.{put-allocate}
@@ -53,7 +53,7 @@ unfolding chainWith characterBefore
 with-empty number x word zero = refl
 with-empty number x word (suc place) = refl
 
-module _ (number : ℕ → ℕ) (x : ℕ) (below : Made) (stage : List ℕ) where
+module _ (number : ℕ → ℕ) (x : ℕ) (below : BuildState) (stage : List ℕ) where
   -- a new cell where there is no room
   over-none : room (below .own) (below .word) ≡ 0
       → chainOver number x (builtOf below stage) ≡ allocate number 27 (chainCell x (below .word)) (staged stage (below .count))
@@ -71,7 +71,7 @@ module _ (number : ℕ → ℕ) (x : ℕ) (below : Made) (stage : List ℕ) wher
   over-longer place k e f = rw (e, f, staged-length stage k)
 
   module _ (r : ℕ) (is : r ≡ room (below .own) (below .word)) where
-    pub over-new : (made : Made) (after : List ℕ) → r ≡ 0
+    pub over-new : (made : BuildState) (after : List ℕ) → r ≡ 0
         → builtOf made after ≡ allocate number 27 (chainCell x (below .word)) (staged stage (below .count)) → builtOf made after ≡ chainOver number x (builtOf below stage)
     over-new made after none e = e ∙ sym (over-none (sym is ∙ none))
 
@@ -97,7 +97,7 @@ module _ (number : ℕ → ℕ) (x : ℕ) (below : Made) (stage : List ℕ) wher
         let named : word ≡ wordTo (number (below .count - 1)) (r - 1) = made ∙ ap (λ (m : ℕ). wordTo m (r - 1)) listed in
         (λ i. record { word = named i; own = true; cells = cells i }) ∙ sym (over-longer (r - 1) (below .count - 1) place k)
 
-  pub over-first-is : (made : Made) (after : List ℕ) → below .count ≡ 0
+  pub over-first-is : (made : BuildState) (after : List ℕ) → below .count ≡ 0
       → builtOf made after ≡ allocate number 27 (chainCell x (below .word)) (staged stage (below .count)) → builtOf made after ≡ chainOver number x (builtOf below stage)
   over-first-is made after none e = e ∙ sym (over-first none)
 
@@ -113,7 +113,7 @@ module _ (number : ℕ → ℕ) (bytes : List ℕ) (cell place x : ℕ) (b : Bui
   set-other n = rw (ne-eqb x (chainCharacter bytes place) n)
 
 -- the same where the bytes are read from the block and the build stands in the stage
-module _ (number : ℕ → ℕ) (block bytes : List ℕ) (cell place x : ℕ) (below : Made) (stage : List ℕ) (read : bytes ≡ memoryOf block cell) where
+module _ (number : ℕ → ℕ) (block bytes : List ℕ) (cell place x : ℕ) (below : BuildState) (stage : List ℕ) (read : bytes ≡ memoryOf block cell) where
   abbrev chainSetHere : Built
   chainSetHere = chainSet number (memoryOf block cell) cell place x (builtOf below stage)
 
@@ -130,14 +130,14 @@ module _ (number : ℕ → ℕ) (block bytes : List ℕ) (cell place x : ℕ) (b
       → Fitting (chainOver number x (builtOf below stage))
   chain-same-fits e fits = subst Fitting (same-here e) fits
 
-  pub chain-same-is : (made : Made) (after : List ℕ) → x ≡ getD bytes place 0 → builtOf made after ≡ chainOver number x (builtOf below stage)
+  pub chain-same-is : (made : BuildState) (after : List ℕ) → x ≡ getD bytes place 0 → builtOf made after ≡ chainOver number x (builtOf below stage)
       → builtOf made after ≡ chainSet number (memoryOf block cell) cell place x (builtOf below stage)
   chain-same-is made after e is = is ∙ sym (same-here e)
 
   pub chain-other-fits : x ≢ getD bytes place 0 → Fitting (chainSet number (memoryOf block cell) cell place x (builtOf below stage)) → below .count < stageCells
   chain-other-fits n fits = allocate-fits number 30 _ stage (below .count) (subst Fitting (other-here n) fits)
 
-  pub chain-other-is : (child : ℕ) (made : Made) (after : List ℕ) → x ≢ getD bytes place 0 → child ≡ chainChild bytes cell place
+  pub chain-other-is : (child : ℕ) (made : BuildState) (after : List ℕ) → x ≢ getD bytes place 0 → child ≡ chainChild bytes cell place
       → Put stage after (below .count) (sparsePair x (below .word) (getD bytes place 0) child) → made ≡ allocated number 30 (below .count)
       → builtOf made after ≡ chainSet number (memoryOf block cell) cell place x (builtOf below stage)
   chain-other-is child made after n is put took =

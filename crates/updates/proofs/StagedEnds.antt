@@ -17,7 +17,7 @@ use Rattle.updates.specs.Built.{Built, unowned, allocate}
 use Rattle.updates.specs.Build.{putBack, valueAt}
 use Rattle.staging.specs.Stage.{stageCells, staged}
 use Rattle.updates.specs.Staged.{builtOf, leafMade, Fitting}
-use Rattle.staging.specs.declared.stage.Made.{Made}
+use Rattle.staging.specs.declared.stage.BuildState.{BuildState}
 use Rattle.updates.proofs.StagedChains.{allocate-fits}
 use Rattle.nodes.specs.declared.pointer.Pointer.{Pointer as CodedPointer}
 
@@ -27,26 +27,26 @@ unfolding staged
 staged-none stage = refl
 
 -- a leaf with no cell
-leaf-built : (value : ℕ) (made : Made) (stage : List ℕ) → made ≡ leafMade value → builtOf made stage ≡ unowned (leafWord value) []
-leaf-built value made stage is = ap (λ (m : Made). builtOf m stage) is ∙ ap (unowned (leafWord value)) (staged-none stage)
+leaf-built : (value : ℕ) (made : BuildState) (stage : List ℕ) → made ≡ leafMade value → builtOf made stage ≡ unowned (leafWord value) []
+leaf-built value made stage is = ap (λ (m : BuildState). builtOf m stage) is ∙ ap (unowned (leafWord value)) (staged-none stage)
 
 -- what becomes of the node at the key's end
 module _ (layout : Layout) (number : ℕ → ℕ) (m : Memory) (value word : ℕ) (p : CodedPointer) (coded : pointerOf p ≡ pointer layout word) where
   at-pointer : valueAt layout number m value (pointerOf p) word ≡ valueAt layout number m value (pointer layout word) word
   at-pointer = ap (λ (q : Pointer). valueAt layout number m value q word) coded
 
-  pub end-nothing : (made : Made) (stage : List ℕ) → p ≡ Nothing → made ≡ leafMade value → builtOf made stage ≡ valueAt layout number m value (pointer layout word) word
+  pub end-nothing : (made : BuildState) (stage : List ℕ) → p ≡ Nothing → made ≡ leafMade value → builtOf made stage ≡ valueAt layout number m value (pointer layout word) word
   unfolding valueAt
   end-nothing made stage case is =
       leaf-built value made stage is ∙ ap (λ (q : CodedPointer). valueAt layout number m value (pointerOf q) word) (sym case) ∙ at-pointer
 
-  pub end-leaf : (v : ℕ) (made : Made) (stage : List ℕ) → p ≡ Leaf v → made ≡ leafMade value
+  pub end-leaf : (v : ℕ) (made : BuildState) (stage : List ℕ) → p ≡ Leaf v → made ≡ leafMade value
       → builtOf made stage ≡ valueAt layout number m value (pointer layout word) word
   unfolding valueAt
   end-leaf v made stage case is =
       leaf-built value made stage is ∙ ap (λ (q : CodedPointer). valueAt layout number m value (pointerOf q) word) (sym case) ∙ at-pointer
 
-  pub end-invalid : (made : Made) (stage : List ℕ) → p ≡ Invalid → made ≡ leafMade value → builtOf made stage ≡ valueAt layout number m value (pointer layout word) word
+  pub end-invalid : (made : BuildState) (stage : List ℕ) → p ≡ Invalid → made ≡ leafMade value → builtOf made stage ≡ valueAt layout number m value (pointer layout word) word
   unfolding valueAt
   end-invalid made stage case is =
       leaf-built value made stage is ∙ ap (λ (q : CodedPointer). valueAt layout number m value (pointerOf q) word) (sym case) ∙ at-pointer
@@ -74,7 +74,7 @@ module _ (layout : Layout) (number : ℕ → ℕ) (m : Memory) (value word : ℕ
   end-other all stage rest made = made ∙ ap (allocate number 31 (prefixCell value word)) (staged-none stage) ∙ end-rest p rest ∙ at-pointer
 
 -- a value put back, or none
-module _ (layout : Layout) (number : ℕ → ℕ) (held : Value) (built : Made) (stage : List ℕ) where
+module _ (layout : Layout) (number : ℕ → ℕ) (held : Value) (built : BuildState) (stage : List ℕ) where
   back-value : (v : ℕ) → held ≡ Held v
       → putBack layout number (heldOf held) (builtOf built stage) ≡ allocate number 31 (prefixCell v (built .word)) (staged stage (built .count))
   unfolding putBack

@@ -14,10 +14,10 @@ use Rattle.cells.specs.Word.{withWord}
 use Rattle.nodes.specs.Pointer.{wordTo}
 use Rattle.nodes.specs.Sparse.{someWord}
 use Rattle.staging.specs.NewCells.{blank, withWords}
-use Rattle.updates.specs.SplitBuild.{Row, tableRow, rows}
+use Rattle.updates.specs.SplitBuild.{Row, branchRow, rows}
 use Rattle.staging.specs.Stage.{stageCells, staged, Put, allocated}
 use Rattle.updates.specs.Staged.{Rowed, RowFitting}
-use Rattle.staging.specs.declared.stage.Made.{Made}
+use Rattle.staging.specs.declared.stage.BuildState.{BuildState}
 use Rattle.staging.proofs.StageLaws.{staged-length, put-newest}
 
 -- two rows with the same words and cells
@@ -41,41 +41,41 @@ words-agree f g (suc count) position bytes same =
     ∙ words-agree f g count (position + 1) (withWord bytes (4 * position) (g position)) (λ p low high. same p (omega arith) (omega arith))
 
 module _ (number : ℕ → ℕ) where
-  pub table-agree : (f g : ℕ → ℕ) (cells : List (List ℕ)) → ((p : ℕ) → p < 8 → f p ≡ g p) → SameRow (tableRow number f cells) (tableRow number g cells)
-  unfolding tableRow
-  table-agree f g cells same =
+  pub branch-agree : (f g : ℕ → ℕ) (cells : List (List ℕ)) → ((p : ℕ) → p < 8 → f p ≡ g p) → SameRow (branchRow number f cells) (branchRow number g cells)
+  unfolding branchRow
+  branch-agree f g cells same =
       let tests : someWord f 8 0 ≡ someWord g 8 0 = some-agree f g 8 0 (λ p low high. same p (omega arith)) in
       let bytes : withWords f 8 0 blank ≡ withWords g 8 0 blank = words-agree f g 8 0 blank (λ p low high. same p (omega arith)) in
       rw (tests, bytes) (record { words = λ q. refl; cells = refl })
 
   -- a table by whether a word of it is a pointer
   module _ (f : ℕ → ℕ) (t : Bool) (told : t ≡ someWord f 8 0) where
-    pub table-none : (cells : List (List ℕ)) → t ≡ false → Rowed (tableRow number f cells) 0 cells
-    unfolding tableRow
-    table-none cells none = let e : someWord f 8 0 ≡ false = sym told ∙ none in rw e (record { first = refl; stands = refl })
+    pub branch-none : (cells : List (List ℕ)) → t ≡ false → Rowed (branchRow number f cells) 0 cells
+    unfolding branchRow
+    branch-none cells none = let e : someWord f 8 0 ≡ false = sym told ∙ none in rw e (record { first = refl; stands = refl })
 
-    pub table-fits : (stage : List ℕ) (count : ℕ) → t ≡ true → RowFitting (tableRow number f (staged stage count)) → count < stageCells
-    unfolding tableRow
-    table-fits stage count some fits =
+    pub branch-fits : (stage : List ℕ) (count : ℕ) → t ≡ true → RowFitting (branchRow number f (staged stage count)) → count < stageCells
+    unfolding branchRow
+    branch-fits stage count some fits =
         let e : someWord f 8 0 ≡ true = sym told ∙ some in
         let long : suc (length (staged stage count)) ≤ stageCells = rw e at fits in
         omega (arith, long, staged-length stage count)
 
-    pub table-some : (stage after : List ℕ) (count : ℕ) (made : Made) → t ≡ true → Put stage after count (withWords f 8 0 blank)
-        → made ≡ allocated number 28 count → Rowed (tableRow number f (staged stage count)) (made .word) (staged after (made .count))
-    unfolding tableRow
-    table-some stage after count made some put took =
+    pub branch-some : (stage after : List ℕ) (count : ℕ) (made : BuildState) → t ≡ true → Put stage after count (withWords f 8 0 blank)
+        → made ≡ allocated number 28 count → Rowed (branchRow number f (staged stage count)) (made .word) (staged after (made .count))
+    unfolding branchRow
+    branch-some stage after count made some put took =
         let e : someWord f 8 0 ≡ true = sym told ∙ some in
         rw e
         (record {
-          first = ap (λ (m : Made). m .word) took ∙ ap (λ (k : ℕ). wordTo (number k) 28) (sym (staged-length stage count));
-          stands = put-newest put (made .count) (ap (λ (m : Made). m .count) took);
+          first = ap (λ (m : BuildState). m .word) took ∙ ap (λ (k : ℕ). wordTo (number k) 28) (sym (staged-length stage count));
+          stands = put-newest put (made .count) (ap (λ (m : BuildState). m .count) took);
         })
 
   -- a table only adds cells
-  pub table-grows : (f : ℕ → ℕ) (cells : List (List ℕ)) → length cells ≤ length (tableRow number f cells .cells)
-  unfolding tableRow
-  table-grows f cells = go (someWord f 8 0)
+  pub branch-grows : (f : ℕ → ℕ) (cells : List (List ℕ)) → length cells ≤ length (branchRow number f cells .cells)
+  unfolding branchRow
+  branch-grows f cells = go (someWord f 8 0)
     where
       go : (t : Bool)
           → length cells

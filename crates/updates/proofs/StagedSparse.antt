@@ -16,7 +16,7 @@ use Rattle.updates.specs.SplitBuild.{splitOf}
 use Rattle.updates.specs.SetChild.{withChild, sparseSet}
 use Rattle.staging.specs.Stage.{stageCells, staged, Put, allocated}
 use Rattle.updates.specs.Staged.{builtOf, Fitting}
-use Rattle.staging.specs.declared.stage.Made.{Made}
+use Rattle.staging.specs.declared.stage.BuildState.{BuildState}
 use Rattle.updates.proofs.StagedCell.{put-allocate}
 use Rattle.updates.proofs.StagedChains.{allocate-fits}
 
@@ -83,7 +83,7 @@ module _ (number : ℕ → ℕ) (bytes : List ℕ) (x : ℕ) (b : Built) (many p
       rw (le-ltb _ _ far, le-ltb _ 6 all)
 
 -- the same where the bytes are read from the block and the build stands in the stage
-module _ (number : ℕ → ℕ) (block bytes : List ℕ) (cell x : ℕ) (below : Made) (stage : List ℕ) (many position : ℕ)
+module _ (number : ℕ → ℕ) (block bytes : List ℕ) (cell x : ℕ) (below : BuildState) (stage : List ℕ) (many position : ℕ)
     (read : bytes ≡ memoryOf block cell) (counted : many ≡ sparseCount bytes) (placed : position ≡ positionOf bytes (sparseCount bytes) 0 x) where
   counted-here : many ≡ sparseCount (memoryOf block cell)
   counted-here = counted ∙ ap sparseCount read
@@ -109,7 +109,7 @@ module _ (number : ℕ → ℕ) (block bytes : List ℕ) (cell x : ℕ) (below :
   pub replaced-fits : position < many → Fitting (sparseSet number (memoryOf block cell) x (builtOf below stage)) → below .count < stageCells
   replaced-fits here fits = allocate-fits number 30 _ stage (below .count) (subst Fitting (replaced-here here) fits)
 
-  pub replaced-is : (made : Made) (after : List ℕ) → position < many → Put stage after (below .count) (replacedCell (memoryOf block cell) position (below .word))
+  pub replaced-is : (made : BuildState) (after : List ℕ) → position < many → Put stage after (below .count) (replacedCell (memoryOf block cell) position (below .word))
       → made ≡ allocated number 30 (below .count) → builtOf made after ≡ sparseSet number (memoryOf block cell) x (builtOf below stage)
   replaced-is made after here put took = put-allocate put number 30 made took ∙ sym (replaced-here here)
 
@@ -117,7 +117,7 @@ module _ (number : ℕ → ℕ) (block bytes : List ℕ) (cell x : ℕ) (below :
   pub appended-fits : many ≤ position → many < 6 → Fitting (sparseSet number (memoryOf block cell) x (builtOf below stage)) → below .count < stageCells
   appended-fits past room fits = allocate-fits number 30 _ stage (below .count) (subst Fitting (appended-here past room) fits)
 
-  pub appended-is : (made : Made) (after : List ℕ) → many ≤ position → many < 6 → Put stage after (below .count) (appendedCell (memoryOf block cell) x (below .word))
+  pub appended-is : (made : BuildState) (after : List ℕ) → many ≤ position → many < 6 → Put stage after (below .count) (appendedCell (memoryOf block cell) x (below .word))
       → made ≡ allocated number 30 (below .count) → builtOf made after ≡ sparseSet number (memoryOf block cell) x (builtOf below stage)
   appended-is made after past room put took = put-allocate put number 30 made took ∙ sym (appended-here past room)
 

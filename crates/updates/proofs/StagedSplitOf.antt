@@ -6,13 +6,13 @@ use Prim.Native.Nat.{ℕ, _+_, _-_, _*_, _≤_, _<_}
 use lib.ListN.{length, getD, set}
 use Rattle.staging.specs.NewCells.{blank, withWords}
 use Rattle.updates.specs.Built.{allocate}
-use Rattle.updates.specs.SplitBuild.{Row, tableRow, rows, endRow, midRow, splitOf}
+use Rattle.updates.specs.SplitBuild.{Row, branchRow, rows, endRow, midRow, splitOf}
 use Rattle.staging.specs.Stage.{stageCells, staged, Put, allocated}
 use Rattle.updates.specs.Staged.{builtOf, Fitting, Rowed, RowFitting, Words}
-use Rattle.staging.specs.declared.stage.Made.{Made}
+use Rattle.staging.specs.declared.stage.BuildState.{BuildState}
 use Rattle.staging.proofs.StageLaws.{staged-length}
 use Rattle.updates.proofs.StagedCell.{put-allocate}
-use Rattle.updates.proofs.StagedRows.{SameRow, words-agree, table-agree, table-grows, rows-grow, rows-first, Making, making-more, making-cells}
+use Rattle.updates.proofs.StagedRows.{SameRow, words-agree, branch-agree, branch-grows, rows-grow, rows-first, Making, making-more, making-cells}
 
 -- where an end's word and where a mid's word stand in their arrays
 abbrev pub endSlot : ℕ → ℕ
@@ -24,7 +24,7 @@ midSlot q = 4 + q
 module _ (number : ℕ → ℕ) (child : ℕ → ℕ) where
   end-grows : (i j : ℕ) (cells : List (List ℕ)) → length cells ≤ length (endRow number child i j cells .cells)
   unfolding endRow
-  end-grows i j cells = table-grows number _ cells
+  end-grows i j cells = branch-grows number _ cells
 
   mid-grows : (i : ℕ) (cells : List (List ℕ)) → length cells ≤ length (midRow number child i cells .cells)
   unfolding midRow
@@ -32,7 +32,7 @@ module _ (number : ℕ → ℕ) (child : ℕ → ℕ) where
       omega (
         arith,
         rows-grow (endRow number child i) (end-grows i) 8 0 cells,
-        table-grows number (rows (endRow number child i) 8 0 cells .words) (rows (endRow number child i) 8 0 cells .cells),
+        branch-grows number (rows (endRow number child i) 8 0 cells .words) (rows (endRow number child i) 8 0 cells .cells),
       )
 
   -- the ends of a mid
@@ -42,18 +42,18 @@ module _ (number : ℕ → ℕ) (child : ℕ → ℕ) where
 
     ends-fit : RowFitting (midRow number child i before) → length (ends .cells) ≤ stageCells
     unfolding midRow
-    ends-fit fits = omega (arith, fits, table-grows number (ends .words) (ends .cells))
+    ends-fit fits = omega (arith, fits, branch-grows number (ends .words) (ends .cells))
 
     module _ (left j : ℕ) (cells : List (List ℕ)) (array : List ℕ) (so-far : Making endSlot ends (rows (endRow number child i) left j cells) j array) where
       -- the next end, of the words in an array
       module _ (words : List ℕ) (filled : Words words child (64 * i + 8 * j)) where
-        end-same : SameRow (tableRow number (λ k. getD words (0 + k) 0) cells) (endRow number child i j cells)
+        end-same : SameRow (branchRow number (λ k. getD words (0 + k) 0) cells) (endRow number child i j cells)
         unfolding endRow
         end-same =
-            table-agree number (λ k. getD words (0 + k) 0) (λ k. child (64 * i + 8 * j + k)) cells
+            branch-agree number (λ k. getD words (0 + k) 0) (λ k. child (64 * i + 8 * j + k)) cells
             (λ p near. let plain : 0 + p ≡ p = omega arith in ap (λ (k : ℕ). getD words k 0) plain ∙ filled .each p near)
 
-        pub end-fits : (less : ℕ) → RowFitting (midRow number child i before) → left ≡ less + 1 → RowFitting (tableRow number (λ k. getD words (0 + k) 0) cells)
+        pub end-fits : (less : ℕ) → RowFitting (midRow number child i before) → left ≡ less + 1 → RowFitting (branchRow number (λ k. getD words (0 + k) 0) cells)
         end-fits less fits e =
             omega (
               arith,
@@ -61,7 +61,7 @@ module _ (number : ℕ → ℕ) (child : ℕ → ℕ) where
               rows-first (endRow number child i) (end-grows i) left less j cells stageCells e (omega (arith, ends-fit fits, ap (λ (l : List (List ℕ)). length l) (so-far .cells))),
             )
 
-        pub end-more : (less word : ℕ) (cells′ : List (List ℕ)) → Rowed (tableRow number (λ k. getD words (0 + k) 0) cells) word cells′
+        pub end-more : (less word : ℕ) (cells′ : List (List ℕ)) → Rowed (branchRow number (λ k. getD words (0 + k) 0) cells) word cells′
             → j < length array → left ≡ less + 1 → Making endSlot ends (rows (endRow number child i) less (j + 1) cells′) (j + 1) (set array j word)
         end-more less word cells′ made inside e =
             making-more (endRow number child i) endSlot (λ p q other. other) ends left less j cells cells′ array word so-far
@@ -71,17 +71,17 @@ module _ (number : ℕ → ℕ) (child : ℕ → ℕ) where
       all-cells : left ≡ 0 → ends .cells ≡ cells
       all-cells e = making-cells (endRow number child i) endSlot (λ p q other. other) ends left j cells array so-far e
 
-      mid-same : left ≡ 0 → 8 ≤ j → SameRow (tableRow number (λ k. getD array (0 + k) 0) cells) (midRow number child i before)
+      mid-same : left ≡ 0 → 8 ≤ j → SameRow (branchRow number (λ k. getD array (0 + k) 0) cells) (midRow number child i before)
       unfolding midRow
       mid-same e all =
-          subst (λ (l : List (List ℕ)). SameRow (tableRow number (λ k. getD array (0 + k) 0) l) (tableRow number (ends .words) (ends .cells))) (all-cells e)
-          (table-agree number (λ k. getD array (0 + k) 0) (ends .words) (ends .cells)
+          subst (λ (l : List (List ℕ)). SameRow (branchRow number (λ k. getD array (0 + k) 0) l) (branchRow number (ends .words) (ends .cells))) (all-cells e)
+          (branch-agree number (λ k. getD array (0 + k) 0) (ends .words) (ends .cells)
           (λ p near. let plain : 0 + p ≡ p = omega arith in ap (λ (k : ℕ). getD array k 0) plain ∙ so-far .done p (omega arith)))
 
-      pub mid-fits : left ≡ 0 → 8 ≤ j → RowFitting (midRow number child i before) → RowFitting (tableRow number (λ k. getD array (0 + k) 0) cells)
+      pub mid-fits : left ≡ 0 → 8 ≤ j → RowFitting (midRow number child i before) → RowFitting (branchRow number (λ k. getD array (0 + k) 0) cells)
       mid-fits e all fits = omega (arith, fits, ap (λ (l : List (List ℕ)). length l) (mid-same e all .cells))
 
-      pub mid-is : (word : ℕ) (cells′ : List (List ℕ)) → left ≡ 0 → 8 ≤ j → Rowed (tableRow number (λ k. getD array (0 + k) 0) cells) word cells′
+      pub mid-is : (word : ℕ) (cells′ : List (List ℕ)) → left ≡ 0 → 8 ≤ j → Rowed (branchRow number (λ k. getD array (0 + k) 0) cells) word cells′
           → Rowed (midRow number child i before) word cells′
       mid-is word cells′ e all made =
           record { first = made .first ∙ mid-same e all .words 0; stands = made .stands ∙ mid-same e all .cells }
@@ -124,7 +124,7 @@ module _ (number : ℕ → ℕ) (child : ℕ → ℕ) where
       head-fits stage count is e fits =
           omega (arith, mids-fit fits, ap (λ (l : List (List ℕ)). length l) (mids-cells e ∙ is), staged-length stage count)
 
-      pub split-of-is : (made : Made) (stage after : List ℕ) (count : ℕ) → cells ≡ staged stage count → left ≡ 0 → 4 ≤ i
+      pub split-of-is : (made : BuildState) (stage after : List ℕ) (count : ℕ) → cells ≡ staged stage count → left ≡ 0 → 4 ≤ i
           → Put stage after count (withWords (λ p. getD array (0 + p) 0) 4 4 blank) → made ≡ allocated number 28 count
           → builtOf made after ≡ splitOf number child before
       split-of-is made stage after count is e all put took =

@@ -17,12 +17,12 @@ use Rattle.nodes.specs.Split.{headWord, under, midCells, endCells, headCells, w
 use Rattle.nodes.proofs.Pointers.{names, usable-inside}
 use Rattle.nodes.proofs.Gather.{gather-at, under-word}
 use Rattle.nodes.proofs.Frame.{below-zero, below-word, split-word-cell, mid-cut, end-cut, mid-ends, head-is}
-use Rattle.staging.specs.NewCells.{tableCopy, headCopy}
+use Rattle.staging.specs.NewCells.{branchCopy, headCopy}
 use Rattle.updates.specs.Built.{Built, allocate}
 use Rattle.updates.specs.SplitBuild.{splitCopied}
 use Rattle.staging.specs.Stage.{stageCells, staged}
 use Rattle.updates.specs.Staged.{builtOf, Fitting}
-use Rattle.staging.specs.declared.stage.Made.{Made}
+use Rattle.staging.specs.declared.stage.BuildState.{BuildState}
 use Rattle.staging.proofs.StageLaws.{staged-length}
 
 -- a word of the mid or end that a word names
@@ -70,10 +70,10 @@ module _ (layout : Layout) (m : Memory) (n : ℕ) (some-cell : 1 ≤ layout .cel
 -- the three cells, each over the one before
 module _ (number : ℕ → ℕ) (m : Memory) (c x mid end : ℕ) where
   abbrev endSet : Built → Built
-  endSet b = allocate number 28 (withWord (tableCopy m end) (4 * (x % 8)) (b .word)) (b .cells)
+  endSet b = allocate number 28 (withWord (branchCopy m end) (4 * (x % 8)) (b .word)) (b .cells)
 
   abbrev midSet : Built → Built
-  midSet b = allocate number 28 (withWord (tableCopy m mid) (4 * (x / 8 % 8)) (b .word)) (b .cells)
+  midSet b = allocate number 28 (withWord (branchCopy m mid) (4 * (x / 8 % 8)) (b .word)) (b .cells)
 
   abbrev headSet : Built → Built
   headSet b = allocate number 28 (withWord (headCopy (m c)) (16 + 4 * (x / 64)) (b .word)) (b .cells)
@@ -84,18 +84,18 @@ module _ (number : ℕ → ℕ) (m : Memory) (c x mid end : ℕ) where
   split-steps is below b = rw (below, is)
 
   module _ (is : mid ≡ headWord (m c) (x / 64)) (below : end ≡ wordBelow m mid (x / 8 % 8)) (b : Built) where
-    pub split-is : (ended midded all : Built) → ended ≡ endSet b → midded ≡ midSet ended → all ≡ headSet midded → all ≡ splitCopied number m c x b
-    split-is ended midded all first second third =
+    pub split-is : (endBuilt midBuilt all : Built) → endBuilt ≡ endSet b → midBuilt ≡ midSet endBuilt → all ≡ headSet midBuilt → all ≡ splitCopied number m c x b
+    split-is endBuilt midBuilt all first second third =
         third ∙ ap headSet (second ∙ ap midSet first) ∙ split-steps is below b
 
 -- how many cells stand after each of them
-pub allocated-count : (number : ℕ → ℕ) (kind : ℕ) (bytes : List ℕ) (made : Made) (stage after : List ℕ) (count : ℕ)
+pub allocated-count : (number : ℕ → ℕ) (kind : ℕ) (bytes : List ℕ) (made : BuildState) (stage after : List ℕ) (count : ℕ)
     → builtOf made after ≡ allocate number kind bytes (staged stage count) → made .count ≡ suc count
 unfolding allocate
 allocated-count number kind bytes made stage after count e =
     sym (staged-length after (made .count)) ∙ ap (λ (b : Built). length (b .cells)) e ∙ ap suc (staged-length stage count)
 
-pub split-fits : (number : ℕ → ℕ) (m : Memory) (c x : ℕ) (below : Made) (stage : List ℕ) → Fitting (splitCopied number m c x (builtOf below stage))
+pub split-fits : (number : ℕ → ℕ) (m : Memory) (c x : ℕ) (below : BuildState) (stage : List ℕ) → Fitting (splitCopied number m c x (builtOf below stage))
     → below .count + 3 ≤ stageCells
 unfolding splitCopied allocate
 split-fits number m c x below stage fits = omega (arith, fits, staged-length stage (below .count))

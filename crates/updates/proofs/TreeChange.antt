@@ -52,9 +52,9 @@ module _ (layout : Layout) (small : layout .cells ≤ cellLimit) (number : ℕ �
         ∙ ap (λ u. lookup layout m′ u k) new-child ∙ below .table k
         ∙ sym (assign-behind (lookup layout m w) x key given (lookup layout m (X .child x)) x k refl (lookup-cons layout m w x k X near node))
 
-    table-other : (y : ℕ) (k : List ℕ) → y < 256 → y ≢ x
+    branch-other : (y : ℕ) (k : List ℕ) → y < 256 → y ≢ x
         → lookup layout m′ (after .word) (y ∷ k) ≡ assign (lookup layout m w) (x ∷ key) given (y ∷ k)
-    table-other y k character other =
+    branch-other y k character other =
         let q = tree-below layout m d w y cs X character found node in
         lookup-cons layout m′ (after .word) y k (changed .node) character (changed .reads)
         ∙ ap (λ u. lookup layout m′ u k) (other-child y character other)
@@ -74,7 +74,7 @@ module _ (layout : Layout) (small : layout .cells ≤ cellLimit) (number : ℕ �
       | no far ↦ table-far y k (omega arith)
       | yes character ↦ elim (ℕ-discrete y x) [
         | yes same ↦ rw same (table-same k)
-        | no other ↦ table-other y k character other
+        | no other ↦ branch-other y k character other
       ]
     ]
 

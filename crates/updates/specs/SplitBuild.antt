@@ -8,7 +8,7 @@ use Rattle.cells.specs.Memory.{Memory}
 use Rattle.nodes.specs.Pointer.{wordTo}
 use Rattle.nodes.specs.Sparse.{someWord}
 use Rattle.nodes.specs.Split.{headWord, wordBelow}
-use Rattle.staging.specs.NewCells.{blank, tableCopy, headCopy, withWords}
+use Rattle.staging.specs.NewCells.{blank, branchCopy, headCopy, withWords}
 use Rattle.updates.specs.Built.{Built, allocate}
 use mathlib.Core.Bool.{cond}
 
@@ -18,8 +18,8 @@ pub record Row : Type 0 where
   pub cells : List (List ℕ)
 
 -- a cell of eight words if one of them is a pointer, else NONE; its word is that of place 0
-unfoldable pub tableRow : (ℕ → ℕ) → (ℕ → ℕ) → List (List ℕ) → Row
-tableRow number words cells =
+unfoldable pub branchRow : (ℕ → ℕ) → (ℕ → ℕ) → List (List ℕ) → Row
+branchRow number words cells =
     let bytes = withWords words 8 0 blank in
     cond (someWord words 8 0)
     (record { words = λ _. wordTo (number (length cells)) 0x1C; cells = bytes ∷ cells })
@@ -35,11 +35,11 @@ rows make (suc count) i cells =
 
 -- the end of the characters with these five upper bits
 unfoldable pub endRow : (ℕ → ℕ) → (ℕ → ℕ) → ℕ → ℕ → List (List ℕ) → Row
-endRow number child i j cells = tableRow number (λ k. child (64 * i + 8 * j + k)) cells
+endRow number child i j cells = branchRow number (λ k. child (64 * i + 8 * j + k)) cells
 
 -- the ends of the characters with these two upper bits, then their mid
 unfoldable pub midRow : (ℕ → ℕ) → (ℕ → ℕ) → ℕ → List (List ℕ) → Row
-midRow number child i cells = let ends = rows (endRow number child i) 8 0 cells in tableRow number (ends .words) (ends .cells)
+midRow number child i cells = let ends = rows (endRow number child i) 8 0 cells in branchRow number (ends .words) (ends .cells)
 
 -- a split of any children, by their words
 unfoldable pub splitOf : (ℕ → ℕ) → (ℕ → ℕ) → List (List ℕ) → Built
@@ -52,8 +52,8 @@ unfoldable pub splitCopied : (ℕ → ℕ) → Memory → ℕ → ℕ → Built 
 splitCopied number m c x b =
     let mid = headWord (m c) (x / 64) in
     let end = wordBelow m mid (x / 8 % 8) in
-    let newEnd = withWord (tableCopy m end) (4 * (x % 8)) (b .word) in
+    let newEnd = withWord (branchCopy m end) (4 * (x % 8)) (b .word) in
     let withEnd = newEnd ∷ b .cells in
-    let newMid = withWord (tableCopy m mid) (4 * (x / 8 % 8)) (wordTo (number (length (b .cells))) 0x1C) in
+    let newMid = withWord (branchCopy m mid) (4 * (x / 8 % 8)) (wordTo (number (length (b .cells))) 0x1C) in
     let withMid = newMid ∷ withEnd in
     allocate number 0x1C (withWord (headCopy (m c)) (0x10 + 4 * (x / 64)) (wordTo (number (length withEnd)) 0x1C)) withMid

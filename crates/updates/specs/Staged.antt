@@ -15,14 +15,14 @@ use Rattle.updates.specs.SplitBuild.{Row}
 use Rattle.updates.specs.SetChild.{setChild}
 use Rattle.updates.specs.Build.{wordAside, putBack, childOf, valueAt}
 use Rattle.staging.specs.Stage.{stageCells, staged}
-use Rattle.staging.specs.declared.stage.Made.{Made}
+use Rattle.staging.specs.declared.stage.BuildState.{BuildState}
 
 -- the build that a small struct and a stage stand for
-abbrev pub builtOf : Made → List ℕ → Built
+abbrev pub builtOf : BuildState → List ℕ → Built
 builtOf made stage = record { word = made .word; own = made .own; cells = staged stage (made .count) }
 
 -- a leaf, with no cell allocated
-abbrev pub leafMade : ℕ → Made
+abbrev pub leafMade : ℕ → BuildState
 leafMade value = record { word = leafWord value; own = false; count = 0 }
 
 -- the cells of a build find room in a stage

@@ -9,8 +9,9 @@ ghost use Rattle.nodes.specs.Pointer.{pointer};
 ghost use Rattle.nodes.specs.Node.{Node, read};
 ghost use Rattle.updates.specs.SetChild.{setChild};
 ghost use Rattle.updates.specs.Build.{wordAside, childOf, build};
-ghost use Rattle.staging.specs.Numbering.{numberFrom, Numbered};
+ghost use Rattle.staging.specs.Numbering.{numberFrom};
 ghost use Rattle.updates.specs.Staged.{builtOf, Fitting, HasTree, nodeCopy, reached, Path};
+ghost use Rattle.staging.specs.Stage.{Numbered};
 use crate::chain::chain_over;
 use crate::chain::chain_set;
 use crate::prefix::at_end;
@@ -26,7 +27,7 @@ use nodes::prefix::linked_word;
 use nodes::step::ChildStep;
 use nodes::step::child_step;
 use nodes::value::value_at;
-use staging::stage::Made;
+use staging::stage::BuildState;
 use staging::stage::STAGE_CELLS;
 use staging::stage::STAGE_SIZE;
 
@@ -68,8 +69,8 @@ pub fn set_child(
     stage: &mut [u8; STAGE_SIZE],
     word: u32,
     x: u8,
-    below: Made,
-) -> Made
+    below: BuildState,
+) -> BuildState
     requires { ⌜ Numbered layout free × (layout .cells * 32 ≤ length (now block)) × ((node : Node) × (read layout (memoryOf (now block)) word ≡ some node)) × Fitting (setChild layout (numberFrom layout (take free (now numbers))) (memoryOf (now block)) (pointer layout word) x (builtOf below (now stage))) ⌝ }
     ensures { λ r. ⌜ builtOf r (now (stage .exit)) ≡ setChild layout (numberFrom layout (take free (now (numbers .entry)))) (memoryOf (now (block .entry))) (pointer layout word) x (builtOf below (now (stage .entry))) ⌝ }
 {
@@ -93,8 +94,8 @@ fn copy_node(
     stage: &mut [u8; STAGE_SIZE],
     word: u32,
     x: u8,
-    below: Made,
-) -> Made
+    below: BuildState,
+) -> BuildState
     requires { ⌜ Numbered layout free × (layout .cells * 32 ≤ length (now block)) × ((node : Node) × (read layout (memoryOf (now block)) word ≡ some node)) × Fitting (nodeCopy layout (numberFrom layout (take free (now numbers))) (memoryOf (now block)) word x (builtOf below (now stage))) ⌝ }
     ensures { λ r. ⌜ builtOf r (now (stage .exit)) ≡ nodeCopy layout (numberFrom layout (take free (now (numbers .entry)))) (memoryOf (now (block .entry))) word x (builtOf below (now (stage .entry))) ⌝ }
 {
@@ -138,7 +139,7 @@ pub fn build(
     key: &[u8],
     word: u32,
     value: u32,
-) -> Made
+) -> BuildState
     requires { ⌜ Numbered layout free × (layout .cells * 32 ≤ length (now block)) × (length (now key) ≤ keyLimit) × HasTree layout (memoryOf (now block)) word (length (now key)) ⌝ }
     ensures { λ r. ⌜ builtOf r (now (stage .exit)) ≡ build layout (numberFrom layout (take free (now (numbers .entry)))) (memoryOf (now (block .entry))) word (now (key .entry)) value ⌝ }
 {

@@ -6,15 +6,15 @@ ghost use Rattle.cells.specs.Memory.{memoryOf};
 ghost use Rattle.staging.specs.NewCells.{chainCell};
 ghost use Rattle.updates.specs.Built.{room, allocate, chainOver};
 ghost use Rattle.updates.specs.SetChild.{chainSet};
-ghost use Rattle.staging.specs.Numbering.{numberFrom, Numbered};
-ghost use Rattle.staging.specs.Stage.{stageCells, staged};
+ghost use Rattle.staging.specs.Numbering.{numberFrom};
+ghost use Rattle.staging.specs.Stage.{stageCells, staged, Numbered};
 ghost use Rattle.updates.specs.Staged.{builtOf, Fitting};
 use cells::cell;
 use nodes::chains::chain_child;
 use nodes::layout::Layout;
 use staging::new_cells::put_chain;
 use staging::new_cells::put_pair;
-use staging::stage::Made;
+use staging::stage::BuildState;
 use staging::stage::STAGE_CELLS;
 use staging::stage::STAGE_SIZE;
 use staging::stage::allocated_as;
@@ -48,7 +48,7 @@ fn new_chain(
     x: u8,
     word: u32,
     count: usize,
-) -> Made
+) -> BuildState
     requires { ⌜ Numbered layout free × (count < stageCells) ⌝ }
     ensures { λ r. ⌜ builtOf r (now (stage .exit)) ≡ allocate (numberFrom layout (take free (now (numbers .entry)))) 27 (chainCell x word) (staged (now (stage .entry)) count) ⌝ }
 {
@@ -63,8 +63,8 @@ pub fn chain_over(
     free: usize,
     stage: &mut [u8; STAGE_SIZE],
     x: u8,
-    below: Made,
-) -> Made
+    below: BuildState,
+) -> BuildState
     requires { ⌜ Numbered layout free × Fitting (chainOver (numberFrom layout (take free (now numbers))) x (builtOf below (now stage))) ⌝ }
     ensures { λ r. ⌜ builtOf r (now (stage .exit)) ≡ chainOver (numberFrom layout (take free (now (numbers .entry)))) x (builtOf below (now (stage .entry))) ⌝ }
 {
@@ -80,7 +80,7 @@ pub fn chain_over(
     put_byte(stage, count - 1, room - 1, x);
     let number = number_at(layout, numbers, free, count - 1);
     let longer = word_to(number, room - 1);
-    Made {
+    BuildState {
         word: longer,
         own: true,
         count,
@@ -97,8 +97,8 @@ pub fn chain_set(
     number: usize,
     place: usize,
     x: u8,
-    below: Made,
-) -> Made
+    below: BuildState,
+) -> BuildState
     requires { ⌜ Numbered layout free × (layout .cells * 32 ≤ length (now block)) × (number < layout .cells) × (place < 28) × Fitting (chainSet (numberFrom layout (take free (now numbers))) (memoryOf (now block) number) number place x (builtOf below (now stage))) ⌝ }
     ensures { λ r. ⌜ builtOf r (now (stage .exit)) ≡ chainSet (numberFrom layout (take free (now (numbers .entry)))) (memoryOf (now (block .entry)) number) number place x (builtOf below (now (stage .entry))) ⌝ }
 {

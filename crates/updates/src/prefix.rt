@@ -7,8 +7,8 @@ ghost use Rattle.nodes.specs.Coded.{heldOf};
 ghost use Rattle.staging.specs.NewCells.{prefixCell};
 ghost use Rattle.updates.specs.Built.{allocate};
 ghost use Rattle.updates.specs.Build.{putBack};
-ghost use Rattle.staging.specs.Numbering.{numberFrom, Numbered};
-ghost use Rattle.staging.specs.Stage.{stageCells, staged};
+ghost use Rattle.staging.specs.Numbering.{numberFrom};
+ghost use Rattle.staging.specs.Stage.{stageCells, staged, Numbered};
 ghost use Rattle.updates.specs.Staged.{builtOf, leafMade, insertedAt, Fitting};
 use cells::cell;
 use nodes::layout::Layout;
@@ -18,7 +18,7 @@ use nodes::pointer::pointer_of;
 use nodes::prefix::linked_word;
 use nodes::value::Value;
 use staging::new_cells::put_prefix;
-use staging::stage::Made;
+use staging::stage::BuildState;
 use staging::stage::STAGE_CELLS;
 use staging::stage::STAGE_SIZE;
 use staging::stage::allocated_as;
@@ -32,7 +32,7 @@ fn new_prefix(
     value: u32,
     word: u32,
     count: usize,
-) -> Made
+) -> BuildState
     requires { ⌜ Numbered layout free × (count < stageCells) ⌝ }
     ensures { λ r. ⌜ builtOf r (now (stage .exit)) ≡ allocate (numberFrom layout (take free (now (numbers .entry)))) 31 (prefixCell value word) (staged (now (stage .entry)) count) ⌝ }
 {
@@ -47,8 +47,8 @@ pub fn put_back(
     free: usize,
     stage: &mut [u8; STAGE_SIZE],
     held: Value,
-    built: Made,
-) -> Made
+    built: BuildState,
+) -> BuildState
     requires { ⌜ Numbered layout free × Fitting (putBack layout (numberFrom layout (take free (now numbers))) (heldOf held) (builtOf built (now stage))) ⌝ }
     ensures { λ r. ⌜ builtOf r (now (stage .exit)) ≡ putBack layout (numberFrom layout (take free (now (numbers .entry)))) (heldOf held) (builtOf built (now (stage .entry))) ⌝ }
 {
@@ -57,16 +57,16 @@ pub fn put_back(
     let count = built.count;
     match held {
         Value::Held(value) => new_prefix(layout, numbers, free, stage, value, word, count),
-        Value::Empty => Made { word, own, count },
+        Value::Empty => BuildState { word, own, count },
     }
 }
 
 // The word of a leaf, with no cell allocated.
-fn leaf_alone(value: u32) -> Made
+fn leaf_alone(value: u32) -> BuildState
     ensures { λ r. ⌜ r ≡ leafMade value ⌝ }
 {
     let word = leaf_word(value);
-    Made {
+    BuildState {
         word,
         own: false,
         count: 0,
@@ -82,7 +82,7 @@ pub fn at_end(
     stage: &mut [u8; STAGE_SIZE],
     word: u32,
     value: u32,
-) -> Made
+) -> BuildState
     requires { ⌜ Numbered layout free × (layout .cells * 32 ≤ length (now block)) ⌝ }
     ensures { λ r. ⌜ builtOf r (now (stage .exit)) ≡ insertedAt layout (numberFrom layout (take free (now (numbers .entry)))) (memoryOf (now (block .entry))) value word ⌝ }
 {

@@ -4,14 +4,14 @@ ghost use Prim.Native.Nat.{_+_, _*_, _≤_, _<_};
 ghost use lib.ListN.{length, getD, take};
 ghost use Rattle.nodes.specs.Sparse.{sparseChild, someWord};
 ghost use Rattle.updates.specs.SetChild.{withChild};
-ghost use Rattle.updates.specs.SplitBuild.{tableRow, midRow, splitOf};
-ghost use Rattle.staging.specs.Numbering.{numberFrom, Numbered};
-ghost use Rattle.staging.specs.Stage.{staged};
+ghost use Rattle.updates.specs.SplitBuild.{branchRow, midRow, splitOf};
+ghost use Rattle.staging.specs.Numbering.{numberFrom};
+ghost use Rattle.staging.specs.Stage.{staged, Numbered};
 ghost use Rattle.updates.specs.Staged.{builtOf, Fitting, Rowed, RowFitting, Words};
 use nodes::layout::Layout;
 use nodes::sparse::sparse_child;
 use staging::new_cells::put_words;
-use staging::stage::Made;
+use staging::stage::BuildState;
 use staging::stage::STAGE_CELLS;
 use staging::stage::STAGE_SIZE;
 use staging::stage::allocated_as;
@@ -39,7 +39,7 @@ fn some_of(words: &[u32], base: usize) -> bool
 }
 
 // A cell of eight words if one of them is a pointer.
-fn table_row(
+fn branch_row(
     layout: Layout,
     numbers: &[u16; STAGE_CELLS],
     free: usize,
@@ -48,8 +48,8 @@ fn table_row(
     base: usize,
     count: usize,
 ) -> Placed
-    requires { ⌜ Numbered layout free × (base + 8 ≤ length (now words)) × RowFitting (tableRow (numberFrom layout (take free (now numbers))) (λ k. getD (now words) (base + k) 0) (staged (now stage) count)) ⌝ }
-    ensures { λ r. ⌜ Rowed (tableRow (numberFrom layout (take free (now (numbers .entry)))) (λ k. getD (now (words .entry)) (base + k) 0) (staged (now (stage .entry)) count)) (r .word) (staged (now (stage .exit)) (r .count)) ⌝ }
+    requires { ⌜ Numbered layout free × (base + 8 ≤ length (now words)) × RowFitting (branchRow (numberFrom layout (take free (now numbers))) (λ k. getD (now words) (base + k) 0) (staged (now stage) count)) ⌝ }
+    ensures { λ r. ⌜ Rowed (branchRow (numberFrom layout (take free (now (numbers .entry)))) (λ k. getD (now (words .entry)) (base + k) 0) (staged (now (stage .entry)) count)) (r .word) (staged (now (stage .exit)) (r .count)) ⌝ }
 {
     if !some_of(words, base) {
         return Placed { word: 0, count };
@@ -107,12 +107,12 @@ fn mid_row(
     while j < 8 {
         let mut words = [0u32; 8];
         fill_words(&mut words, cell, x, word, 64 * i + 8 * j);
-        let row = table_row(layout, numbers, free, stage, &words, 0, at);
+        let row = branch_row(layout, numbers, free, stage, &words, 0, at);
         ends[j] = row.word;
         at = row.count;
         j += 1;
     }
-    table_row(layout, numbers, free, stage, &ends, 0, at)
+    branch_row(layout, numbers, free, stage, &ends, 0, at)
 }
 
 // The four mids, then the head.
@@ -125,7 +125,7 @@ pub fn split_of(
     x: u8,
     word: u32,
     count: usize,
-) -> Made
+) -> BuildState
     requires { ⌜ Numbered layout free × (length (now cell) ≡ 32) × Fitting (splitOf (numberFrom layout (take free (now numbers))) (withChild (sparseChild (now cell)) x word) (staged (now stage) count)) ⌝ }
     ensures { λ r. ⌜ builtOf r (now (stage .exit)) ≡ splitOf (numberFrom layout (take free (now (numbers .entry)))) (withChild (sparseChild (now (cell .entry))) x word) (staged (now (stage .entry)) count) ⌝ }
 {

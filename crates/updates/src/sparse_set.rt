@@ -6,15 +6,16 @@ ghost use lib.ListN.{length, take};
 ghost use Rattle.cells.specs.Memory.{memoryOf};
 ghost use Rattle.nodes.specs.Sparse.{sparseCount, positionOf, validSparse};
 ghost use Rattle.updates.specs.SetChild.{sparseSet};
-ghost use Rattle.staging.specs.Numbering.{numberFrom, Numbered};
+ghost use Rattle.staging.specs.Numbering.{numberFrom};
 ghost use Rattle.updates.specs.Staged.{builtOf, Fitting};
+ghost use Rattle.staging.specs.Stage.{Numbered};
 use crate::rows::split_of;
 use cells::cell;
 use nodes::layout::Layout;
 use nodes::sparse::sparse_count;
 use staging::sparse::put_appended;
 use staging::sparse::put_replaced;
-use staging::stage::Made;
+use staging::stage::BuildState;
 use staging::stage::STAGE_CELLS;
 use staging::stage::STAGE_SIZE;
 use staging::stage::allocated_as;
@@ -44,8 +45,8 @@ pub fn sparse_set(
     stage: &mut [u8; STAGE_SIZE],
     number: usize,
     x: u8,
-    below: Made,
-) -> Made
+    below: BuildState,
+) -> BuildState
     requires { ⌜ Numbered layout free × (number * 32 + 32 ≤ length (now block)) × (validSparse (memoryOf (now block) number) ≡ true) × Fitting (sparseSet (numberFrom layout (take free (now numbers))) (memoryOf (now block) number) x (builtOf below (now stage))) ⌝ }
     ensures { λ r. ⌜ builtOf r (now (stage .exit)) ≡ sparseSet (numberFrom layout (take free (now (numbers .entry)))) (memoryOf (now (block .entry)) number) x (builtOf below (now (stage .entry))) ⌝ }
 {

@@ -7,17 +7,17 @@ ghost use lib.ListN.{length, take};
 ghost use Rattle.cells.specs.Word.{withWord};
 ghost use Rattle.cells.specs.Memory.{memoryOf};
 ghost use Rattle.nodes.specs.Split.{wordBelow, headCells};
-ghost use Rattle.staging.specs.NewCells.{tableCopy, headCopy};
+ghost use Rattle.staging.specs.NewCells.{branchCopy, headCopy};
 ghost use Rattle.updates.specs.Built.{allocate};
 ghost use Rattle.updates.specs.SplitBuild.{splitCopied};
-ghost use Rattle.staging.specs.Numbering.{numberFrom, Numbered};
-ghost use Rattle.staging.specs.Stage.{stageCells, staged};
+ghost use Rattle.staging.specs.Numbering.{numberFrom};
+ghost use Rattle.staging.specs.Stage.{stageCells, staged, Numbered};
 ghost use Rattle.updates.specs.Staged.{builtOf, Fitting};
 use cells::word_at;
 use nodes::layout::Layout;
 use staging::new_cells::put_head_copy;
-use staging::new_cells::put_table_copy;
-use staging::stage::Made;
+use staging::new_cells::put_branch_copy;
+use staging::stage::BuildState;
 use staging::stage::STAGE_CELLS;
 use staging::stage::STAGE_SIZE;
 use staging::stage::allocated_as;
@@ -35,7 +35,7 @@ fn word_below(block: &[u8], word: u32, i: usize) -> u32
 }
 
 // A mid or end copied to a new cell, with one word replaced by that of a build.
-fn table_set(
+fn branch_set(
     layout: Layout,
     block: &[u8],
     numbers: &[u16; STAGE_CELLS],
@@ -43,14 +43,14 @@ fn table_set(
     stage: &mut [u8; STAGE_SIZE],
     word: u32,
     i: usize,
-    over: Made,
-) -> Made
+    over: BuildState,
+) -> BuildState
     requires { ⌜ Numbered layout free × (word / 32 * 32 + 32 ≤ length (now block)) × (i < 8) × (over .count < stageCells) ⌝ }
-    ensures { λ r. ⌜ builtOf r (now (stage .exit)) ≡ allocate (numberFrom layout (take free (now (numbers .entry)))) 28 (withWord (tableCopy (memoryOf (now (block .entry))) word) (4 * i) (over .word)) (staged (now (stage .entry)) (over .count)) ⌝ }
+    ensures { λ r. ⌜ builtOf r (now (stage .exit)) ≡ allocate (numberFrom layout (take free (now (numbers .entry)))) 28 (withWord (branchCopy (memoryOf (now (block .entry))) word) (4 * i) (over .word)) (staged (now (stage .entry)) (over .count)) ⌝ }
 {
     let value = over.word;
     let count = over.count;
-    put_table_copy(stage, count, block, word, i, value);
+    put_branch_copy(stage, count, block, word, i, value);
     allocated_as(layout, numbers, free, 28, count)
 }
 
@@ -63,8 +63,8 @@ fn head_set(
     stage: &mut [u8; STAGE_SIZE],
     number: usize,
     i: usize,
-    over: Made,
-) -> Made
+    over: BuildState,
+) -> BuildState
     requires { ⌜ Numbered layout free × (number * 32 + 32 ≤ length (now block)) × (i < 4) × (over .count < stageCells) ⌝ }
     ensures { λ r. ⌜ builtOf r (now (stage .exit)) ≡ allocate (numberFrom layout (take free (now (numbers .entry)))) 28 (withWord (headCopy (memoryOf (now (block .entry)) number)) (16 + 4 * i) (over .word)) (staged (now (stage .entry)) (over .count)) ⌝ }
 {
@@ -83,8 +83,8 @@ pub fn split_set(
     stage: &mut [u8; STAGE_SIZE],
     number: usize,
     x: u8,
-    below: Made,
-) -> Made
+    below: BuildState,
+) -> BuildState
     requires { ⌜ Numbered layout free × (layout .cells * 32 ≤ length (now block)) × (number < layout .cells) × ((cs : List ℕ) × (headCells layout (memoryOf (now block)) number ≡ some cs)) × Fitting (splitCopied (numberFrom layout (take free (now numbers))) (memoryOf (now block)) number x (builtOf below (now stage))) ⌝ }
     ensures { λ r. ⌜ builtOf r (now (stage .exit)) ≡ splitCopied (numberFrom layout (take free (now (numbers .entry)))) (memoryOf (now (block .entry))) number x (builtOf below (now (stage .entry))) ⌝ }
 {
@@ -93,7 +93,7 @@ pub fn split_set(
     let low = (x % 8) as usize;
     let mid = word_at(block, number * 32 + (16 + 4 * high));
     let end = word_below(block, mid, middle);
-    let ended = table_set(layout, block, numbers, free, stage, end, low, below);
-    let midded = table_set(layout, block, numbers, free, stage, mid, middle, ended);
-    head_set(layout, block, numbers, free, stage, number, high, midded)
+    let ended = branch_set(layout, block, numbers, free, stage, end, low, below);
+    let midBuilt = branch_set(layout, block, numbers, free, stage, mid, middle, ended);
+    head_set(layout, block, numbers, free, stage, number, high, midBuilt)
 }

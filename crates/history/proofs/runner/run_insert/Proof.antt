@@ -1,4 +1,4 @@
-use Rattle.history.proofs.StepSteps.{insert-answered}
+use Rattle.history.proofs.CallSteps.{insert-answered}
 use borrow.Author.Needs.{needs}
 use Rattle.history.proofs.runner.run_insert.Statement.{statement}
 use Rattle.history.proofs.runner.run_insert.Tie as tie

@@ -1,4 +1,4 @@
-use Rattle.history.proofs.StepSteps.{release-answered}
+use Rattle.history.proofs.CallSteps.{release-answered}
 use borrow.Author.Needs.{needs}
 use Rattle.history.proofs.runner.run_release.Statement.{statement}
 use Rattle.history.proofs.runner.run_release.Tie as tie

@@ -1,4 +1,4 @@
-use Rattle.history.proofs.StepSteps.{restore-answered}
+use Rattle.history.proofs.CallSteps.{restore-answered}
 use borrow.Author.Needs.{needs}
 use Rattle.history.proofs.runner.run_restore.Statement.{statement}
 use Rattle.history.proofs.runner.run_restore.Tie as tie

@@ -1,4 +1,4 @@
-use Rattle.history.proofs.StepSteps.{snapshot-answered}
+use Rattle.history.proofs.CallSteps.{snapshot-answered}
 use borrow.Author.Needs.{needs}
 use Rattle.history.proofs.runner.run_snapshot.Statement.{statement}
 use Rattle.history.proofs.runner.run_snapshot.Tie as tie

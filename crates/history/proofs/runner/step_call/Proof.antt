@@ -1,6 +1,6 @@
 use Rattle.history.specs.Calls.{snapshotting, restoring, releasing}
 use Rattle.history.proofs.Decoding.{call-short, tag-snapshot, tag-restore, tag-release, tag-none}
-use Rattle.history.proofs.StepSteps.{step-nothing, insert-step, slot-did}
+use Rattle.history.proofs.CallSteps.{step-nothing, insert-step, slot-did}
 use borrow.Author.Needs.{needs}
 use Rattle.history.proofs.runner.step_call.Statement.{statement}
 use Rattle.history.proofs.runner.step_call.Tie as tie

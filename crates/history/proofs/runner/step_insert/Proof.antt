@@ -1,6 +1,6 @@
 use native.Mathlib.Omega.{arith}
 use Rattle.history.proofs.Decoding.{insert-short}
-use Rattle.history.proofs.StepSteps.{step-nothing, insert-did}
+use Rattle.history.proofs.CallSteps.{step-nothing, insert-did}
 use borrow.Author.Needs.{needs}
 use Rattle.history.proofs.runner.step_insert.Statement.{statement}
 use Rattle.history.proofs.runner.step_insert.Tie as tie

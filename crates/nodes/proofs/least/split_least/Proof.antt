@@ -51,14 +51,14 @@ loop-less c = search needs
 loop-again : tie.Need-loop-again Inv-loop μ-loop
 loop-again c = (omega arith, c .before .before .before .loop .inv .1 ∙ mid-passed _ _ _ _ _ (c .before .before .before .before .before .before .cell .ensures) _ (c .before .before .before .before .before .is-valid-head .ensures) (c .before .before .loop-test .taken) (not-false _ (c .before .before .before .before .if1 .left)) _ (c .before .word-at .ensures) (c .if2 .taken))
 
-table-step-requires : tie.Need-table-step-requires Inv-loop μ-loop
-table-step-requires c κs = search needs
+branch-step-requires : tie.Need-branch-step-requires Inv-loop μ-loop
+branch-step-requires c κs = search needs
 
 enum-told : tie.Need-enum-told Inv-loop μ-loop
 enum-told c = search needs
 
 returns-2 : tie.Need-returns-2 Inv-loop μ-loop
-returns-2 c = sym (c .before .before .before .before .before .before .loop .inv .1 ∙ end-broken _ _ _ _ _ (c .before .before .before .before .before .before .before .before .before .cell .ensures) _ (c .before .before .before .before .before .before .before .before .is-valid-head .ensures) (c .before .before .before .before .before .loop-test .taken) (not-false _ (c .before .before .before .before .before .before .before .if1 .left)) _ (c .before .before .before .before .word-at .ensures) (c .before .before .before .if2 .left) _ (c .before .before .table-step .ensures) (c .enum-told .given .1))
+returns-2 c = sym (c .before .before .before .before .before .before .loop .inv .1 ∙ end-broken _ _ _ _ _ (c .before .before .before .before .before .before .before .before .before .cell .ensures) _ (c .before .before .before .before .before .before .before .before .is-valid-head .ensures) (c .before .before .before .before .before .loop-test .taken) (not-false _ (c .before .before .before .before .before .before .before .if1 .left)) _ (c .before .before .before .before .word-at .ensures) (c .before .before .before .if2 .left) _ (c .before .before .branch-step .ensures) (c .enum-told .given .1))
 
 enum-told-2 : tie.Need-enum-told-2 Inv-loop μ-loop
 enum-told-2 c = search needs
@@ -73,19 +73,19 @@ loop-less-2 : tie.Need-loop-less-2 Inv-loop μ-loop
 loop-less-2 c = search needs
 
 loop-again-2 : tie.Need-loop-again-2 Inv-loop μ-loop
-loop-again-2 c = (omega arith, c .before .before .before .before .before .before .loop .inv .1 ∙ end-passed _ _ _ _ _ (c .before .before .before .before .before .before .before .before .before .cell .ensures) _ (c .before .before .before .before .before .before .before .before .is-valid-head .ensures) (c .before .before .before .before .before .loop-test .taken) (not-false _ (c .before .before .before .before .before .before .before .if1 .left)) _ (c .before .before .before .before .word-at .ensures) (c .before .before .before .if2 .left) _ (c .before .before .table-step .ensures) (c .enum-told2 .given .1))
+loop-again-2 c = (omega arith, c .before .before .before .before .before .before .loop .inv .1 ∙ end-passed _ _ _ _ _ (c .before .before .before .before .before .before .before .before .before .cell .ensures) _ (c .before .before .before .before .before .before .before .before .is-valid-head .ensures) (c .before .before .before .before .before .loop-test .taken) (not-false _ (c .before .before .before .before .before .before .before .if1 .left)) _ (c .before .before .before .before .word-at .ensures) (c .before .before .before .if2 .left) _ (c .before .before .branch-step .ensures) (c .enum-told2 .given .1))
 
 enum-known-below : tie.Need-enum-known-below Inv-loop μ-loop
 enum-known-below c = search needs
 
-table-step-requires-2 : tie.Need-table-step-requires-2 Inv-loop μ-loop
-table-step-requires-2 c κs = search needs
+branch-step-requires-2 : tie.Need-branch-step-requires-2 Inv-loop μ-loop
+branch-step-requires-2 c κs = search needs
 
 enum-told-3 : tie.Need-enum-told-3 Inv-loop μ-loop
 enum-told-3 c = search needs
 
 returns-3 : tie.Need-returns-3 Inv-loop μ-loop
-returns-3 c = sym (c .before .before .before .before .before .before .before .before .before .before .loop .inv .1 ∙ child-broken _ _ _ _ _ (c .before .before .before .before .before .before .before .before .before .before .before .before .before .cell .ensures) _ (c .before .before .before .before .before .before .before .before .before .before .before .before .is-valid-head .ensures) (c .before .before .before .before .before .before .before .before .before .loop-test .taken) (not-false _ (c .before .before .before .before .before .before .before .before .before .before .before .if1 .left)) _ (c .before .before .before .before .before .before .before .before .word-at .ensures) (c .before .before .before .before .before .before .before .if2 .left) _ (c .before .before .before .before .before .before .table-step .ensures) _ (c .before .before .before .before .below .given .1) _ (c .before .before .table-step2 .ensures) (c .enum-told3 .given .1))
+returns-3 c = sym (c .before .before .before .before .before .before .before .before .before .before .loop .inv .1 ∙ child-broken _ _ _ _ _ (c .before .before .before .before .before .before .before .before .before .before .before .before .before .cell .ensures) _ (c .before .before .before .before .before .before .before .before .before .before .before .before .is-valid-head .ensures) (c .before .before .before .before .before .before .before .before .before .loop-test .taken) (not-false _ (c .before .before .before .before .before .before .before .before .before .before .before .if1 .left)) _ (c .before .before .before .before .before .before .before .before .word-at .ensures) (c .before .before .before .before .before .before .before .if2 .left) _ (c .before .before .before .before .before .before .branch-step .ensures) _ (c .before .before .before .before .below .given .1) _ (c .before .before .branch-step2 .ensures) (c .enum-told3 .given .1))
 
 enum-told-4 : tie.Need-enum-told-4 Inv-loop μ-loop
 enum-told-4 c = search needs
@@ -97,7 +97,7 @@ loop-less-3 : tie.Need-loop-less-3 Inv-loop μ-loop
 loop-less-3 c = search needs
 
 loop-again-3 : tie.Need-loop-again-3 Inv-loop μ-loop
-loop-again-3 c = (omega arith, c .before .before .before .before .before .before .before .before .before .before .loop .inv .1 ∙ child-passed _ _ _ _ _ (c .before .before .before .before .before .before .before .before .before .before .before .before .before .cell .ensures) _ (c .before .before .before .before .before .before .before .before .before .before .before .before .is-valid-head .ensures) (c .before .before .before .before .before .before .before .before .before .loop-test .taken) (not-false _ (c .before .before .before .before .before .before .before .before .before .before .before .if1 .left)) _ (c .before .before .before .before .before .before .before .before .word-at .ensures) (c .before .before .before .before .before .before .before .if2 .left) _ (c .before .before .before .before .before .before .table-step .ensures) _ (c .before .before .before .before .below .given .1) _ (c .before .before .table-step2 .ensures) (c .enum-told4 .given .1))
+loop-again-3 c = (omega arith, c .before .before .before .before .before .before .before .before .before .before .loop .inv .1 ∙ child-passed _ _ _ _ _ (c .before .before .before .before .before .before .before .before .before .before .before .before .before .cell .ensures) _ (c .before .before .before .before .before .before .before .before .before .before .before .before .is-valid-head .ensures) (c .before .before .before .before .before .before .before .before .before .loop-test .taken) (not-false _ (c .before .before .before .before .before .before .before .before .before .before .before .if1 .left)) _ (c .before .before .before .before .before .before .before .before .word-at .ensures) (c .before .before .before .before .before .before .before .if2 .left) _ (c .before .before .before .before .before .before .branch-step .ensures) _ (c .before .before .before .before .below .given .1) _ (c .before .before .branch-step2 .ensures) (c .enum-told4 .given .1))
 
 enum-known-last : tie.Need-enum-known-last Inv-loop μ-loop
 enum-known-last c = search needs
@@ -106,7 +106,7 @@ cast-t25 : tie.Need-cast-t25 Inv-loop μ-loop
 cast-t25 c = search needs
 
 returns-4 : tie.Need-returns-4 Inv-loop μ-loop
-returns-4 c = sym (c .before .before .before .before .before .before .before .before .before .before .before .loop .inv .1 ∙ child-reached _ _ _ _ _ (c .before .before .before .before .before .before .before .before .before .before .before .before .before .before .cell .ensures) _ (c .before .before .before .before .before .before .before .before .before .before .before .before .before .is-valid-head .ensures) (c .before .before .before .before .before .before .before .before .before .before .loop-test .taken) (not-false _ (c .before .before .before .before .before .before .before .before .before .before .before .before .if1 .left)) _ (c .before .before .before .before .before .before .before .before .before .word-at .ensures) (c .before .before .before .before .before .before .before .before .if2 .left) _ (c .before .before .before .before .before .before .before .table-step .ensures) _ (c .before .before .before .before .before .below .given .1) _ (c .before .before .before .table-step2 .ensures) _ (c .before .last .given .1))
+returns-4 c = sym (c .before .before .before .before .before .before .before .before .before .before .before .loop .inv .1 ∙ child-reached _ _ _ _ _ (c .before .before .before .before .before .before .before .before .before .before .before .before .before .before .cell .ensures) _ (c .before .before .before .before .before .before .before .before .before .before .before .before .before .is-valid-head .ensures) (c .before .before .before .before .before .before .before .before .before .before .loop-test .taken) (not-false _ (c .before .before .before .before .before .before .before .before .before .before .before .before .if1 .left)) _ (c .before .before .before .before .before .before .before .before .before .word-at .ensures) (c .before .before .before .before .before .before .before .before .if2 .left) _ (c .before .before .before .before .before .before .before .branch-step .ensures) _ (c .before .before .before .before .before .below .given .1) _ (c .before .before .before .branch-step2 .ensures) _ (c .before .last .given .1))
 
 returns-5 : tie.Need-returns-5 Inv-loop μ-loop
 returns-5 c = sym (c .before .loop .inv .1 ∙ walk-ends _ _ (c .loop-test .left))
@@ -128,7 +128,7 @@ split-least-spec =
     mul-x
     loop-less
     loop-again
-    table-step-requires
+    branch-step-requires
     enum-told
     returns-2
     enum-told-2
@@ -137,7 +137,7 @@ split-least-spec =
     loop-less-2
     loop-again-2
     enum-known-below
-    table-step-requires-2
+    branch-step-requires-2
     enum-told-3
     returns-3
     enum-told-4

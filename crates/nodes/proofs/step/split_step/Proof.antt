@@ -26,20 +26,20 @@ word-at-requires c κs = omega (arith, cell-length _ _ _ (c .before .before .cel
 returns-2 : tie.Need-returns-2
 returns-2 c = split-missing _ _ _ _ _ (c .before .before .before .before .cell .ensures) _ (c .before .before .before .is-valid-head .ensures) (not-false _ (c .before .before .if1 .left)) _ (c .before .word-at .ensures) (c .if2 .taken)
 
-table-step-requires : tie.Need-table-step-requires
-table-step-requires c κs = search needs
+branch-step-requires : tie.Need-branch-step-requires
+branch-step-requires c κs = search needs
 
 enum-known-below : tie.Need-enum-known-below
 enum-known-below c = search needs
 
 returns-3 : tie.Need-returns-3
-returns-3 c = split-stops _ _ _ _ _ (c .before .before .before .before .before .before .cell .ensures) _ (c .before .before .before .before .before .is-valid-head .ensures) (not-false _ (c .before .before .before .before .if1 .left)) _ (c .before .before .before .word-at .ensures) (c .before .before .if2 .left) (c .before .table-step .result) (c .before .table-step .ensures) (c .match .keys2)
+returns-3 c = split-stops _ _ _ _ _ (c .before .before .before .before .before .before .cell .ensures) _ (c .before .before .before .before .before .is-valid-head .ensures) (not-false _ (c .before .before .before .before .if1 .left)) _ (c .before .before .before .word-at .ensures) (c .before .before .if2 .left) (c .before .branch-step .result) (c .before .branch-step .ensures) (c .match .keys2)
 
-table-step-requires-2 : tie.Need-table-step-requires-2
-table-step-requires-2 c κs = search needs
+branch-step-requires-2 : tie.Need-branch-step-requires-2
+branch-step-requires-2 c κs = search needs
 
 returns-4 : tie.Need-returns-4
-returns-4 c = split-goes _ _ _ _ _ (c .before .before .before .before .before .before .before .before .before .cell .ensures) _ (c .before .before .before .before .before .before .before .before .is-valid-head .ensures) (not-false _ (c .before .before .before .before .before .before .before .if1 .left)) _ (c .before .before .before .before .before .before .word-at .ensures) (c .before .before .before .before .before .if2 .left) _ (c .before .before .before .before .table-step .ensures) _ (c .before .before .below .given .1) _ (c .table-step2 .ensures)
+returns-4 c = split-goes _ _ _ _ _ (c .before .before .before .before .before .before .before .before .before .cell .ensures) _ (c .before .before .before .before .before .before .before .before .is-valid-head .ensures) (not-false _ (c .before .before .before .before .before .before .before .if1 .left)) _ (c .before .before .before .before .before .before .word-at .ensures) (c .before .before .before .before .before .if2 .left) _ (c .before .before .before .before .branch-step .ensures) _ (c .before .before .below .given .1) _ (c .branch-step2 .ensures)
 
 pub split-step-spec : {M : Type 1} → statement M
 split-step-spec =
@@ -52,8 +52,8 @@ split-step-spec =
     add-word-at
     word-at-requires
     returns-2
-    table-step-requires
+    branch-step-requires
     enum-known-below
     returns-3
-    table-step-requires-2
+    branch-step-requires-2
     returns-4)

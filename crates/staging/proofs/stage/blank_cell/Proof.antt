@@ -6,7 +6,7 @@ use lib.ListN.{length}
 use borrow.Author.Needs.{needs}
 use Rattle.cells.specs.Writes.{written, wordWrites, cellWrites}
 use Rattle.staging.specs.NewCells.{blank}
-use Rattle.staging.proofs.TableWords.{blank-word}
+use Rattle.staging.proofs.BranchWords.{blank-word}
 use Rattle.staging.proofs.StageWrites.{writes-more, writes-end}
 use Rattle.staging.proofs.stage.blank_cell.Statement.{statement}
 use Rattle.staging.proofs.stage.blank_cell.Tie as tie

@@ -41,11 +41,11 @@ add-fill-words c = search needs
 fill-words-requires : tie.Need-fill-words-requires Inv-loop μ-loop
 fill-words-requires c κs = (search needs, search needs, omega arith)
 
-slice-aggregate-table-row : tie.Need-slice-aggregate-table-row Inv-loop μ-loop
-slice-aggregate-table-row c = search needs
+slice-aggregate-branch-row : tie.Need-slice-aggregate-branch-row Inv-loop μ-loop
+slice-aggregate-branch-row c = search needs
 
-table-row-requires : tie.Need-table-row-requires Inv-loop μ-loop
-table-row-requires c κs =
+branch-row-requires : tie.Need-branch-row-requires Inv-loop μ-loop
+branch-row-requires c κs =
     let turn = c .before .before .before .before .before .before .loop in
     (search needs, search needs, end-fits _ _ _ _ _ (turn .j) _ _ (turn .inv .2) _ (c .before .before .before .fill-words .ensures) (7 - turn .j) (c .before .before .before .before .before .before .before .before .pre .3) (omega arith))
 
@@ -64,16 +64,16 @@ loop-less c = search needs
 loop-again : tie.Need-loop-again Inv-loop μ-loop
 loop-again c =
     let turn = c .before .before .before .before .before .before .before .loop in
-    (omega arith, search needs, end-more _ _ _ _ _ (turn .j) _ _ (turn .inv .2) _ (c .before .before .before .before .fill-words .ensures) _ _ _ (c .table-row .ensures) (omega arith) (omega arith))
+    (omega arith, search needs, end-more _ _ _ _ _ (turn .j) _ _ (turn .inv .2) _ (c .before .before .before .before .fill-words .ensures) _ _ _ (c .branch-row .ensures) (omega arith) (omega arith))
 
-slice-aggregate-table-row-2 : tie.Need-slice-aggregate-table-row-2 Inv-loop μ-loop
-slice-aggregate-table-row-2 c = search needs
+slice-aggregate-branch-row-2 : tie.Need-slice-aggregate-branch-row-2 Inv-loop μ-loop
+slice-aggregate-branch-row-2 c = search needs
 
-table-row-requires-2 : tie.Need-table-row-requires-2 Inv-loop μ-loop
-table-row-requires-2 c κs = (search needs, omega arith, mid-fits _ _ _ _ _ _ _ _ (c .before .before .before .loop .inv .2) (omega arith) (omega arith) (c .before .before .before .before .before .pre .3))
+branch-row-requires-2 : tie.Need-branch-row-requires-2 Inv-loop μ-loop
+branch-row-requires-2 c κs = (search needs, omega arith, mid-fits _ _ _ _ _ _ _ _ (c .before .before .before .loop .inv .2) (omega arith) (omega arith) (c .before .before .before .before .before .pre .3))
 
 returns : tie.Need-returns Inv-loop μ-loop
-returns c = mid-is _ _ _ _ _ _ _ _ (c .before .before .before .before .loop .inv .2) _ _ (omega arith) (omega arith) (c .table-row2 .ensures)
+returns c = mid-is _ _ _ _ _ _ _ _ (c .before .before .before .before .loop .inv .2) _ _ (omega arith) (omega arith) (c .branch-row2 .ensures)
 
 pub mid-row-spec : {M : Type 1} → statement M
 mid-row-spec =
@@ -87,13 +87,13 @@ mid-row-spec =
     mul-fill-words-2
     add-fill-words
     fill-words-requires
-    slice-aggregate-table-row
-    table-row-requires
+    slice-aggregate-branch-row
+    branch-row-requires
     mul-ends
     array-write-ends
     add-j
     loop-less
     loop-again
-    slice-aggregate-table-row-2
-    table-row-requires-2
+    slice-aggregate-branch-row-2
+    branch-row-requires-2
     returns)

@@ -32,17 +32,17 @@ word-at-requires c κs = search needs
 word-below-requires : tie.Need-word-below-requires
 word-below-requires c κs = (mid-word-inside _ _ _ (c .before .before .pre .0 .some) (c .before .before .pre .1) _ _ (c .before .before .pre .3 .1) (c .before .before .args .x / 64) _ (omega arith) (head-word-read _ _ (c .before .before .args .x / 64) _ (omega arith) (c .word-at .ensures)), omega arith)
 
-table-set-requires : tie.Need-table-set-requires
-table-set-requires c κs = (search needs, end-word-inside _ _ _ (c .before .before .before .before .pre .0 .some) (c .before .before .before .before .pre .1) _ _ (c .before .before .before .before .pre .3 .1) (c .before .before .before .before .args .x / 64) (c .before .before .before .before .args .x / 8 % 8) _ _ (omega arith) (omega arith) (head-word-read _ _ (c .before .before .before .before .args .x / 64) _ (omega arith) (c .before .before .word-at .ensures)) (c .before .word-below .ensures), omega arith, omega (arith, split-fits _ _ _ _ _ _ (c .before .before .before .before .pre .4)))
+branch-set-requires : tie.Need-branch-set-requires
+branch-set-requires c κs = (search needs, end-word-inside _ _ _ (c .before .before .before .before .pre .0 .some) (c .before .before .before .before .pre .1) _ _ (c .before .before .before .before .pre .3 .1) (c .before .before .before .before .args .x / 64) (c .before .before .before .before .args .x / 8 % 8) _ _ (omega arith) (omega arith) (head-word-read _ _ (c .before .before .before .before .args .x / 64) _ (omega arith) (c .before .before .word-at .ensures)) (c .before .word-below .ensures), omega arith, omega (arith, split-fits _ _ _ _ _ _ (c .before .before .before .before .pre .4)))
 
-table-set-requires-2 : tie.Need-table-set-requires-2
-table-set-requires-2 c κs = (search needs, mid-word-inside _ _ _ (c .before .before .before .before .before .before .pre .0 .some) (c .before .before .before .before .before .before .pre .1) _ _ (c .before .before .before .before .before .before .pre .3 .1) (c .before .before .before .before .before .before .args .x / 64) _ (omega arith) (head-word-read _ _ (c .before .before .before .before .before .before .args .x / 64) _ (omega arith) (c .before .before .before .before .word-at .ensures)), omega arith, omega (arith, allocated-count _ _ _ _ _ _ _ (c .before .table-set .ensures), split-fits _ _ _ _ _ _ (c .before .before .before .before .before .before .pre .4)))
+branch-set-requires-2 : tie.Need-branch-set-requires-2
+branch-set-requires-2 c κs = (search needs, mid-word-inside _ _ _ (c .before .before .before .before .before .before .pre .0 .some) (c .before .before .before .before .before .before .pre .1) _ _ (c .before .before .before .before .before .before .pre .3 .1) (c .before .before .before .before .before .before .args .x / 64) _ (omega arith) (head-word-read _ _ (c .before .before .before .before .before .before .args .x / 64) _ (omega arith) (c .before .before .before .before .word-at .ensures)), omega arith, omega (arith, allocated-count _ _ _ _ _ _ _ (c .before .branch-set .ensures), split-fits _ _ _ _ _ _ (c .before .before .before .before .before .before .pre .4)))
 
 head-set-requires : tie.Need-head-set-requires
-head-set-requires c κs = (search needs, search needs, omega arith, omega (arith, allocated-count _ _ _ _ _ _ _ (c .before .table-set2 .ensures), allocated-count _ _ _ _ _ _ _ (c .before .before .before .table-set .ensures), split-fits _ _ _ _ _ _ (c .before .before .before .before .before .before .before .before .pre .4)))
+head-set-requires c κs = (search needs, search needs, omega arith, omega (arith, allocated-count _ _ _ _ _ _ _ (c .before .branch-set2 .ensures), allocated-count _ _ _ _ _ _ _ (c .before .before .before .branch-set .ensures), split-fits _ _ _ _ _ _ (c .before .before .before .before .before .before .before .before .pre .4)))
 
 returns : tie.Need-returns
-returns c = split-is _ _ _ _ _ _ (head-word-read _ _ (c .before .before .before .before .before .before .before .before .before .args .x / 64) _ (omega (arith, c .before .before .before .before .before .before .before .before .before .fits .x)) (c .before .before .before .before .before .before .before .word-at .ensures)) (c .before .before .before .before .before .before .word-below .ensures) _ _ _ _ (c .before .before .before .before .table-set .ensures) (c .before .before .table-set2 .ensures) (c .head-set .ensures)
+returns c = split-is _ _ _ _ _ _ (head-word-read _ _ (c .before .before .before .before .before .before .before .before .before .args .x / 64) _ (omega (arith, c .before .before .before .before .before .before .before .before .before .fits .x)) (c .before .before .before .before .before .before .before .word-at .ensures)) (c .before .before .before .before .before .before .word-below .ensures) _ _ _ _ (c .before .before .before .before .branch-set .ensures) (c .before .before .branch-set2 .ensures) (c .head-set .ensures)
 
 pub split-set-spec : {M : Type 1} → statement M
 split-set-spec =
@@ -57,7 +57,7 @@ split-set-spec =
     add-word-at-2
     word-at-requires
     word-below-requires
-    table-set-requires
-    table-set-requires-2
+    branch-set-requires
+    branch-set-requires-2
     head-set-requires
     returns)

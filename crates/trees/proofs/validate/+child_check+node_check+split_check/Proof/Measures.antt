@@ -21,7 +21,7 @@ use Rattle.nodes.proofs.sparse.sparse_count.Reads as sparse-count-reads
 use Rattle.nodes.proofs.sparse.sparse_position.Reads as sparse-position-reads
 use Rattle.nodes.proofs.split.is_valid_head.Reads as is-valid-head-reads
 use Rattle.trees.proofs.stamps.stamp_cell.Reads as stamp-cell-reads
-use Rattle.trees.proofs.stamps.stamp_table.Reads as stamp-table-reads
+use Rattle.trees.proofs.stamps.stamp_branch.Reads as stamp-branch-reads
 
 -- at the same depth a node's check is above a split's, and that above a child's, which is above a node's one character down
 abbrev pub μ-child-check : Measures 2 child-check-kinds.ps ℕ
@@ -97,8 +97,8 @@ abbrev pub split-told : ℕ → split-check-lts.Claims
 split-told t = (
   word-at-reads.Asked,
   word-at-reads.Learnt,
-  stamp-table-reads.Asked,
-  stamp-table-reads.Learnt,
+  stamp-branch-reads.Asked,
+  stamp-branch-reads.Learnt,
   child-check-below t,
   child-check.Post,
 )

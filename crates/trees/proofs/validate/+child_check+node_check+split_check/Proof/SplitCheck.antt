@@ -9,10 +9,10 @@ use Rattle.cells.specs.Memory.{memoryOf}
 use Rattle.nodes.specs.Layout.{Layout}
 use Rattle.nodes.specs.Split.{gather}
 use Rattle.trees.specs.Visit.{visit}
-use Rattle.trees.specs.Parts.{splitTables}
+use Rattle.trees.specs.Parts.{splitBranches}
 use Rattle.trees.proofs.Joins.{joined}
 use Rattle.trees.proofs.Judging.{judged-same, walk-starts, walk-leaves, part-fails, part-passed, walk-fails, walk-goes-on, walk-passes, walk-ends}
-use Rattle.trees.proofs.SplitTrees.{row, row-head, row-none, row-table, row-child, table-inside}
+use Rattle.trees.proofs.SplitTrees.{row, row-head, row-none, row-branch, row-child, branch-inside}
 use borrow.Author.Needs.{needs}
 use Rattle.trees.proofs.validate.split_check.Reads as reads
 use Rattle.trees.proofs.validate.+child_check+node_check+split_check.Lts-split_check as lts
@@ -42,7 +42,7 @@ abbrev pub μ-loop2 : lts.MeasureT-loop2
 μ-loop2 layout block stamps₀ stamp number depth head i mid ends j₀ stamps j = 8 - j
 
 abbrev pub Inv-loop : lts.InvT-loop
-Inv-loop layout block stamps₀ stamp number depth head i₀ stamps i = (i ≤ 4) × (visit stamp (splitTables layout (memoryOf block) depth number) stamps₀ ≡ visit stamp (midsLeft layout block depth head i) stamps)
+Inv-loop layout block stamps₀ stamp number depth head i₀ stamps i = (i ≤ 4) × (visit stamp (splitBranches layout (memoryOf block) depth number) stamps₀ ≡ visit stamp (midsLeft layout block depth head i) stamps)
 
 abbrev pub μ-loop : lts.MeasureT-loop
 μ-loop layout block stamps₀ stamp number depth head i₀ stamps i = 4 - i
@@ -75,11 +75,11 @@ module _ (t : ℕ) where
   pub loop-again : lts.Need-loop-again (split-told t) (split-check-at t) reads.Post Inv-loop3 μ-loop3 Inv-loop2 μ-loop2 Inv-loop μ-loop
   loop-again c = (omega arith, walk-passes _ _ _ _ _ _ _ _ (c .before .before .before .loop .inv .1) _ (omega arith) (row-none _ _ _ _ _ _ (c .before .word-at .ensures) 2 (c .if1 .taken)))
 
-  pub stamp-table-requires : lts.Need-stamp-table-requires (split-told t) (split-check-at t) reads.Post Inv-loop3 μ-loop3 Inv-loop2 μ-loop2 Inv-loop μ-loop
-  stamp-table-requires c κs = search needs
+  pub stamp-branch-requires : lts.Need-stamp-branch-requires (split-told t) (split-check-at t) reads.Post Inv-loop3 μ-loop3 Inv-loop2 μ-loop2 Inv-loop μ-loop
+  stamp-branch-requires c κs = search needs
 
   pub returns : lts.Need-returns (split-told t) (split-check-at t) reads.Post Inv-loop3 μ-loop3 Inv-loop2 μ-loop2 Inv-loop μ-loop
-  returns c = part-fails _ _ _ _ _ _ _ _ (c .before .before .before .before .before .before .loop .inv .1) (4 - (c .before .before .before .before .before .before .loop .i + 1)) (omega arith) _ _ (row-table _ _ _ _ _ _ (c .before .before .before .before .word-at .ensures) 1 _ (c .before .before .before .if1 .left) refl) _ _ (c .before .stamp-table .ensures) _ (not-true _ (c .if2 .taken))
+  returns c = part-fails _ _ _ _ _ _ _ _ (c .before .before .before .before .before .before .loop .inv .1) (4 - (c .before .before .before .before .before .before .loop .i + 1)) (omega arith) _ _ (row-branch _ _ _ _ _ _ (c .before .before .before .before .word-at .ensures) 1 _ (c .before .before .before .if1 .left) refl) _ _ (c .before .stamp-branch .ensures) _ (not-true _ (c .if2 .taken))
 
   pub cast-ends : lts.Need-cast-ends (split-told t) (split-check-at t) reads.Post Inv-loop3 μ-loop3 Inv-loop2 μ-loop2 Inv-loop μ-loop
   cast-ends c = search needs
@@ -97,7 +97,7 @@ module _ (t : ℕ) where
   add-word-at-2 c = search needs
 
   pub word-at-requires-2 : lts.Need-word-at-requires-2 (split-told t) (split-check-at t) reads.Post Inv-loop3 μ-loop3 Inv-loop2 μ-loop2 Inv-loop μ-loop
-  word-at-requires-2 c κs = omega (arith, table-inside _ _ _ _ _ _ _ (c .before .before .before .stamp-table .ensures) (not-false _ (c .before .before .if2 .left)))
+  word-at-requires-2 c κs = omega (arith, branch-inside _ _ _ _ _ _ _ (c .before .before .before .stamp-branch .ensures) (not-false _ (c .before .before .if2 .left)))
 
   pub add-j : lts.Need-add-j (split-told t) (split-check-at t) reads.Post Inv-loop3 μ-loop3 Inv-loop2 μ-loop2 Inv-loop μ-loop
   add-j c = search needs
@@ -108,11 +108,11 @@ module _ (t : ℕ) where
   pub loop2-again : lts.Need-loop2-again (split-told t) (split-check-at t) reads.Post Inv-loop3 μ-loop3 Inv-loop2 μ-loop2 Inv-loop μ-loop
   loop2-again c = (omega arith, walk-passes _ _ _ _ _ _ _ _ (c .before .before .before .loop2 .inv .1) _ (omega arith) (row-none _ _ _ _ _ _ (c .before .word-at2 .ensures) 1 (c .if3 .taken)))
 
-  pub stamp-table-requires-2 : lts.Need-stamp-table-requires-2 (split-told t) (split-check-at t) reads.Post Inv-loop3 μ-loop3 Inv-loop2 μ-loop2 Inv-loop μ-loop
-  stamp-table-requires-2 c κs = search needs
+  pub stamp-branch-requires-2 : lts.Need-stamp-branch-requires-2 (split-told t) (split-check-at t) reads.Post Inv-loop3 μ-loop3 Inv-loop2 μ-loop2 Inv-loop μ-loop
+  stamp-branch-requires-2 c κs = search needs
 
   pub returns-2 : lts.Need-returns-2 (split-told t) (split-check-at t) reads.Post Inv-loop3 μ-loop3 Inv-loop2 μ-loop2 Inv-loop μ-loop
-  returns-2 c = part-fails _ _ _ _ _ _ _ _ (part-passed _ _ _ _ _ _ _ _ (c .before .before .before .before .before .before .before .before .before .before .before .before .before .loop .inv .1) (4 - (c .before .before .before .before .before .before .before .before .before .before .before .before .before .loop .i + 1)) (omega arith) _ _ (row-table _ _ _ _ _ _ (c .before .before .before .before .before .before .before .before .before .before .before .word-at .ensures) 1 _ (c .before .before .before .before .before .before .before .before .before .before .if1 .left) refl) _ _ (c .before .before .before .before .before .before .before .before .stamp-table .ensures) (not-false _ (c .before .before .before .before .before .before .before .if2 .left)) ∙ c .before .before .before .before .before .before .loop2 .inv .1) (8 - (c .before .before .before .before .before .before .loop2 .j + 1)) (omega arith) _ _ (row-table _ _ _ _ _ _ (c .before .before .before .before .word-at2 .ensures) 0 _ (c .before .before .before .if3 .left) refl) _ _ (c .before .stamp-table2 .ensures) _ (not-true _ (c .if4 .taken))
+  returns-2 c = part-fails _ _ _ _ _ _ _ _ (part-passed _ _ _ _ _ _ _ _ (c .before .before .before .before .before .before .before .before .before .before .before .before .before .loop .inv .1) (4 - (c .before .before .before .before .before .before .before .before .before .before .before .before .before .loop .i + 1)) (omega arith) _ _ (row-branch _ _ _ _ _ _ (c .before .before .before .before .before .before .before .before .before .before .before .word-at .ensures) 1 _ (c .before .before .before .before .before .before .before .before .before .before .if1 .left) refl) _ _ (c .before .before .before .before .before .before .before .before .stamp-branch .ensures) (not-false _ (c .before .before .before .before .before .before .before .if2 .left)) ∙ c .before .before .before .before .before .before .loop2 .inv .1) (8 - (c .before .before .before .before .before .before .loop2 .j + 1)) (omega arith) _ _ (row-branch _ _ _ _ _ _ (c .before .before .before .before .word-at2 .ensures) 0 _ (c .before .before .before .if3 .left) refl) _ _ (c .before .stamp-branch2 .ensures) _ (not-true _ (c .if4 .taken))
 
   pub cast-children : lts.Need-cast-children (split-told t) (split-check-at t) reads.Post Inv-loop3 μ-loop3 Inv-loop2 μ-loop2 Inv-loop μ-loop
   cast-children c = search needs
@@ -130,13 +130,13 @@ module _ (t : ℕ) where
   add-word-at-3 c = search needs
 
   pub word-at-requires-3 : lts.Need-word-at-requires-3 (split-told t) (split-check-at t) reads.Post Inv-loop3 μ-loop3 Inv-loop2 μ-loop2 Inv-loop μ-loop
-  word-at-requires-3 c κs = omega (arith, table-inside _ _ _ _ _ _ _ (c .before .before .before .stamp-table2 .ensures) (not-false _ (c .before .before .if4 .left)))
+  word-at-requires-3 c κs = omega (arith, branch-inside _ _ _ _ _ _ _ (c .before .before .before .stamp-branch2 .ensures) (not-false _ (c .before .before .if4 .left)))
 
   pub child-check-requires : lts.Need-child-check-requires (split-told t) (split-check-at t) reads.Post Inv-loop3 μ-loop3 Inv-loop2 μ-loop2 Inv-loop μ-loop
   child-check-requires c κs = search needs
 
   pub returns-3 : lts.Need-returns-3 (split-told t) (split-check-at t) reads.Post Inv-loop3 μ-loop3 Inv-loop2 μ-loop2 Inv-loop μ-loop
-  returns-3 c = walk-fails _ _ _ _ _ _ _ _ (part-passed _ _ _ _ _ _ _ _ (part-passed _ _ _ _ _ _ _ _ (c .before .before .before .before .before .before .before .before .before .before .before .before .before .before .before .before .before .before .before .loop .inv .1) (4 - (c .before .before .before .before .before .before .before .before .before .before .before .before .before .before .before .before .before .before .before .loop .i + 1)) (omega arith) _ _ (row-table _ _ _ _ _ _ (c .before .before .before .before .before .before .before .before .before .before .before .before .before .before .before .before .before .word-at .ensures) 1 _ (c .before .before .before .before .before .before .before .before .before .before .before .before .before .before .before .before .if1 .left) refl) _ _ (c .before .before .before .before .before .before .before .before .before .before .before .before .before .before .stamp-table .ensures) (not-false _ (c .before .before .before .before .before .before .before .before .before .before .before .before .before .if2 .left)) ∙ c .before .before .before .before .before .before .before .before .before .before .before .before .loop2 .inv .1) (8 - (c .before .before .before .before .before .before .before .before .before .before .before .before .loop2 .j + 1)) (omega arith) _ _ (row-table _ _ _ _ _ _ (c .before .before .before .before .before .before .before .before .before .before .word-at2 .ensures) 0 _ (c .before .before .before .before .before .before .before .before .before .if3 .left) refl) _ _ (c .before .before .before .before .before .before .before .stamp-table2 .ensures) (not-false _ (c .before .before .before .before .before .before .if4 .left)) ∙ c .before .before .before .before .before .loop3 .inv .1) (8 - (c .before .before .before .before .before .loop3 .k + 1)) (omega arith) _ _ (judged-same _ _ _ _ _ _ (row-child _ _ _ _ _ _ (c .before .before .before .word-at3 .ensures)) (c .before .child-check .ensures)) _ (not-true _ (c .if5 .taken))
+  returns-3 c = walk-fails _ _ _ _ _ _ _ _ (part-passed _ _ _ _ _ _ _ _ (part-passed _ _ _ _ _ _ _ _ (c .before .before .before .before .before .before .before .before .before .before .before .before .before .before .before .before .before .before .before .loop .inv .1) (4 - (c .before .before .before .before .before .before .before .before .before .before .before .before .before .before .before .before .before .before .before .loop .i + 1)) (omega arith) _ _ (row-branch _ _ _ _ _ _ (c .before .before .before .before .before .before .before .before .before .before .before .before .before .before .before .before .before .word-at .ensures) 1 _ (c .before .before .before .before .before .before .before .before .before .before .before .before .before .before .before .before .if1 .left) refl) _ _ (c .before .before .before .before .before .before .before .before .before .before .before .before .before .before .stamp-branch .ensures) (not-false _ (c .before .before .before .before .before .before .before .before .before .before .before .before .before .if2 .left)) ∙ c .before .before .before .before .before .before .before .before .before .before .before .before .loop2 .inv .1) (8 - (c .before .before .before .before .before .before .before .before .before .before .before .before .loop2 .j + 1)) (omega arith) _ _ (row-branch _ _ _ _ _ _ (c .before .before .before .before .before .before .before .before .before .before .word-at2 .ensures) 0 _ (c .before .before .before .before .before .before .before .before .before .if3 .left) refl) _ _ (c .before .before .before .before .before .before .before .stamp-branch2 .ensures) (not-false _ (c .before .before .before .before .before .before .if4 .left)) ∙ c .before .before .before .before .before .loop3 .inv .1) (8 - (c .before .before .before .before .before .loop3 .k + 1)) (omega arith) _ _ (judged-same _ _ _ _ _ _ (row-child _ _ _ _ _ _ (c .before .before .before .word-at3 .ensures)) (c .before .child-check .ensures)) _ (not-true _ (c .if5 .taken))
 
   pub add-k : lts.Need-add-k (split-told t) (split-check-at t) reads.Post Inv-loop3 μ-loop3 Inv-loop2 μ-loop2 Inv-loop μ-loop
   add-k c = search needs
@@ -154,7 +154,7 @@ module _ (t : ℕ) where
   loop2-less-2 c = search needs
 
   pub loop2-again-2 : lts.Need-loop2-again-2 (split-told t) (split-check-at t) reads.Post Inv-loop3 μ-loop3 Inv-loop2 μ-loop2 Inv-loop μ-loop
-  loop2-again-2 c = (omega arith, walk-leaves _ _ _ _ _ _ _ _ (part-passed _ _ _ _ _ _ _ _ (c .before .before .before .before .before .before .before .before .loop2 .inv .1) (8 - (c .before .before .before .before .before .before .before .before .loop2 .j + 1)) (omega arith) _ _ (row-table _ _ _ _ _ _ (c .before .before .before .before .before .before .word-at2 .ensures) 0 _ (c .before .before .before .before .before .if3 .left) refl) _ _ (c .before .before .before .stamp-table2 .ensures) (not-false _ (c .before .before .if4 .left)) ∙ c .before .loop3 .inv .1) (omega arith))
+  loop2-again-2 c = (omega arith, walk-leaves _ _ _ _ _ _ _ _ (part-passed _ _ _ _ _ _ _ _ (c .before .before .before .before .before .before .before .before .loop2 .inv .1) (8 - (c .before .before .before .before .before .before .before .before .loop2 .j + 1)) (omega arith) _ _ (row-branch _ _ _ _ _ _ (c .before .before .before .before .before .before .word-at2 .ensures) 0 _ (c .before .before .before .before .before .if3 .left) refl) _ _ (c .before .before .before .stamp-branch2 .ensures) (not-false _ (c .before .before .if4 .left)) ∙ c .before .loop3 .inv .1) (omega arith))
 
   pub add-i-2 : lts.Need-add-i-2 (split-told t) (split-check-at t) reads.Post Inv-loop3 μ-loop3 Inv-loop2 μ-loop2 Inv-loop μ-loop
   add-i-2 c = search needs
@@ -163,7 +163,7 @@ module _ (t : ℕ) where
   loop-less-2 c = search needs
 
   pub loop-again-2 : lts.Need-loop-again-2 (split-told t) (split-check-at t) reads.Post Inv-loop3 μ-loop3 Inv-loop2 μ-loop2 Inv-loop μ-loop
-  loop-again-2 c = (omega arith, walk-leaves _ _ _ _ _ _ _ _ (part-passed _ _ _ _ _ _ _ _ (c .before .before .before .before .before .before .before .before .loop .inv .1) (4 - (c .before .before .before .before .before .before .before .before .loop .i + 1)) (omega arith) _ _ (row-table _ _ _ _ _ _ (c .before .before .before .before .before .before .word-at .ensures) 1 _ (c .before .before .before .before .before .if1 .left) refl) _ _ (c .before .before .before .stamp-table .ensures) (not-false _ (c .before .before .if2 .left)) ∙ c .before .loop2 .inv .1) (omega arith))
+  loop-again-2 c = (omega arith, walk-leaves _ _ _ _ _ _ _ _ (part-passed _ _ _ _ _ _ _ _ (c .before .before .before .before .before .before .before .before .loop .inv .1) (4 - (c .before .before .before .before .before .before .before .before .loop .i + 1)) (omega arith) _ _ (row-branch _ _ _ _ _ _ (c .before .before .before .before .before .before .word-at .ensures) 1 _ (c .before .before .before .before .before .if1 .left) refl) _ _ (c .before .before .before .stamp-branch .ensures) (not-false _ (c .before .before .if2 .left)) ∙ c .before .loop2 .inv .1) (omega arith))
 
   pub returns-4 : lts.Need-returns-4 (split-told t) (split-check-at t) reads.Post Inv-loop3 μ-loop3 Inv-loop2 μ-loop2 Inv-loop μ-loop
   returns-4 c = walk-ends _ _ _ _ _ _ _ (c .before .loop .inv .1) (omega arith)

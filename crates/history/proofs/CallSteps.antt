@@ -8,10 +8,10 @@ use native.Mathlib.Omega.{arith}
 use lib.ListN.{length, getD, take, drop}
 use Rattle.cells.specs.Word.{wordAt}
 use Rattle.cells.proofs.Choice.{absurd-bool, absurd-false}
-use Rattle.blocks.specs.Refusal.{Changed, Inserted}
-use Rattle.blocks.specs.Answers.{changeNumber, changedOutcome, insertedOutcome}
+use Rattle.blocks.specs.Refusal.{Changed, Counted}
+use Rattle.blocks.specs.Answers.{changeNumber, changedOutcome, countedOutcome}
 use Rattle.blocks.specs.declared.answer.ChangeAnswer.{ChangeAnswer}
-use Rattle.blocks.specs.declared.answer.InsertAnswer.{InsertAnswer}
+use Rattle.blocks.specs.declared.answer.CountAnswer.{CountAnswer}
 use Rattle.store.specs.Insert.{insert}
 use Rattle.snapshots.specs.Snapshots.{snapshot, restore, release}
 use Rattle.history.specs.Calls.{Call, inserting, snapshotting, restoring, releasing, ours, outcome}
@@ -34,16 +34,16 @@ module _ (b after : List ℕ) (slot number : ℕ) (answer : ChangeAnswer) (is : 
   unfolding answered outcome ours
   release-answered e = e ∙ ap (λ (n : ℕ). numbered n after) (sym is)
 
-uncounted-insert : (answer : InsertAnswer) (after : List ℕ)
-    → numbered (insertedOutcome answer after .answer) (insertedOutcome answer after .block) ≡ numbered (insertNumber answer) after
-uncounted-insert (InsertAnswer.Done count) after = refl
-uncounted-insert (InsertAnswer.Refused why) after = refl
+uncounted-insert : (answer : CountAnswer) (after : List ℕ)
+    → numbered (countedOutcome answer after .answer) (countedOutcome answer after .block) ≡ numbered (insertNumber answer) after
+uncounted-insert (CountAnswer.Done count) after = refl
+uncounted-insert (CountAnswer.Refused why) after = refl
 
-pub insert-answered : (b after key : List ℕ) (value number : ℕ) (answer : InsertAnswer) → number ≡ insertNumber answer
-    → insert b key value ≡ insertedOutcome answer after → answered b (inserting key value) ≡ numbered number after
+pub insert-answered : (b after key : List ℕ) (value number : ℕ) (answer : CountAnswer) → number ≡ insertNumber answer
+    → insert b key value ≡ countedOutcome answer after → answered b (inserting key value) ≡ numbered number after
 unfolding answered outcome ours
 insert-answered b after key value number answer is e =
-    ap (λ (i : Inserted). numbered (i .answer) (i .block)) e ∙ uncounted-insert answer after ∙ ap (λ (n : ℕ). numbered n after) (sym is)
+    ap (λ (i : Counted). numbered (i .answer) (i .block)) e ∙ uncounted-insert answer after ∙ ap (λ (n : ℕ). numbered n after) (sym is)
 
 -- a step without a call, and with one
 module _ (b : List ℕ) (o : Option Decoded) where
@@ -98,13 +98,13 @@ module _ (b after : List ℕ) where
   told-nothing (some d) e = absurd-bool (ap (λ (s : StepOutcome). did (s .answer)) e)
 
   -- the call that a step ran
-  pub record Told (o : Option Decoded) (size number : ℕ) : Type 0 where
+  pub record KeyWritten (o : Option Decoded) (size number : ℕ) : Type 0 where
     pub decoded : Decoded
     pub there : o ≡ some decoded
     pub taken : decoded .taken ≡ size
     pub done : answered b (decoded .call) ≡ numbered number after
 
-  pub told-did : (o : Option Decoded) (size number : ℕ) → step b o ≡ stepOutcome (Stepped.Did size number) after → Told o size number
+  pub told-did : (o : Option Decoded) (size number : ℕ) → step b o ≡ stepOutcome (Stepped.Did size number) after → KeyWritten o size number
   unfolding step
   told-did none size number e = absurd-false (ap (λ (s : StepOutcome). did (s .answer)) e)
   told-did (some d) size number e =

@@ -9,7 +9,7 @@ use native.Mathlib.Omega.{arith}
 use lib.ListN.{length, take, drop, set, length-set}
 use lib.Seq.{drop-cons, drop-set-lt, getD-set-same}
 use Rattle.nodes.specs.Layout.{keyLimit}
-use Rattle.trees.specs.Coded.{toldKey, Told}
+use Rattle.trees.specs.Coded.{toldKey, KeyWritten}
 use Rattle.trees.specs.declared.next_key.NextStep.{NextStep}
 
 -- no key, and one of so many characters
@@ -29,22 +29,22 @@ put-before characters at x n room =
     ∙ ap (λ l. x ∷ take n l) (drop-set-lt (suc at) characters at x (omega arith) ∙ ap (λ i. drop i characters) (sym (add-one at)))
 
 -- an answer tells an equal key too
-pub told-same : (characters : List ℕ) (at : ℕ) (step : NextStep) (key other : Option (List ℕ)) → Told characters at step key → other ≡ key
-    → Told characters at step other
+pub told-same : (characters : List ℕ) (at : ℕ) (step : NextStep) (key other : Option (List ℕ)) → KeyWritten characters at step key → other ≡ key
+    → KeyWritten characters at step other
 told-same characters at step key other told e = record { tells = told .tells ∙ sym e; fits = told .fits }
 
 -- an answer without a key
-pub told-none : (characters : List ℕ) (at : ℕ) (key : Option (List ℕ)) → at ≤ keyLimit → key ≡ none → Told characters at noKey key
+pub told-none : (characters : List ℕ) (at : ℕ) (key : Option (List ℕ)) → at ≤ keyLimit → key ≡ none → KeyWritten characters at noKey key
 unfolding toldKey
 told-none characters at key room e = record { tells = sym e; fits = omega arith }
 
-pub no-key-told : (characters : List ℕ) (at : ℕ) (step : NextStep) (key : Option (List ℕ)) → Told characters at step key → step .found ≡ false
+pub no-key-told : (characters : List ℕ) (at : ℕ) (step : NextStep) (key : Option (List ℕ)) → KeyWritten characters at step key → step .found ≡ false
     → key ≡ none
 unfolding toldKey
 no-key-told characters at step key told e = sym (told .tells) ∙ rw e
 
 -- an answer with one
-pub key-told : (characters : List ℕ) (at : ℕ) (step : NextStep) (key : Option (List ℕ)) → Told characters at step key → step .found ≡ true
+pub key-told : (characters : List ℕ) (at : ℕ) (step : NextStep) (key : Option (List ℕ)) → KeyWritten characters at step key → step .found ≡ true
     → key ≡ some (take (step .size) (drop at characters))
 unfolding toldKey
 key-told characters at step key told e = sym (told .tells) ∙ rw e
@@ -52,7 +52,7 @@ key-told characters at step key told e = sym (told .tells) ∙ rw e
 -- a key of one character, and a character before a key
 module _ (characters written : List ℕ) (at x : ℕ) where
   pub told-one : (key : Option (List ℕ)) → at < keyLimit → (length characters ≡ keyLimit) × (written ≡ set characters at x) → key ≡ some (x ∷ [])
-      → Told written at (keyOfSize 1) key
+      → KeyWritten written at (keyOfSize 1) key
   unfolding toldKey
   told-one key room put e = record {
     tells = ap (λ l. some (take 1 (drop at l))) (put .1) ∙ ap some (put-before characters at x 0 (omega (arith, put .0))) ∙ sym e;
@@ -61,7 +61,7 @@ module _ (characters written : List ℕ) (at x : ℕ) where
 
   pub told-more : (n : ℕ) (step : NextStep) (key : Option (List ℕ)) → at < keyLimit → (length characters ≡ keyLimit) × (written ≡ set characters at x)
       → at + 1 + step .size ≤ keyLimit → key ≡ some (x ∷ take (step .size) (drop (at + 1) characters)) → n ≡ step .size + 1
-      → Told written at (keyOfSize n) key
+      → KeyWritten written at (keyOfSize n) key
   unfolding toldKey
   told-more n step key room put fits e size =
       let more : n ≡ suc (step .size) = omega arith in record {

@@ -15,8 +15,8 @@ use Rattle.cells.specs.Word.{wordAt, withWord}
 use Rattle.cells.specs.Memory.{Memory}
 use Rattle.cells.proofs.Words.{zeros-byte, length-withWord, word-bound, word-same, word-other}
 use Rattle.nodes.specs.Sparse.{sparseCharacter, sparseCount, childFrom, sparseChild}
-use Rattle.nodes.specs.Split.{headWord, tableWord, wordBelow}
-use Rattle.staging.specs.NewCells.{blank, tableCopy, headCopy, withWords}
+use Rattle.nodes.specs.Split.{headWord, branchWord, wordBelow}
+use Rattle.staging.specs.NewCells.{blank, branchCopy, headCopy, withWords}
 use Rattle.staging.proofs.CellBytes.{blank-cell}
 
 -- the chosen of two words is a word
@@ -44,9 +44,9 @@ beside base p q n = elim (decLt q p) [
   | no behind ↦ inr (omega arith)
 ]
 
-pub table-set : (l : List ℕ) (p v q : ℕ) → length l ≡ 32 → p < 8 → v < 4294967296
-    → tableWord (withWord l (4 * p) v) q ≡ cond (eqb q p) v (tableWord l q)
-table-set l p v q whole inside small =
+pub branch-set : (l : List ℕ) (p v q : ℕ) → length l ≡ 32 → p < 8 → v < 4294967296
+    → branchWord (withWord l (4 * p) v) q ≡ cond (eqb q p) v (branchWord l q)
+branch-set l p v q whole inside small =
     word-chosen l (4 * p) (4 * q) v p q (omega arith) small (ap (λ (k : ℕ). 4 * k)) (λ n. apart (beside 0 p q n))
   where
     apart : (0 + 4 * q + 4 ≤ 0 + 4 * p) ⊎ (0 + 4 * p + 4 ≤ 0 + 4 * q) → (4 * q + 4 ≤ 4 * p) ⊎ (4 * p + 4 ≤ 4 * q)
@@ -60,7 +60,7 @@ head-set l p v q whole inside small =
 
 -- words written side by side
 pub words-before : (words : ℕ → ℕ) (count position : ℕ) (l : List ℕ) (q : ℕ) → q < position
-    → tableWord (withWords words count position l) q ≡ tableWord l q
+    → branchWord (withWords words count position l) q ≡ branchWord l q
 unfolding withWords
 words-before words zero position l q before = refl
 words-before words (suc count) position l q before =
@@ -69,13 +69,13 @@ words-before words (suc count) position l q before =
 
 pub words-at : (words : ℕ → ℕ) (count position : ℕ) (l : List ℕ) (q : ℕ) → length l ≡ 32 → position + count ≤ 8
     → position ≤ q → q < position + count → words q < 4294967296
-    → tableWord (withWords words count position l) q ≡ words q
+    → branchWord (withWords words count position l) q ≡ words q
 unfolding withWords
 words-at words zero position l q whole inside low high small = absurd (omega arith)
 words-at words (suc count) position l q whole inside low high small = elim (ℕ-discrete q position) [
   | yes here ↦
       words-before words count (position + 1) (withWord l (4 * position) (words position)) q (omega arith)
-      ∙ table-set l position (words position) q whole (omega arith) (subst (λ (k : ℕ). words k < 4294967296) here small)
+      ∙ branch-set l position (words position) q whole (omega arith) (subst (λ (k : ℕ). words k < 4294967296) here small)
       ∙ rw (eq-eqb q position here) (ap words (sym here))
   | no later ↦
       words-at words count (position + 1) (withWord l (4 * position) (words position)) q
@@ -83,8 +83,8 @@ words-at words (suc count) position l q whole inside low high small = elim (ℕ-
 ]
 
 -- the words of a table of eight, and of a head of four
-pub table-words : (words : ℕ → ℕ) (q : ℕ) → q < 8 → words q < 4294967296 → tableWord (withWords words 8 0 blank) q ≡ words q
-table-words words q inside small = words-at words 8 0 blank q (blank-cell .size) (omega arith) (omega arith) (omega arith) small
+pub branch-words : (words : ℕ → ℕ) (q : ℕ) → q < 8 → words q < 4294967296 → branchWord (withWords words 8 0 blank) q ≡ words q
+branch-words words q inside small = words-at words 8 0 blank q (blank-cell .size) (omega arith) (omega arith) (omega arith) small
 
 pub head-words : (words : ℕ → ℕ) (i : ℕ) → i < 4 → words (4 + i) < 4294967296 → headWord (withWords words 4 4 blank) i ≡ words (4 + i)
 head-words words i inside small =
@@ -117,17 +117,17 @@ module _ (bytes : List ℕ) where
 
 -- a mid or an end copied, all NONE where there was none
 module _ (m : Memory) (w : ℕ) where
-  pub tableCopy-word : (q : ℕ) → tableWord (tableCopy m w) q ≡ wordBelow m w q
-  unfolding tableCopy wordBelow
-  tableCopy-word q = go (eqb w 0)
+  pub branchCopy-word : (q : ℕ) → branchWord (branchCopy m w) q ≡ wordBelow m w q
+  unfolding branchCopy wordBelow
+  branchCopy-word q = go (eqb w 0)
     where
-      go : (t : Bool) → tableWord (cond t blank (m (w / 32))) q ≡ cond t 0 (tableWord (m (w / 32)) q)
+      go : (t : Bool) → branchWord (cond t blank (m (w / 32))) q ≡ cond t 0 (branchWord (m (w / 32)) q)
       go true = blank-word (4 * q)
       go false = refl
 
-  pub tableCopy-length : length (m (w / 32)) ≡ 32 → length (tableCopy m w) ≡ 32
-  unfolding tableCopy
-  tableCopy-length whole = go (eqb w 0)
+  pub branchCopy-length : length (m (w / 32)) ≡ 32 → length (branchCopy m w) ≡ 32
+  unfolding branchCopy
+  branchCopy-length whole = go (eqb w 0)
     where
       go : (t : Bool) → length (cond t blank (m (w / 32))) ≡ 32
       go true = blank-cell .size

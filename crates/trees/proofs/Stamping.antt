@@ -13,47 +13,47 @@ use borrow.Author.Tests.{eq-eqb, ne-eqb}
 use Rattle.cells.specs.Occurrences.{occurrences, distinct}
 use Rattle.cells.proofs.Choice.{never}
 use Rattle.cells.proofs.Occurrences.{occurrences-none, occurrences-here, occurrences-later, occurrences-same, occurrences-cons-other, distinct-most, most-distinct}
-use Rattle.trees.specs.Visit.{admit}
+use Rattle.trees.specs.Visit.{stampEach}
 use Rattle.trees.proofs.Joins.{bind-of, bind-none}
 
 module _ (stamp : ℕ) where
   -- no cell, a cell that has the stamp, and one that has it not
-  pub admit-none : (stamps : List ℕ) → admit stamp [] stamps ≡ some stamps
-  unfolding admit
-  admit-none stamps = refl
+  pub stampEach-none : (stamps : List ℕ) → stampEach stamp [] stamps ≡ some stamps
+  unfolding stampEach
+  stampEach-none stamps = refl
 
-  pub admit-twice : (c : ℕ) (cs stamps : List ℕ) → getD stamps c 0 ≡ stamp → admit stamp (c ∷ cs) stamps ≡ none
-  unfolding admit
-  admit-twice c cs stamps has = rw (eq-eqb (getD stamps c 0) stamp has)
+  pub stampEach-twice : (c : ℕ) (cs stamps : List ℕ) → getD stamps c 0 ≡ stamp → stampEach stamp (c ∷ cs) stamps ≡ none
+  unfolding stampEach
+  stampEach-twice c cs stamps has = rw (eq-eqb (getD stamps c 0) stamp has)
 
-  pub admit-new : (c : ℕ) (cs stamps : List ℕ) → getD stamps c 0 ≢ stamp → admit stamp (c ∷ cs) stamps ≡ admit stamp cs (set stamps c stamp)
-  unfolding admit
-  admit-new c cs stamps other = rw (ne-eqb (getD stamps c 0) stamp other)
+  pub stampEach-new : (c : ℕ) (cs stamps : List ℕ) → getD stamps c 0 ≢ stamp → stampEach stamp (c ∷ cs) stamps ≡ stampEach stamp cs (set stamps c stamp)
+  unfolding stampEach
+  stampEach-new c cs stamps other = rw (ne-eqb (getD stamps c 0) stamp other)
 
   -- the cells of two lists, one behind the other
-  pub admit-append : (cs ds stamps : List ℕ) → admit stamp (cs ++ ds) stamps ≡ bind (admit stamp cs stamps) (λ after. admit stamp ds after)
-  admit-append [] ds stamps = sym (ap (λ o. bind o (λ after. admit stamp ds after)) (admit-none stamps) ∙ bind-of stamps (λ after. admit stamp ds after))
-  admit-append (c ∷ cs) ds stamps = elim (ℕ-discrete (getD stamps c 0) stamp) [
+  pub stampEach-append : (cs ds stamps : List ℕ) → stampEach stamp (cs ++ ds) stamps ≡ bind (stampEach stamp cs stamps) (λ after. stampEach stamp ds after)
+  stampEach-append [] ds stamps = sym (ap (λ o. bind o (λ after. stampEach stamp ds after)) (stampEach-none stamps) ∙ bind-of stamps (λ after. stampEach stamp ds after))
+  stampEach-append (c ∷ cs) ds stamps = elim (ℕ-discrete (getD stamps c 0) stamp) [
     | yes has ↦
-        admit-twice c (cs ++ ds) stamps has
-        ∙ sym (ap (λ o. bind o (λ after. admit stamp ds after)) (admit-twice c cs stamps has) ∙ bind-none (λ after. admit stamp ds after))
+        stampEach-twice c (cs ++ ds) stamps has
+        ∙ sym (ap (λ o. bind o (λ after. stampEach stamp ds after)) (stampEach-twice c cs stamps has) ∙ bind-none (λ after. stampEach stamp ds after))
     | no other ↦
-        admit-new c (cs ++ ds) stamps other ∙ admit-append cs ds (set stamps c stamp)
-        ∙ ap (λ o. bind o (λ after. admit stamp ds after)) (sym (admit-new c cs stamps other))
+        stampEach-new c (cs ++ ds) stamps other ∙ stampEach-append cs ds (set stamps c stamp)
+        ∙ ap (λ o. bind o (λ after. stampEach stamp ds after)) (sym (stampEach-new c cs stamps other))
   ]
 
   -- a first cell that was admitted had not the stamp
-  pub admit-cut : (c : ℕ) (cs stamps after : List ℕ) → admit stamp (c ∷ cs) stamps ≡ some after
-      → (getD stamps c 0 ≢ stamp) × (admit stamp cs (set stamps c stamp) ≡ some after)
-  admit-cut c cs stamps after e = elim (ℕ-discrete (getD stamps c 0) stamp) [
-    | yes has ↦ never (sym (admit-twice c cs stamps has) ∙ e)
-    | no other ↦ (other, sym (admit-new c cs stamps other) ∙ e)
+  pub stampEach-cut : (c : ℕ) (cs stamps after : List ℕ) → stampEach stamp (c ∷ cs) stamps ≡ some after
+      → (getD stamps c 0 ≢ stamp) × (stampEach stamp cs (set stamps c stamp) ≡ some after)
+  stampEach-cut c cs stamps after e = elim (ℕ-discrete (getD stamps c 0) stamp) [
+    | yes has ↦ never (sym (stampEach-twice c cs stamps has) ∙ e)
+    | no other ↦ (other, sym (stampEach-new c cs stamps other) ∙ e)
   ]
 
   -- the array stays as long as it is
-  pub admit-length : (cs stamps after : List ℕ) → admit stamp cs stamps ≡ some after → length after ≡ length stamps
-  admit-length [] stamps after e = let same : some stamps ≡ some after = sym (admit-none stamps) ∙ e in let here : stamps ≡ after = cc in ap length (sym here)
-  admit-length (c ∷ cs) stamps after e = admit-length cs (set stamps c stamp) after (admit-cut c cs stamps after e .1) ∙ length-set stamps c stamp
+  pub stampEach-length : (cs stamps after : List ℕ) → stampEach stamp cs stamps ≡ some after → length after ≡ length stamps
+  stampEach-length [] stamps after e = let same : some stamps ≡ some after = sym (stampEach-none stamps) ∙ e in let here : stamps ≡ after = cc in ap length (sym here)
+  stampEach-length (c ∷ cs) stamps after e = stampEach-length cs (set stamps c stamp) after (stampEach-cut c cs stamps after e .1) ∙ length-set stamps c stamp
 
 -- every cell of a list has a place in the array
 abbrev pub Inside : List ℕ → List ℕ → Type 0
@@ -64,14 +64,14 @@ inside-rest c v cs stamps inside d h = omega (arith, inside d (omega (arith, occ
 
 module _ (stamp : ℕ) where
   -- what was admitted: each cell once, none that had the stamp, and they have it now, while the others are as before
-  pub record Admitted (cs before after : List ℕ) : Type 0 where
+  pub record StampedOnce (cs before after : List ℕ) : Type 0 where
     pub once : (c : ℕ) → occurrences c cs ≤ 1
     pub fresh : (c : ℕ) → 1 ≤ occurrences c cs → getD before c 0 ≢ stamp
     pub stamped : (c : ℕ) → 1 ≤ occurrences c cs → getD after c 0 ≡ stamp
     pub others : (c : ℕ) → occurrences c cs ≡ 0 → getD after c 0 ≡ getD before c 0
 
   module _ (x : ℕ) (cs before after : List ℕ) (place : x < length before) (new : getD before x 0 ≢ stamp)
-      (rest : Admitted cs (set before x stamp) after) where
+      (rest : StampedOnce cs (set before x stamp) after) where
     absent : occurrences x cs ≡ 0
     absent = elim (ℕ-discrete (occurrences x cs) 0) [
       | yes none-there ↦ none-there
@@ -104,12 +104,12 @@ module _ (stamp : ℕ) where
         let other : c ≢ x = λ e. absurd (omega (arith, occurrences-same c x cs e)) in
         rest .others c (omega (arith, occurrences-later c x cs)) ∙ getD-set-other before x c stamp 0 other
 
-    first-admitted : Admitted (x ∷ cs) before after
-    first-admitted = record { once = first-once; fresh = first-fresh; stamped = first-stamped; others = first-others }
+    first-stamped-once : StampedOnce (x ∷ cs) before after
+    first-stamped-once = record { once = first-once; fresh = first-fresh; stamped = first-stamped; others = first-others }
 
-  pub admitted : (cs before after : List ℕ) → Inside cs before → admit stamp cs before ≡ some after → Admitted cs before after
-  admitted [] before after inside e =
-      let same : some before ≡ some after = sym (admit-none stamp before) ∙ e in
+  pub stamped-once : (cs before after : List ℕ) → Inside cs before → stampEach stamp cs before ≡ some after → StampedOnce cs before after
+  stamped-once [] before after inside e =
+      let same : some before ≡ some after = sym (stampEach-none stamp before) ∙ e in
       let here : before ≡ after = cc in
       record {
         once = λ c. omega (arith, occurrences-none c);
@@ -117,34 +117,34 @@ module _ (stamp : ℕ) where
         stamped = λ c h. absurd (omega (arith, occurrences-none c));
         others = λ c h. ap (λ l. getD l c 0) (sym here);
       }
-  admitted (c ∷ cs) before after inside e =
-      let q = admit-cut stamp c cs before after e in
-      first-admitted c cs before after (inside c (occurrences-here c cs)) (q .0)
-      (admitted cs (set before c stamp) after (inside-rest c stamp cs before inside) (q .1))
+  stamped-once (c ∷ cs) before after inside e =
+      let q = stampEach-cut stamp c cs before after e in
+      first-stamped-once c cs before after (inside c (occurrences-here c cs)) (q .0)
+      (stamped-once cs (set before c stamp) after (inside-rest c stamp cs before inside) (q .1))
 
   -- each cell once and none that has the stamp: they are admitted
-  pub admits : (cs before : List ℕ) → Inside cs before → ((c : ℕ) → occurrences c cs ≤ 1)
-      → ((c : ℕ) → 1 ≤ occurrences c cs → getD before c 0 ≢ stamp) → (after : List ℕ) × (admit stamp cs before ≡ some after)
-  admits [] before inside once fresh = (before, admit-none stamp before)
-  admits (x ∷ cs) before inside once fresh =
+  pub stamps-each : (cs before : List ℕ) → Inside cs before → ((c : ℕ) → occurrences c cs ≤ 1)
+      → ((c : ℕ) → 1 ≤ occurrences c cs → getD before c 0 ≢ stamp) → (after : List ℕ) × (stampEach stamp cs before ≡ some after)
+  stamps-each [] before inside once fresh = (before, stampEach-none stamp before)
+  stamps-each (x ∷ cs) before inside once fresh =
       let rest =
-      admits cs (set before x stamp) (inside-rest x stamp cs before inside) (λ c. omega (arith, once c, occurrences-later c x cs))
+      stamps-each cs (set before x stamp) (inside-rest x stamp cs before inside) (λ c. omega (arith, once c, occurrences-later c x cs))
       (λ c h.
       let other : c ≢ x = λ e. absurd (omega (arith, once c, occurrences-same c x cs e)) in
       λ has. fresh c (omega (arith, occurrences-later c x cs)) (sym (getD-set-other before x c stamp 0 other) ∙ has)) in
-      (rest .0, admit-new stamp x cs before (fresh x (occurrences-here x cs)) ∙ rest .1)
+      (rest .0, stampEach-new stamp x cs before (fresh x (occurrences-here x cs)) ∙ rest .1)
 
 -- cells admitted to an array that has the stamp nowhere: just where they are distinct
 module _ (stamp : ℕ) (cs before : List ℕ) (inside : Inside cs before) (fresh : (c : ℕ) → c < length before → getD before c 0 ≢ stamp) where
-  pub admit-distinct : distinct cs ≡ true → (after : List ℕ) × (admit stamp cs before ≡ some after)
-  admit-distinct e = admits stamp cs before inside (distinct-most cs e) (λ c h. fresh c (inside c h))
+  pub stamped-distinct : distinct cs ≡ true → (after : List ℕ) × (stampEach stamp cs before ≡ some after)
+  stamped-distinct e = stamps-each stamp cs before inside (distinct-most cs e) (λ c h. fresh c (inside c h))
 
-  pub distinct-admit : (after : List ℕ) → admit stamp cs before ≡ some after → distinct cs ≡ true
-  distinct-admit after e = most-distinct cs (admitted stamp cs before after inside e .once)
+  pub distinct-stamped : (after : List ℕ) → stampEach stamp cs before ≡ some after → distinct cs ≡ true
+  distinct-stamped after e = most-distinct cs (stamped-once stamp cs before after inside e .once)
 
-  pub admit-refused : admit stamp cs before ≡ none → distinct cs ≡ false
-  admit-refused e = go (distinct cs) refl
+  pub stampEach-refused : stampEach stamp cs before ≡ none → distinct cs ≡ false
+  stampEach-refused e = go (distinct cs) refl
     where
       go : (t : Bool) → distinct cs ≡ t → t ≡ false
-      go true d = let a = admit-distinct d in never (sym e ∙ a .1)
+      go true d = let a = stamped-distinct d in never (sym e ∙ a .1)
       go false d = refl
