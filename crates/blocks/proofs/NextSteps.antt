@@ -17,10 +17,10 @@ use Rattle.cells.proofs.Words.{zeros-length, padded-byte}
 use Rattle.cells.proofs.Memory.{memory-bytes}
 use Rattle.nodes.specs.Layout.{Layout, keyLimit}
 use Rattle.trees.specs.Entries.{Entry, nextEntry}
-use Rattle.trees.specs.NextWalk.{keyOf, nextFrom}
-use Rattle.trees.specs.Coded.{toldKey, KeyWritten}
+use Rattle.trees.specs.Code.NextWalk.{keyOf, nextFrom}
+use Rattle.trees.specs.Code.Coded.{toldKey, KeyWritten}
 use Rattle.trees.specs.declared.next_key.NextStep.{NextStep}
-use Rattle.trees.proofs.NextWalk.{next-key}
+use Rattle.trees.proofs.NextKey.NextWalk.{next-key}
 use Rattle.blocks.specs.Trailer.{layoutOf, rootWord}
 use Rattle.blocks.specs.Refusal.{refusal, firstRefusal, overLong}
 use Rattle.blocks.specs.Read.{validate, missing, shownEntries, padded, keyOr, nextRefusals, nextKey}

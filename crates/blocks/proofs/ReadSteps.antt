@@ -12,8 +12,8 @@ use Rattle.cells.specs.Occurrences.{occurrences}
 use Rattle.nodes.specs.Layout.{Layout, keyLimit, Covered}
 use Rattle.trees.specs.Tree.{tree}
 use Rattle.trees.specs.Lookup.{lookup}
-use Rattle.trees.specs.Coded.{Grown}
-use Rattle.blocks.specs.Fits.{Fits}
+use Rattle.trees.specs.Code.Coded.{Grown}
+use Rattle.blocks.specs.Code.Fits.{Fits}
 use Rattle.blocks.specs.Trailer.{badSize, layoutOf, rootWord}
 use Rattle.blocks.specs.Sound.{soundWith, sound}
 use Rattle.blocks.specs.Refusal.{Refusal, firstRefusal}

@@ -17,14 +17,14 @@ use Rattle.nodes.specs.Layout.{Layout, usable, keyLimit, cellLimit}
 use Rattle.nodes.specs.Pointer.{pointer}
 use Rattle.nodes.proofs.Pointers.{usable-inside}
 use Rattle.trees.specs.Root.{isRoot, rootTree, onceVisited, validRoot, cellsOf, rootCells}
-use Rattle.trees.specs.Visit.{stampEach, visit, VisitAnswer}
+use Rattle.trees.specs.Code.Visit.{stampEach, visit, VisitAnswer}
 use Rattle.trees.proofs.Usable.{tree-usable}
-use Rattle.trees.proofs.Joins.{bind-of}
-use Rattle.trees.proofs.Judging.{visit-empty, judged-same, judged-empty}
-use Rattle.trees.proofs.Stamping.{Inside, StampedOnce, stamped-once, distinct-stamped, stampEach-refused, stampEach-length}
+use Rattle.trees.proofs.Validation.Joins.{bind-of}
+use Rattle.trees.proofs.Validation.Judging.{visit-empty, judged-same, judged-empty}
+use Rattle.trees.proofs.Validation.Stamping.{Inside, StampedOnce, stamped-once, distinct-stamped, stampEach-refused, stampEach-length}
 use Rattle.blocks.specs.Trailer.{rootWord, slots, slotWord, inUse, validTrailer}
 use Rattle.blocks.specs.Sound.{slotRoots, roots, soundWith, reachedFrom, reachable}
-use Rattle.blocks.specs.Stamps.{slotTree, Validated}
+use Rattle.blocks.specs.Code.Stamps.{slotTree, Validated}
 use Rattle.blocks.proofs.Roots.{root-tree, not-root, used-roots, idle-roots, reached-cons, reached-none}
 
 -- the cells found below a root have a place in the array

@@ -15,7 +15,7 @@ use Rattle.cells.specs.Word.{wordAt}
 use Rattle.cells.proofs.Choice.{absurd-bool, both}
 use Rattle.nodes.specs.Layout.{Layout, leastCells, validEdition, cellLimit}
 use Rattle.blocks.specs.Trailer.{trailerAt, zeroBytesAt, cellsAt, zeroWordAt, editionOf, badLength, badSize, layoutOf, slots, validSlot, slotBits, slotWord, inUse, everySlot, idleIsZero, zeroFrom, validTrailer}
-use Rattle.blocks.specs.Fits.{Fits}
+use Rattle.blocks.specs.Code.Fits.{Fits}
 use Rattle.blocks.proofs.Trailer.{sized, has-trailer, slot-low, slot-high, slots-most, every-slot, zero-byte, zero-run, TrailerParts, trailer-parts}
 
 -- a length that is refused, in the order of the tests

@@ -5,10 +5,10 @@ use mathlib.Core.List.{List}
 use Prim.Native.Nat.{ℕ}
 use lib.ListN.{length}
 use Rattle.nodes.specs.Layout.{Layout}
-use Rattle.blocks.specs.Fits.{Fits}
+use Rattle.blocks.specs.Code.Fits.{Fits}
 use Rattle.blocks.specs.Trailer.{badSize, layoutOf}
 use Rattle.blocks.specs.Sound.{soundWith, sound}
-use Rattle.blocks.specs.Stamps.{Validated}
+use Rattle.blocks.specs.Code.Stamps.{Validated}
 use Rattle.blocks.specs.Refusal.{firstRefusal}
 use Rattle.blocks.specs.Read.{validate}
 use Rattle.blocks.proofs.TrailerSteps.{fits}

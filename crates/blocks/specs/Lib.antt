@@ -5,6 +5,5 @@ pub mod Refusal
 pub mod Read
 pub mod Tables
 pub mod After
-pub mod Fits
 pub mod Answers
-pub mod Stamps
+pub mod Code

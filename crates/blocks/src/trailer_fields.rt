@@ -4,7 +4,7 @@ ghost use mathlib.Core.Path.{_≡_};
 ghost use Prim.Native.Nat.{_+_, _≤_};
 ghost use lib.ListN.{length};
 ghost use Rattle.blocks.specs.Trailer.{badLength, badSize, layoutOf, rootWord, slots, validSlot, slotBits, slotWord, inUse, everySlot, idleIsZero, zeroFrom, validTrailer, trailerAt, slotAt};
-ghost use Rattle.blocks.specs.Fits.{Fits};
+ghost use Rattle.blocks.specs.Code.Fits.{Fits};
 ghost use Rattle.nodes.specs.Layout.{leastCells, cellLimit};
 use cells::word_at;
 use nodes::layout::CELL_LIMIT;

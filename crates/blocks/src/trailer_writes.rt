@@ -4,7 +4,7 @@ ghost use mathlib.Core.Path.{_≡_};
 ghost use lib.ListN.{length};
 ghost use Rattle.blocks.specs.Trailer.{validSlot};
 ghost use Rattle.blocks.specs.TrailerWrites.{withRoot, withSlotWord, withSlotBits, withCells, withEdition};
-ghost use Rattle.blocks.specs.Fits.{Fits};
+ghost use Rattle.blocks.specs.Code.Fits.{Fits};
 use crate::trailer_fields::BITS_AT;
 use crate::trailer_fields::CELLS_AT;
 use crate::trailer_fields::EDITION_AT;

@@ -10,7 +10,7 @@ use lib.ListN.{length}
 use Rattle.cells.specs.Memory.{memoryOf}
 use Rattle.nodes.specs.Layout.{keyLimit}
 use Rattle.trees.specs.Entries.{Entry, nextEntry}
-use Rattle.trees.proofs.Next.{next-short}
+use Rattle.trees.proofs.NextKey.Next.{next-short}
 use Rattle.blocks.specs.declared.answer.ChangeAnswer.{ChangeAnswer}
 use Rattle.blocks.specs.declared.answer.NextAnswer.{NextAnswer}
 use Rattle.blocks.specs.Answers.{changeNumber, changedOutcome, nextOutcome}

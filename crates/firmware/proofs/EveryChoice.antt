@@ -17,7 +17,7 @@ use Rattle.dosing.specs.Sheet.{sheetOf}
 use Rattle.dosing.specs.Verdict.{verdict}
 use Rattle.firmware.specs.Choices.{Choices, Injective, ours}
 use Rattle.firmware.specs.NumberCalls.{ReadingNumbers, SheetNumbers, gateOf, readingOf, verdictNumbers}
-use Rattle.firmware.specs.Named.{gateOr, readingOr}
+use Rattle.firmware.specs.Code.Named.{gateOr, readingOr}
 use Rattle.firmware.proofs.NamedKinds.{verdict-named}
 use mathlib.Core.Bool.{cond}
 

@@ -22,7 +22,7 @@ use Rattle.dosing.specs.Sheet.{sheetOf, validSheet, doseOf}
 use Rattle.dosing.specs.Verdict.{verdictRefusals, verdictOf, verdict}
 use Rattle.firmware.specs.Choices.{ours}
 use Rattle.firmware.specs.NumberCalls.{gateOf, readingOf, badSheetNumbers, badReadingNumbers, outsideNumbers}
-use Rattle.firmware.specs.Named.{offScale, gateOr, readingOr, gateNamed, readingNamed}
+use Rattle.firmware.specs.Code.Named.{offScale, gateOr, readingOr, gateNamed, readingNamed}
 
 -- the gate of each number
 module _ (kind : ℕ) (low high : Float) where

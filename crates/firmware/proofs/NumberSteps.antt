@@ -17,7 +17,7 @@ use Rattle.dosing.specs.Sheet.{sheetOf}
 use Rattle.dosing.specs.Verdict.{Verdict, verdict}
 use Rattle.firmware.specs.Choices.{ours}
 use Rattle.firmware.specs.NumberCalls.{SheetNumbers, ReadingNumbers, gateOf, readingOf, verdictNumbers}
-use Rattle.firmware.specs.Named.{gateNamed, readingNamed}
+use Rattle.firmware.specs.Code.Named.{gateNamed, readingNamed}
 use Rattle.firmware.proofs.NamedKinds.{verdict-named}
 
 -- a refusal is told by its number

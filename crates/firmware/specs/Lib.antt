@@ -1,3 +1,3 @@
 pub mod Choices
 pub mod NumberCalls
-pub mod Named
+pub mod Code

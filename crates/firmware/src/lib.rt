@@ -3,8 +3,8 @@
 ghost use mathlib.Core.Path.{_≡_};
 ghost use Rattle.firmware.specs.Choices.{ours};
 ghost use Rattle.firmware.specs.NumberCalls.{getNumbers, insertNumbers, verdictNumbers};
-use blocks::answer::GetAnswer;
 use blocks::answer::CountAnswer;
+use blocks::answer::GetAnswer;
 use blocks::answer::number;
 use blocks::get::get;
 use calendar::Day;

@@ -1,7 +1,7 @@
 // Gates and readings by the numbers that name them in C.
 ghost use mathlib.Core.Path.{_≡_};
 ghost use Rattle.firmware.specs.Choices.{ours};
-ghost use Rattle.firmware.specs.Named.{gateNamed, readingNamed};
+ghost use Rattle.firmware.specs.Code.Named.{gateNamed, readingNamed};
 use dosing::temperature::Reading;
 use dosing::temperature::TemperatureGate;
 

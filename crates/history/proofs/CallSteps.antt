@@ -15,8 +15,8 @@ use Rattle.blocks.specs.declared.answer.CountAnswer.{CountAnswer}
 use Rattle.store.specs.Insert.{insert}
 use Rattle.snapshots.specs.Snapshots.{snapshot, restore, release}
 use Rattle.history.specs.Calls.{Call, inserting, snapshotting, restoring, releasing, ours, outcome}
-use Rattle.history.specs.Encoded.{Decoded, decodeInsert, decodeSlot, decodeCall}
-use Rattle.history.specs.Running.{insertNumber, numbered, answered, StepOutcome, step, stepOutcome}
+use Rattle.history.specs.Code.Encoded.{Decoded, decodeInsert, decodeSlot, decodeCall}
+use Rattle.history.specs.Code.Running.{insertNumber, numbered, answered, StepOutcome, step, stepOutcome}
 use Rattle.history.specs.declared.runner.Stepped.{Stepped}
 use Rattle.history.proofs.Decoding.{insert-there, slot-there, tag-insert}
 

@@ -13,7 +13,7 @@ use Rattle.cells.specs.Bytes.{IsBytes}
 use Rattle.cells.specs.Word.{wordAt}
 use Rattle.cells.proofs.Words.{bytes-take, bytes-drop}
 use Rattle.history.specs.Calls.{Call, inserting, snapshotting, restoring, releasing, KeyIsBytes, KeysAreBytes}
-use Rattle.history.specs.Encoded.{Decoded, decodeInsert, decodeSlot, decodeCall, following, decoded}
+use Rattle.history.specs.Code.Encoded.{Decoded, decodeInsert, decodeSlot, decodeCall, following, decoded}
 
 -- a choice between nothing and nothing
 cond-none : (t : Bool) {a b : Option Decoded} → a ≡ none → b ≡ none → cond t a b ≡ none

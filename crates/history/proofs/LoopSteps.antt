@@ -6,8 +6,8 @@ use Prim.Native.Nat.{ℕ, suc, _+_, _-_, _≤_, _<_}
 use native.Mathlib.Omega.{arith}
 use lib.ListN.{length, take, drop, set, length-drop}
 use lib.Seq.{drop-drop}
-use Rattle.history.specs.Encoded.{decodeCall}
-use Rattle.history.specs.Running.{step, stepOutcome, runOutcome}
+use Rattle.history.specs.Code.Encoded.{decodeCall}
+use Rattle.history.specs.Code.Running.{step, stepOutcome, runOutcome}
 use Rattle.history.specs.declared.runner.Stop.{Stop}
 use Rattle.history.specs.declared.runner.Stepped.{Stepped}
 use Rattle.history.specs.declared.runner.RunAnswer.{RunAnswer}

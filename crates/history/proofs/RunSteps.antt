@@ -18,8 +18,8 @@ use Rattle.blocks.proofs.Refusals.{refused-block}
 use Rattle.blocks.proofs.RefusalSteps.{refused-number, done-number}
 use Rattle.store.specs.Format.{freshOf, formatRefusals, format}
 use Rattle.history.specs.Calls.{Call, ours, outcome, run, answersOf}
-use Rattle.history.specs.Encoded.{Decoded, decodeCall, following, decoded, stopped}
-use Rattle.history.specs.Running.{numbered, answered, RunOutcome, runOutcome, runOver, runCalls}
+use Rattle.history.specs.Code.Encoded.{Decoded, decodeCall, following, decoded, stopped}
+use Rattle.history.specs.Code.Running.{numbered, answered, RunOutcome, runOutcome, runOver, runCalls}
 use Rattle.history.specs.declared.runner.Stop.{Stop}
 use Rattle.history.specs.declared.runner.RunAnswer.{RunAnswer}
 use Rattle.history.proofs.Decoding.{call-short}

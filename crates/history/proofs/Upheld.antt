@@ -12,7 +12,7 @@ use Rattle.cells.proofs.Choice.{absurd-false}
 use Rattle.store.specs.Format.{format}
 use Rattle.history.specs.Calls.{Call, ours, outcome, answersOf, KeysAreBytes}
 use Rattle.history.specs.Demand3.{AfterList}
-use Rattle.history.specs.Running.{RunOutcome, runOutcome, callsRun, runOver, runCalls, Upheld, Meets}
+use Rattle.history.specs.Code.Running.{RunOutcome, runOutcome, callsRun, runOver, runCalls, Upheld, Meets}
 use Rattle.history.specs.declared.runner.Stop.{Stop}
 use Rattle.history.specs.declared.runner.RunAnswer.{RunAnswer}
 use Rattle.history.proofs.Decoding.{decoded-keys}

@@ -3,5 +3,4 @@ pub mod Ledger
 pub mod Demand3
 pub mod Dummies
 pub mod Worked
-pub mod Encoded
-pub mod Running
+pub mod Code

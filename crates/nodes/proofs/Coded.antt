@@ -5,7 +5,7 @@ use Prim.Native.Nat.{ℕ, _<_}
 use Rattle.nodes.specs.Layout.{Layout, usable}
 use Rattle.nodes.specs.Pointer.{pointer, wordTo}
 use Rattle.nodes.specs.Pointer.Pointer.{leaf, chain, split, sparse, prefix}
-use Rattle.nodes.specs.Coded.{pointerOf}
+use Rattle.nodes.specs.Code.Coded.{pointerOf}
 use Rattle.nodes.specs.declared.pointer.Pointer.the-variants.{Leaf, Chain, Split, Sparse, Prefix}
 use Rattle.nodes.proofs.Pointers.{names, usable-inside}
 use Rattle.nodes.specs.declared.pointer.Pointer.{Pointer as CodedPointer}

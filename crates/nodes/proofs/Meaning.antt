@@ -21,7 +21,7 @@ use Rattle.nodes.specs.Split.{headWord, branchWord, validHead, validBran
 use Rattle.nodes.specs.Layout.{Layout}
 use Rattle.nodes.specs.Prefix.{prefixValue, prefixLink, validPrefix}
 use Rattle.nodes.proofs.Chain.{chain-child-inside}
-use Rattle.nodes.proofs.SparseSteps.{count-small}
+use Rattle.nodes.proofs.SparseNodes.SparseSteps.{count-small}
 
 -- a chain: the characters from the place named on, and the word where the run ends
 abbrev pub InChain : ℕ → ℕ → Type 0

@@ -5,9 +5,5 @@ pub mod Sparse
 pub mod Split
 pub mod Prefix
 pub mod Node
-pub mod Coded
-pub mod Least
-pub mod Words
-pub mod Step
 pub mod Value
-pub mod LeastChild
+pub mod Code

@@ -1,7 +1,7 @@
 // What a word names.
 ghost use mathlib.Core.Path.{_≡_};
 ghost use Rattle.nodes.specs.Pointer.{byKind, pointer, leafWord};
-ghost use Rattle.nodes.specs.Coded.{pointerOf};
+ghost use Rattle.nodes.specs.Code.Coded.{pointerOf};
 use crate::layout::Layout;
 use crate::layout::is_usable;
 use cells::inverted;

@@ -4,7 +4,7 @@ ghost use Prim.Native.Nat.{_*_, _≤_};
 ghost use lib.ListN.{length};
 ghost use Rattle.cells.specs.Memory.{memoryOf};
 ghost use Rattle.nodes.specs.Value.{valueOf};
-ghost use Rattle.nodes.specs.Coded.{heldOf};
+ghost use Rattle.nodes.specs.Code.Coded.{heldOf};
 use crate::layout::Layout;
 use crate::pointer::Pointer;
 use crate::pointer::pointer_of;

@@ -2,7 +2,7 @@
 ghost use mathlib.Core.Path.{_≡_};
 ghost use Prim.Native.Nat.{_+_, _*_, _≤_};
 ghost use lib.ListN.{length};
-ghost use Rattle.nodes.specs.Words.{wordsFrom, someIs};
+ghost use Rattle.nodes.specs.Code.Words.{wordsFrom, someIs};
 use cells::word_at;
 
 // Whether some word is a pointer, or some is NONE, as asked, of so many from an index on, in the row that starts at a byte position.

@@ -12,7 +12,7 @@ use borrow.Author.Tests.{eqb-true, eqb-false, not-false}
 use Rattle.nodes.specs.Layout.{Layout}
 use Rattle.blocks.specs.Trailer.{badSize, badLength, layoutOf, rootWord, validSlot, slotBits, slotWord, slotBit, inUse}
 use Rattle.blocks.specs.TrailerWrites.{withRoot, withSlotWord, withSlotBits}
-use Rattle.blocks.specs.Fits.{Fits}
+use Rattle.blocks.specs.Code.Fits.{Fits}
 use Rattle.blocks.specs.Refusal.{refusal, firstRefusal}
 use Rattle.blocks.specs.Read.{blockRefusals, validate}
 use Rattle.blocks.proofs.Refusals.{NoneApplies, block-answers}

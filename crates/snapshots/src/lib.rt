@@ -3,7 +3,7 @@ ghost use mathlib.Core.Bool.{true};
 ghost use mathlib.Core.Path.{_≡_};
 ghost use lib.ListN.{length};
 ghost use Rattle.blocks.specs.Answers.{changeNumber, changedOutcome};
-ghost use Rattle.blocks.specs.Fits.{Fits};
+ghost use Rattle.blocks.specs.Code.Fits.{Fits};
 ghost use Rattle.blocks.specs.Refusal.{firstRefusal};
 ghost use Rattle.blocks.specs.Trailer.{validSlot, slotBit};
 ghost use Rattle.blocks.specs.TrailerWrites.{withSlotWord, withSlotBits};

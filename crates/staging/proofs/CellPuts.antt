@@ -10,7 +10,7 @@ use Rattle.cells.specs.Word.{wordAt, withWord}
 use Rattle.cells.specs.Memory.{memoryOf}
 use Rattle.cells.proofs.Memory.{memory-word}
 use Rattle.staging.specs.NewCells.{blank, chainCell, prefixCell, pairCell, sparsePair, branchCopy, headCopy, withWords}
-use Rattle.staging.specs.Stage.{Put}
+use Rattle.staging.specs.Code.Stage.{Put}
 use Rattle.staging.proofs.StageLaws.{put-then, put-as}
 
 module _ {s s0 s1 : List ℕ} {at : ℕ} (cleared : Put s s0 at blank) where

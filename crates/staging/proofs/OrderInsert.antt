@@ -17,7 +17,7 @@ use Rattle.order_words.proofs.Inserted.{goes-below, goes-above, goes-alone, occ
 use Rattle.order_words.proofs.Steps.{one-left}
 use Rattle.order_words.proofs.Coding.{power, encode-cons, encode-below, length-digits, digits-below-six, extended-order-bound}
 use Rattle.nodes.specs.Sparse.{sparseCharacter, sparseOrder, sparseDigits, sparseCount, validSparse}
-use Rattle.nodes.proofs.SparseChildren.{sparse-parts}
+use Rattle.nodes.proofs.SparseNodes.SparseChildren.{sparse-parts}
 
 -- one place less, where there is one
 pub left-one : (left : ℕ) → left ≢ 0 → left ≡ left - 1 + 1

@@ -9,7 +9,7 @@ use Rattle.cells.specs.Memory.{memoryOf}
 use Rattle.order_words.specs.Extended.{extendedOrder}
 use Rattle.nodes.specs.Sparse.{sparseCharacter, sparseOrder, sparseCount}
 use Rattle.staging.specs.NewCells.{withoutCharacters, sparseCopy, withOrder, appendedCell}
-use Rattle.staging.specs.Stage.{Put}
+use Rattle.staging.specs.Code.Stage.{Put}
 use Rattle.staging.proofs.StageLaws.{put-then, put-as}
 use Rattle.staging.proofs.CellPuts.{Filling}
 

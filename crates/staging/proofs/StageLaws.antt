@@ -18,7 +18,7 @@ use Rattle.cells.proofs.Memory.{memory-length, memory-byte, memory-is, memory-a
 use Rattle.cells.proofs.CellWrites.{cell-written-same, cell-written-other}
 use Rattle.nodes.specs.Layout.{Layout}
 use Rattle.staging.specs.Numbering.{numberFrom}
-use Rattle.staging.specs.Stage.{staged, Put}
+use Rattle.staging.specs.Code.Stage.{staged, Put}
 use Rattle.staging.proofs.CellBytes.{IsCell}
 
 -- the default of an element that is there does not matter

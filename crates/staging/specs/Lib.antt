@@ -1,3 +1,3 @@
 pub mod NewCells
 pub mod Numbering
-pub mod Stage
+pub mod Code

@@ -4,7 +4,7 @@ ghost use lib.ListN.{length, getD};
 ghost use Rattle.cells.specs.Word.{wordAt, withWord};
 ghost use Rattle.cells.specs.Memory.{memoryOf};
 ghost use Rattle.staging.specs.NewCells.{blank, chainCell, prefixCell, pairCell, sparsePair, branchCopy, headCopy, withWords};
-ghost use Rattle.staging.specs.Stage.{stageCells, Put};
+ghost use Rattle.staging.specs.Code.Stage.{stageCells, Put};
 use crate::stage::STAGE_SIZE;
 use crate::stage::put_blank;
 use crate::stage::put_byte;

@@ -6,7 +6,7 @@ ghost use lib.ListN.{length};
 ghost use Rattle.cells.specs.Memory.{memoryOf};
 ghost use Rattle.nodes.specs.Sparse.{sparseCount, validSparse};
 ghost use Rattle.staging.specs.NewCells.{withoutCharacters, sparseCopy, replacedCell, withOrder, appendedCell};
-ghost use Rattle.staging.specs.Stage.{stageCells, Put};
+ghost use Rattle.staging.specs.Code.Stage.{stageCells, Put};
 use crate::order::extended_order;
 use crate::stage::STAGE_SIZE;
 use crate::stage::put_byte;

@@ -8,7 +8,7 @@ ghost use Rattle.cells.specs.Writes.{written, cellWrites};
 ghost use Rattle.nodes.specs.Pointer.{wordTo};
 ghost use Rattle.staging.specs.NewCells.{blank};
 ghost use Rattle.staging.specs.Numbering.{numberFrom};
-ghost use Rattle.staging.specs.Stage.{stageCells, Put, allocated, Numbered};
+ghost use Rattle.staging.specs.Code.Stage.{stageCells, Put, allocated, Numbered};
 use cells::put_word;
 use cells::word_at;
 use nodes::layout::KEY_LIMIT;

@@ -16,20 +16,20 @@ use Rattle.nodes.specs.Layout.{Layout, keyLimit}
 use Rattle.nodes.proofs.Pointers.{usable-inside}
 use Rattle.trees.specs.Tree.{tree}
 use Rattle.staging.specs.Numbering.{numberFrom}
-use Rattle.staging.specs.Stage.{stageCells, staged, Numbered}
+use Rattle.staging.specs.Code.Stage.{stageCells, staged, Numbered}
 use Rattle.staging.specs.declared.stage.BuildState.{BuildState}
 use Rattle.staging.proofs.StageLaws.{staged-length, number-listed}
 use Rattle.updates.specs.Built.{Built}
 use Rattle.updates.specs.Commit.{buildWrites}
-use Rattle.updates.specs.Staged.{builtOf, HasTree}
-use Rattle.blocks.specs.Fits.{Fits}
+use Rattle.updates.specs.Code.Staged.{builtOf, HasTree}
+use Rattle.blocks.specs.Code.Fits.{Fits}
 use Rattle.blocks.specs.Trailer.{trailerAt, layoutOf, rootWord}
 use Rattle.blocks.specs.Sound.{soundWith}
 use Rattle.blocks.proofs.ValidateSteps.{layout-fits}
 use Rattle.blocks.proofs.Roots.{root-parts, sound-parts}
 use Rattle.store.specs.Free.{free}
 use Rattle.store.specs.Committed.{numbering, commitWrites}
-use Rattle.store.specs.Changeable.{Changeable, InStage, Inside}
+use Rattle.store.specs.Code.Changeable.{Changeable, InStage, Inside}
 use Rattle.store.proofs.Free.{free-usable}
 use Rattle.store.proofs.CommitSteps.{writes-same}
 

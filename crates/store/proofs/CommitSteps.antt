@@ -11,7 +11,7 @@ use Rattle.cells.proofs.CellWrites.{written-append}
 use Rattle.nodes.specs.Layout.{Layout}
 use Rattle.updates.specs.Built.{Built}
 use Rattle.updates.specs.Commit.{buildWrites}
-use Rattle.staging.specs.Stage.{staged}
+use Rattle.staging.specs.Code.Stage.{staged}
 use Rattle.staging.proofs.StageLaws.{staged-length}
 use Rattle.blocks.specs.Trailer.{rootAt}
 use Rattle.blocks.specs.TrailerWrites.{withRoot}

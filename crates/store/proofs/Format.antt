@@ -23,7 +23,7 @@ use Rattle.trees.specs.Lookup.{emptyTable, lookup}
 use Rattle.trees.proofs.Tree.{lookup-zero}
 use Rattle.blocks.specs.Trailer.{rootAt, slotAt, bitsAt, zeroBytesAt, cellsAt, zeroWordAt, editionAt, badLength, badSize, layoutOf, rootWord, slots, validSlot, slotBits, slotWord, slotBit, inUse}
 use Rattle.blocks.specs.TrailerWrites.{withCells}
-use Rattle.blocks.specs.Fits.{Fits}
+use Rattle.blocks.specs.Code.Fits.{Fits}
 use Rattle.blocks.specs.Sound.{soundWith, reachable}
 use Rattle.blocks.proofs.Refusals.{done-block, refused-block}
 use Rattle.blocks.proofs.Trailer.{good-length, slot-apart, parts-trailer}

@@ -7,7 +7,7 @@ use native.Mathlib.Omega.{arith}
 use lib.ListN.{length, drop, replicate, drop-of-length-le}
 use Rattle.cells.specs.Bytes.{zeros}
 use Rattle.nodes.specs.Layout.{leastCells}
-use Rattle.blocks.specs.Fits.{Fits}
+use Rattle.blocks.specs.Code.Fits.{Fits}
 use Rattle.blocks.specs.Trailer.{badLength}
 use Rattle.blocks.specs.TrailerWrites.{withCells, withEdition}
 use Rattle.blocks.specs.Refusal.{firstRefusal}

@@ -12,15 +12,15 @@ use lib.Seq.{take-suc-set, take-all, take-append-le, length-take-le}
 use borrow.Author.Tests.{eq-eqb, ne-eqb}
 use Rattle.cells.specs.Occurrences.{occurrences, select}
 use Rattle.cells.proofs.Choice.{absurd-bool}
-use Rattle.staging.specs.Stage.{stageCells}
+use Rattle.staging.specs.Code.Stage.{stageCells}
 use Rattle.nodes.specs.Layout.{Layout, trailerCells, cellLimit}
 use Rattle.blocks.specs.Sound.{reachable}
-use Rattle.blocks.specs.Fits.{Fits}
-use Rattle.blocks.specs.Stamps.{Stamped, Validated}
+use Rattle.blocks.specs.Code.Fits.{Fits}
+use Rattle.blocks.specs.Code.Stamps.{Stamped, Validated}
 use Rattle.blocks.specs.Trailer.{rootWord}
 use Rattle.store.specs.Free.{countUp, allocationOrder, free}
-use Rattle.store.specs.Unstamped.{unstamped, Listed}
-use Rattle.store.specs.Changeable.{FreeAnswer}
+use Rattle.store.specs.Code.Unstamped.{unstamped, Listed}
+use Rattle.store.specs.Code.Changeable.{FreeAnswer}
 use Rattle.store.proofs.Free.{select-kept, select-dropped}
 
 -- one number more in an array that has room for it

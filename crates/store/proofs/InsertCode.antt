@@ -12,12 +12,12 @@ use Rattle.cells.specs.Memory.{memoryOf}
 use Rattle.cells.specs.Writes.{written}
 use Rattle.nodes.specs.Layout.{Layout}
 use Rattle.staging.specs.Numbering.{numberFrom}
-use Rattle.staging.specs.Stage.{stageCells}
+use Rattle.staging.specs.Code.Stage.{stageCells}
 use Rattle.staging.specs.declared.stage.BuildState.{BuildState}
 use Rattle.staging.proofs.StageLaws.{staged-length}
 use Rattle.updates.specs.Built.{Built}
 use Rattle.updates.specs.Build.{build, cellsNeeded}
-use Rattle.updates.specs.Staged.{builtOf}
+use Rattle.updates.specs.Code.Staged.{builtOf}
 use Rattle.updates.proofs.Bound.{build-bound}
 use Rattle.updates.proofs.Count.{count-needed}
 use Rattle.updates.proofs.Commit.{numbering-free}
@@ -28,7 +28,7 @@ use Rattle.blocks.proofs.Trailer.{sized}
 use Rattle.store.specs.Free.{free}
 use Rattle.store.specs.Insert.{blockBuild, insert}
 use Rattle.store.specs.Committed.{numbering, commitWrites}
-use Rattle.store.specs.Changeable.{Changeable, InStage}
+use Rattle.store.specs.Code.Changeable.{Changeable, InStage}
 use Rattle.store.proofs.Free.{free-usable}
 use Rattle.store.proofs.ChangeCode.{changeable-fits, fits-same, made-count, committed-as}
 use Rattle.store.proofs.InsertCall.{value-fits, insert-number, insert-done, insert-zero, insert-seven}

@@ -11,7 +11,7 @@ use Rattle.blocks.specs.Trailer.{badSize, layoutOf}
 use Rattle.blocks.specs.Sound.{soundWith, sound}
 use Rattle.blocks.specs.Refusal.{badKey, badNewKey, badValue, Counted}
 use Rattle.store.specs.Insert.{insert}
-use Rattle.store.specs.Changeable.{FreeAnswer, Changeable}
+use Rattle.store.specs.Code.Changeable.{FreeAnswer, Changeable}
 use Rattle.store.proofs.CallAnswers.{insert-answers}
 use Rattle.store.proofs.InsertCall.{key-fits, insert-number, insert-answer, insert-refused, insert-refused-count}
 

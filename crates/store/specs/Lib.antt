@@ -4,6 +4,5 @@ pub mod Insert
 pub mod Laid
 pub mod Tables
 pub mod Computing
-pub mod Unstamped
 pub mod Committed
-pub mod Changeable
+pub mod Code

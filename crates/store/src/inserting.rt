@@ -4,7 +4,7 @@ ghost use mathlib.Core.Bool.{false};
 ghost use Rattle.blocks.specs.Answers.{countedOutcome};
 ghost use Rattle.blocks.specs.Refusal.{badNewKey, badValue};
 ghost use Rattle.store.specs.Insert.{blockBuild, insert};
-ghost use Rattle.store.specs.Changeable.{Changeable, InStage};
+ghost use Rattle.store.specs.Code.Changeable.{Changeable, InStage};
 use crate::committing::commit;
 use crate::free_cells::free_list;
 use blocks::answer::CountAnswer;

@@ -21,8 +21,8 @@ use Rattle.nodes.specs.Node.{Node, childless, chainNode, sparseNode, splitNode,
 use Rattle.nodes.proofs.Pointers.{names}
 use Rattle.nodes.proofs.Gather.{gather-at, under-word}
 use Rattle.nodes.proofs.Chain.{one-child-here, chain-child}
-use Rattle.nodes.proofs.WordRows.{some-word-at}
-use Rattle.nodes.proofs.SparseChildren.{sparse-parts, child-at}
+use Rattle.nodes.proofs.Steps.WordRows.{some-word-at}
+use Rattle.nodes.proofs.SparseNodes.SparseChildren.{sparse-parts, child-at}
 use Rattle.nodes.proofs.Frame.{head-is, below-split, end-cut, mid-cut, split-cut, chain-cut, sparse-cut, prefix-cut, read-is}
 
 -- the first child of a sparse cell

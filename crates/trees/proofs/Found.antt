@@ -12,12 +12,12 @@ use Rattle.nodes.specs.Layout.{Layout, keyLimit}
 use Rattle.nodes.specs.Pointer.{pointer}
 use Rattle.trees.specs.Root.{isRoot, rootTree}
 use Rattle.trees.specs.Entries.{Entry, entries, nextEntry}
-use Rattle.trees.specs.NextWalk.{nextFrom}
-use Rattle.trees.specs.Coded.{Grown, KeyWritten}
+use Rattle.trees.specs.Code.NextWalk.{nextFrom}
+use Rattle.trees.specs.Code.Coded.{Grown, KeyWritten}
 use Rattle.trees.specs.declared.next_key.NextStep.{NextStep}
-use Rattle.trees.proofs.NextParts.{key-of-some, key-of-none}
-use Rattle.trees.proofs.NextWalk.{next-key}
-use Rattle.trees.proofs.NextWritten.{no-key-told, key-told}
+use Rattle.trees.proofs.NextKey.NextParts.{key-of-some, key-of-none}
+use Rattle.trees.proofs.NextKey.NextWalk.{next-key}
+use Rattle.trees.proofs.NextKey.NextWritten.{no-key-told, key-told}
 
 -- a root that obeys every rule has a tree
 pub root-grown : (layout : Layout) (m : Memory) (word : ℕ) (cs : List ℕ) → rootTree layout m word ≡ some cs → Grown layout m keyLimit word

@@ -10,18 +10,18 @@ use lib.ListN.{length, getD, drop, drop-of-length-le}
 use Rattle.cells.specs.Memory.{Memory}
 use Rattle.nodes.specs.Layout.{Layout}
 use Rattle.nodes.specs.Node.{Node, read}
-use Rattle.nodes.specs.Step.{found, missing, wordStep, onward, childStep}
+use Rattle.nodes.specs.Code.Step.{found, missing, wordStep, onward, childStep}
 use Rattle.nodes.specs.Value.{valueOf}
-use Rattle.nodes.specs.Coded.{stepOf}
+use Rattle.nodes.specs.Code.Coded.{stepOf}
 use Rattle.nodes.specs.declared.step.ChildStep.{ChildStep}
 use Rattle.nodes.specs.declared.step.ChildStep.the-variants.{Found}
-use Rattle.nodes.proofs.Neighbours.{rest-more}
-use Rattle.nodes.proofs.Rest.{AmongSteps, rest-of-found}
-use Rattle.nodes.proofs.StepWays.{word-missing, word-found}
-use Rattle.nodes.proofs.StepRead.{step-read, value-read}
+use Rattle.nodes.proofs.SparseNodes.Neighbours.{rest-more}
+use Rattle.nodes.proofs.Steps.Rest.{AmongSteps, rest-of-found}
+use Rattle.nodes.proofs.Steps.StepWays.{word-missing, word-found}
+use Rattle.nodes.proofs.Steps.StepRead.{step-read, value-read}
 use Rattle.trees.specs.Tree.{tree}
 use Rattle.trees.specs.Lookup.{lookup}
-use Rattle.trees.specs.Coded.{Grown}
+use Rattle.trees.specs.Code.Coded.{Grown}
 use Rattle.trees.proofs.Tree.{tree-cut, child-tree, lookup-nil, lookup-cons, lookup-zero}
 
 -- the rest of a key past its end is nothing

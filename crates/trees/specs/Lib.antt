@@ -3,7 +3,4 @@ pub mod Root
 pub mod Lookup
 pub mod Entries
 pub mod EntryAt
-pub mod NextWalk
-pub mod Visit
-pub mod Parts
-pub mod Coded
+pub mod Code

@@ -3,7 +3,7 @@ ghost use mathlib.Core.Path.{_≡_};
 ghost use Rattle.cells.specs.Memory.{memoryOf};
 ghost use Rattle.nodes.specs.Layout.{keyLimit, Covered};
 ghost use Rattle.trees.specs.Lookup.{lookup};
-ghost use Rattle.trees.specs.Coded.{Grown, lookupOf};
+ghost use Rattle.trees.specs.Code.Coded.{Grown, lookupOf};
 use nodes::layout::Layout;
 use nodes::step::ChildStep;
 use nodes::step::child_step;

@@ -3,7 +3,7 @@ ghost use Prim.Native.Nat.{_<_};
 ghost use Rattle.cells.specs.Memory.{memoryOf};
 ghost use Rattle.nodes.specs.Layout.{cellLimit, Covered};
 ghost use Rattle.nodes.specs.Split.{endCells};
-ghost use Rattle.trees.specs.Visit.{VisitAnswer, cellIf};
+ghost use Rattle.trees.specs.Code.Visit.{VisitAnswer, cellIf};
 use cells::cell;
 use nodes::layout::CELL_LIMIT;
 use nodes::layout::Layout;

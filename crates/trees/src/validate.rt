@@ -2,11 +2,11 @@
 ghost use Prim.Native.Nat.{_<_};
 ghost use Rattle.cells.specs.Memory.{memoryOf};
 ghost use Rattle.trees.specs.Root.{rootTree};
-ghost use Rattle.trees.specs.Visit.{VisitAnswer};
-ghost use Rattle.trees.specs.Parts.{childTree, plainTree, splitBranches};
+ghost use Rattle.trees.specs.Code.Visit.{VisitAnswer};
+ghost use Rattle.trees.specs.Code.Parts.{childTree, plainTree, splitBranches};
 ghost use Rattle.nodes.specs.Layout.{Covered};
-use crate::stamps::stamp_cell;
 use crate::stamps::stamp_branch;
+use crate::stamps::stamp_cell;
 use cells::cell;
 use cells::word_at;
 use nodes::layout::CELL_LIMIT;

@@ -25,7 +25,7 @@ use Rattle.updates.specs.Built.{Built, allocate, roomOf, characterBefore
 use Rattle.updates.specs.SplitBuild.{splitOf, splitCopied}
 use Rattle.updates.specs.SetChild.{withChild, chainSet, sparseSet, setChild}
 use Rattle.updates.specs.Build.{wordAside, putBack, childOf, pathCopy, valueAt, build}
-use Rattle.updates.proofs.SplitBound.{split-sparse-most}
+use Rattle.updates.proofs.SplitNodes.SplitBound.{split-sparse-most}
 
 -- a character at none of so many positions has no child there
 no-position : (bytes : List ℕ) (count from x : ℕ) → from + count ≤ positionOf bytes count from x → childFrom bytes count from x ≡ 0

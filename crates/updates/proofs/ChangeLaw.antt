@@ -29,7 +29,7 @@ use Rattle.staging.specs.Numbering.{numberFrom}
 use Rattle.updates.specs.Commit.{memoryWith}
 use Rattle.updates.proofs.Claims.{numbers, BuildStands, cells-stand-from, TreeChanged, EndLaw}
 use Rattle.updates.proofs.Commit.{memoryWith-other, cells-stand, numbers-free}
-use Rattle.updates.proofs.KeyEnd.{value-at-end}
+use Rattle.updates.proofs.PrefixNodes.KeyEnd.{value-at-end}
 use Rattle.updates.proofs.PathLaw.{Rooted, path-law}
 use Rattle.updates.proofs.Taken.{taken-count}
 

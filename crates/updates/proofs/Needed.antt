@@ -32,8 +32,8 @@ use Rattle.updates.specs.Built.{Built, allocate}
 use Rattle.updates.specs.SplitBuild.{splitCopied}
 use Rattle.updates.specs.SetChild.{chainSet, sparseSet, setChild}
 use Rattle.updates.specs.Build.{wordAside, putBack, childOf, pathCopy, valueAt, build, cellsNeeded}
-use Rattle.updates.specs.Staged.{nodeCopy}
-use Rattle.updates.proofs.Aside.{child-of}
+use Rattle.updates.specs.Code.Staged.{nodeCopy}
+use Rattle.updates.proofs.PrefixNodes.Aside.{child-of}
 use mathlib.Core.Bool.{cond}
 
 -- the cells of a split's copy, by the bytes that they are copied from

@@ -26,9 +26,9 @@ use Rattle.trees.proofs.Assign.{assign-own}
 use Rattle.updates.specs.Built.{Built}
 use Rattle.updates.specs.SetChild.{setChild}
 use Rattle.updates.specs.Build.{wordAside, putBack, childOf, pathCopy}
-use Rattle.updates.specs.Staged.{nodeCopy}
+use Rattle.updates.specs.Code.Staged.{nodeCopy}
 use Rattle.updates.proofs.Claims.{BuildStands, Placed, TreeChanged, EndLaw}
-use Rattle.updates.proofs.Aside.{child-of, aside, node-below-stands, bare-placed, node-changed}
+use Rattle.updates.proofs.PrefixNodes.Aside.{child-of, aside, node-below-stands, bare-placed, node-changed}
 use Rattle.updates.proofs.TreeChange.{change-tree}
 
 -- a root has no value, and a chain, sparse or split is one

@@ -22,7 +22,7 @@ use Rattle.updates.specs.Built.{Built, unowned, allocate, room, roomOf, 
 use Rattle.updates.specs.SplitBuild.{Row, branchRow, rows, endRow, midRow, splitOf, splitCopied}
 use Rattle.updates.specs.SetChild.{chainSet, sparseSet, setChild}
 use Rattle.updates.specs.Build.{wordAside, putBack, childOf, pathCopy, valueAt, build}
-use Rattle.updates.proofs.Rooms.{room-most}
+use Rattle.updates.proofs.ChainNodes.Rooms.{room-most}
 
 -- what holds of every cell that a build writes, by the ways to write one; the characters of its key are `Character`
 pub record Contents (m : Memory) (Character : ℕ → Type 0) (Content : List ℕ → Type 0) : Type 0 where

@@ -17,10 +17,10 @@ use Rattle.nodes.proofs.Frame.{prefix-cut, read-is}
 use Rattle.updates.specs.Built.{Built}
 use Rattle.updates.specs.SetChild.{setChild}
 use Rattle.updates.proofs.Claims.{BuildStands, Consistent, Placed}
-use Rattle.updates.proofs.Chains.{chain-placed, chain-below-stands}
-use Rattle.updates.proofs.ChainSet.{chain-set-placed, chain-set-below-stands}
-use Rattle.updates.proofs.SparseSet.{sparse-placed, sparse-below-stands}
-use Rattle.updates.proofs.SplitCopied.{split-placed, split-below-stands}
+use Rattle.updates.proofs.ChainNodes.Chains.{chain-placed, chain-below-stands}
+use Rattle.updates.proofs.ChainNodes.ChainSet.{chain-set-placed, chain-set-below-stands}
+use Rattle.updates.proofs.SparseNodes.SparseSet.{sparse-placed, sparse-below-stands}
+use Rattle.updates.proofs.SplitNodes.SplitCopied.{split-placed, split-below-stands}
 
 module _ (layout : Layout) (small : layout .cells ≤ cellLimit) (number : ℕ → ℕ) (m m′ : Memory)
     (bytes : (c : ℕ) → IsBytes (m c)) (whole : (c : ℕ) → length (m c) ≡ 32) where

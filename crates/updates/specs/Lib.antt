@@ -4,4 +4,4 @@ pub mod SetChild
 pub mod Build
 pub mod Commit
 pub mod OldChild
-pub mod Staged
+pub mod Code

@@ -1,5 +1,5 @@
 use mathlib.Core.Path.{sym, ap, _∙_}
-use Rattle.trees.specs.Coded.{lookupOf}
+use Rattle.trees.specs.Code.Coded.{lookupOf}
 use Rattle.blocks.specs.Answers.{changeNumber}
 use Rattle.blocks.proofs.Trailer.{has-trailer}
 use Rattle.blocks.proofs.ReadSteps.{block-size, block-fits, block-covered, root-grown, shown-is}

@@ -1,6 +1,6 @@
 use mathlib.Core.Path.{refl}
 use native.Mathlib.Omega.{arith}
-use Rattle.nodes.proofs.LeastWays.{chain-least-broken, chain-least-none, chain-least-found}
+use Rattle.nodes.proofs.Steps.LeastWays.{chain-least-broken, chain-least-none, chain-least-found}
 use borrow.Author.Needs.{needs}
 use Rattle.nodes.proofs.least.chain_least.Statement.{statement}
 use Rattle.nodes.proofs.least.chain_least.Tie as tie

@@ -1,5 +1,5 @@
 use Rattle.nodes.proofs.Coded.{prefix-facts}
-use Rattle.nodes.proofs.LeastWays.{least-past, least-nothing, least-leaf, least-prefix, least-plain}
+use Rattle.nodes.proofs.Steps.LeastWays.{least-past, least-nothing, least-leaf, least-prefix, least-plain}
 use borrow.Author.Needs.{needs}
 use Rattle.nodes.proofs.least.least_child.Statement.{statement}
 use Rattle.nodes.proofs.least.least_child.Tie as tie

@@ -1,7 +1,7 @@
 use native.Mathlib.Omega.{arith}
 use Rattle.nodes.proofs.Coded.{chain-facts, sparse-facts, split-facts}
-use Rattle.nodes.proofs.StepWays.{cell-length}
-use Rattle.nodes.proofs.LeastWays.{plain-least-chain, plain-least-sparse, plain-least-split, plain-least-other}
+use Rattle.nodes.proofs.Steps.StepWays.{cell-length}
+use Rattle.nodes.proofs.Steps.LeastWays.{plain-least-chain, plain-least-sparse, plain-least-split, plain-least-other}
 use borrow.Author.Needs.{needs}
 use Rattle.nodes.proofs.least.plain_least.Statement.{statement}
 use Rattle.nodes.proofs.least.plain_least.Tie as tie

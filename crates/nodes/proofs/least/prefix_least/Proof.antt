@@ -1,7 +1,7 @@
 use native.Mathlib.Omega.{arith}
 use borrow.Author.Tests.{not-true, not-false}
-use Rattle.nodes.proofs.StepWays.{cell-length}
-use Rattle.nodes.proofs.LeastWays.{prefix-least-broken, prefix-least-taken}
+use Rattle.nodes.proofs.Steps.StepWays.{cell-length}
+use Rattle.nodes.proofs.Steps.LeastWays.{prefix-least-broken, prefix-least-taken}
 use borrow.Author.Needs.{needs}
 use Rattle.nodes.proofs.least.prefix_least.Statement.{statement}
 use Rattle.nodes.proofs.least.prefix_least.Tie as tie

@@ -4,10 +4,10 @@ use mathlib.Core.Path.{sym, _∙_}
 use native.Mathlib.Omega.{arith}
 use borrow.Author.Needs.{needs}
 use borrow.Author.Tests.{not-true, not-false}
-use Rattle.nodes.proofs.SparseSteps.{position-small}
-use Rattle.nodes.proofs.SparseChildren.{characterAt}
-use Rattle.nodes.proofs.SparseLeast.{sparse-least-read, sparse-least-past, sparse-passed}
-use Rattle.nodes.proofs.LeastWays.{sparse-least-broken}
+use Rattle.nodes.proofs.SparseNodes.SparseSteps.{position-small}
+use Rattle.nodes.proofs.SparseNodes.SparseChildren.{characterAt}
+use Rattle.nodes.proofs.SparseNodes.SparseLeast.{sparse-least-read, sparse-least-past, sparse-passed}
+use Rattle.nodes.proofs.Steps.LeastWays.{sparse-least-broken}
 use Rattle.nodes.proofs.least.sparse_least.Statement.{statement}
 use Rattle.nodes.proofs.least.sparse_least.Tie as tie
 

@@ -5,10 +5,10 @@ use native.Mathlib.Omega.{arith}
 use borrow.Author.Needs.{needs}
 use borrow.Author.Tests.{not-true, not-false}
 use Rattle.cells.specs.Memory.{memoryOf}
-use Rattle.nodes.specs.Step.{splitStep}
-use Rattle.nodes.specs.LeastChild.{firstStep}
-use Rattle.nodes.proofs.StepWays.{cell-length}
-use Rattle.nodes.proofs.LeastWays.{split-least-broken, mid-passed, end-passed, end-broken, child-passed, child-broken, child-reached, walk-ends}
+use Rattle.nodes.specs.Code.Step.{splitStep}
+use Rattle.nodes.specs.Code.LeastChild.{firstStep}
+use Rattle.nodes.proofs.Steps.StepWays.{cell-length}
+use Rattle.nodes.proofs.Steps.LeastWays.{split-least-broken, mid-passed, end-passed, end-broken, child-passed, child-broken, child-reached, walk-ends}
 use Rattle.nodes.proofs.least.split_least.Statement.{statement}
 use Rattle.nodes.proofs.least.split_least.Tie as tie
 

@@ -1,4 +1,4 @@
-use Rattle.nodes.proofs.PrefixSteps.{prefix-top, prefix-by-byte}
+use Rattle.nodes.proofs.Steps.PrefixSteps.{prefix-top, prefix-by-byte}
 use borrow.Author.Needs.{needs}
 use Rattle.nodes.proofs.prefix.is_valid_prefix.Statement.{statement}
 use Rattle.nodes.proofs.prefix.is_valid_prefix.Tie as tie

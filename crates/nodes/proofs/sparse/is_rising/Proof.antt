@@ -3,8 +3,8 @@ use Prim.Native.Nat.{_-_}
 use mathlib.Core.Path.{refl}
 use native.Mathlib.Omega.{arith}
 use borrow.Author.Needs.{needs}
-use Rattle.nodes.proofs.SparseSteps.{count-small}
-use Rattle.nodes.proofs.RisingWalk.{RisingFrom, rising-start, rising-on, rising-fails, rising-end}
+use Rattle.nodes.proofs.SparseNodes.SparseSteps.{count-small}
+use Rattle.nodes.proofs.SparseNodes.RisingWalk.{RisingFrom, rising-start, rising-on, rising-fails, rising-end}
 use Rattle.nodes.proofs.sparse.is_rising.Statement.{statement}
 use Rattle.nodes.proofs.sparse.is_rising.Tie as tie
 

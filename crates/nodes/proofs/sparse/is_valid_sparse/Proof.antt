@@ -2,8 +2,8 @@ use mathlib.Core.Path.{ap}
 use mathlib.Core.Bool.{not}
 use borrow.Author.Tests.{not-true, not-false}
 use native.Mathlib.Omega.{arith}
-use Rattle.nodes.proofs.SparseSteps.{count-small, count-most, order-read, every-read, rest-read, sparse-order-fails, sparse-word-missing, sparse-word-beyond, sparse-by-rising}
-use Rattle.nodes.proofs.WordRows.{some-told, every-told}
+use Rattle.nodes.proofs.SparseNodes.SparseSteps.{count-small, count-most, order-read, every-read, rest-read, sparse-order-fails, sparse-word-missing, sparse-word-beyond, sparse-by-rising}
+use Rattle.nodes.proofs.Steps.WordRows.{some-told, every-told}
 use borrow.Author.Needs.{needs}
 use Rattle.nodes.proofs.sparse.is_valid_sparse.Statement.{statement}
 use Rattle.nodes.proofs.sparse.is_valid_sparse.Tie as tie

@@ -3,7 +3,7 @@ use Prim.Native.Nat.{_+_, _-_, _≤_}
 use mathlib.Core.Path.{_≡_, sym, _∙_}
 use native.Mathlib.Omega.{arith}
 use Rattle.nodes.specs.Sparse.{sparseChild, childFrom}
-use Rattle.nodes.proofs.SparseSteps.{count-small, child-start, child-stop, child-found, child-step}
+use Rattle.nodes.proofs.SparseNodes.SparseSteps.{count-small, child-start, child-stop, child-found, child-step}
 use borrow.Author.Needs.{needs}
 use Rattle.nodes.proofs.sparse.sparse_child.Statement.{statement}
 use Rattle.nodes.proofs.sparse.sparse_child.Tie as tie

@@ -1,4 +1,4 @@
-use Rattle.nodes.proofs.SparseSteps.{count-read}
+use Rattle.nodes.proofs.SparseNodes.SparseSteps.{count-read}
 use borrow.Author.Needs.{needs}
 use Rattle.nodes.proofs.sparse.sparse_count.Statement.{statement}
 use Rattle.nodes.proofs.sparse.sparse_count.Tie as tie

@@ -1,4 +1,4 @@
-use Rattle.nodes.proofs.SparseSteps.{position-read}
+use Rattle.nodes.proofs.SparseNodes.SparseSteps.{position-read}
 use borrow.Author.Needs.{needs}
 use Rattle.nodes.proofs.sparse.sparse_position.Statement.{statement}
 use Rattle.nodes.proofs.sparse.sparse_position.Tie as tie

@@ -1,4 +1,4 @@
-use Rattle.nodes.proofs.WordRows.{branch-read}
+use Rattle.nodes.proofs.Steps.WordRows.{branch-read}
 use borrow.Author.Needs.{needs}
 use Rattle.nodes.proofs.split.is_valid_branch.Statement.{statement}
 use Rattle.nodes.proofs.split.is_valid_branch.Tie as tie

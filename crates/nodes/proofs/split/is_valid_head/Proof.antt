@@ -1,6 +1,6 @@
 -- `is_valid_head` meets its contract: the row of the head's words starts at byte 16.
 use borrow.Author.Needs.{needs}
-use Rattle.nodes.proofs.WordRows.{some-told}
+use Rattle.nodes.proofs.Steps.WordRows.{some-told}
 use Rattle.nodes.proofs.split.is_valid_head.Statement.{statement}
 use Rattle.nodes.proofs.split.is_valid_head.Tie as tie
 

@@ -1,7 +1,7 @@
 use native.Mathlib.Omega.{arith}
 use borrow.Author.Tests.{not-true, not-false}
 use Rattle.nodes.proofs.Coded.{split-facts}
-use Rattle.nodes.proofs.StepWays.{cell-length, branch-other, branch-broken, branch-taken}
+use Rattle.nodes.proofs.Steps.StepWays.{cell-length, branch-other, branch-broken, branch-taken}
 use borrow.Author.Needs.{needs}
 use Rattle.nodes.proofs.step.branch_step.Statement.{statement}
 use Rattle.nodes.proofs.step.branch_step.Tie as tie

@@ -1,4 +1,4 @@
-use Rattle.nodes.proofs.StepWays.{chain-broken, chain-found, chain-missing}
+use Rattle.nodes.proofs.Steps.StepWays.{chain-broken, chain-found, chain-missing}
 use borrow.Author.Needs.{needs}
 use Rattle.nodes.proofs.step.chain_step.Statement.{statement}
 use Rattle.nodes.proofs.step.chain_step.Tie as tie

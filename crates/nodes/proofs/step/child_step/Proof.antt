@@ -1,5 +1,5 @@
 use Rattle.nodes.proofs.Coded.{prefix-facts}
-use Rattle.nodes.proofs.StepWays.{step-nothing, step-leaf, step-prefix, step-plain}
+use Rattle.nodes.proofs.Steps.StepWays.{step-nothing, step-leaf, step-prefix, step-plain}
 use borrow.Author.Needs.{needs}
 use Rattle.nodes.proofs.step.child_step.Statement.{statement}
 use Rattle.nodes.proofs.step.child_step.Tie as tie

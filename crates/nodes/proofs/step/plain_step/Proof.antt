@@ -1,7 +1,7 @@
 use native.Mathlib.Omega.{arith}
 use Rattle.nodes.proofs.Coded.{chain-facts, sparse-facts, split-facts}
-use Rattle.nodes.proofs.Rest.{rest-of-plain}
-use Rattle.nodes.proofs.StepWays.{cell-length, plain-chain, plain-sparse, plain-split}
+use Rattle.nodes.proofs.Steps.Rest.{rest-of-plain}
+use Rattle.nodes.proofs.Steps.StepWays.{cell-length, plain-chain, plain-sparse, plain-split}
 use borrow.Author.Needs.{needs}
 use Rattle.nodes.proofs.step.plain_step.Statement.{statement}
 use Rattle.nodes.proofs.step.plain_step.Tie as tie

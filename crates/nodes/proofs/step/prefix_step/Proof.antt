@@ -1,6 +1,6 @@
 use native.Mathlib.Omega.{arith}
 use borrow.Author.Tests.{not-true, not-false}
-use Rattle.nodes.proofs.StepWays.{cell-length, prefix-broken, prefix-taken}
+use Rattle.nodes.proofs.Steps.StepWays.{cell-length, prefix-broken, prefix-taken}
 use borrow.Author.Needs.{needs}
 use Rattle.nodes.proofs.step.prefix_step.Statement.{statement}
 use Rattle.nodes.proofs.step.prefix_step.Tie as tie

@@ -1,5 +1,5 @@
 use borrow.Author.Tests.{not-true, not-false}
-use Rattle.nodes.proofs.StepWays.{sparse-broken, sparse-taken}
+use Rattle.nodes.proofs.Steps.StepWays.{sparse-broken, sparse-taken}
 use borrow.Author.Needs.{needs}
 use Rattle.nodes.proofs.step.sparse_step.Statement.{statement}
 use Rattle.nodes.proofs.step.sparse_step.Tie as tie

@@ -1,6 +1,6 @@
 use native.Mathlib.Omega.{arith}
 use borrow.Author.Tests.{not-true, not-false}
-use Rattle.nodes.proofs.StepWays.{cell-length, split-broken, split-missing, split-stops, split-goes}
+use Rattle.nodes.proofs.Steps.StepWays.{cell-length, split-broken, split-missing, split-stops, split-goes}
 use borrow.Author.Needs.{needs}
 use Rattle.nodes.proofs.step.split_step.Statement.{statement}
 use Rattle.nodes.proofs.step.split_step.Tie as tie

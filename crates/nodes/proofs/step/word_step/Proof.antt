@@ -1,4 +1,4 @@
-use Rattle.nodes.proofs.StepWays.{word-missing, word-found}
+use Rattle.nodes.proofs.Steps.StepWays.{word-missing, word-found}
 use Rattle.nodes.proofs.step.word_step.Statement.{statement}
 use Rattle.nodes.proofs.step.word_step.Tie as tie
 

@@ -1,7 +1,7 @@
 use native.Mathlib.Omega.{arith}
 use Rattle.nodes.proofs.Coded.{prefix-facts}
-use Rattle.nodes.proofs.StepWays.{cell-length}
-use Rattle.nodes.proofs.ValueWays.{value-leaf, value-prefix, value-none}
+use Rattle.nodes.proofs.Steps.StepWays.{cell-length}
+use Rattle.nodes.proofs.Steps.ValueWays.{value-leaf, value-prefix, value-none}
 use borrow.Author.Needs.{needs}
 use Rattle.nodes.proofs.value.value_at.Statement.{statement}
 use Rattle.nodes.proofs.value.value_at.Tie as tie

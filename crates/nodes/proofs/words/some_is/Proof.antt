@@ -2,8 +2,8 @@
 use Prim.Native.Nat.{_+_, _-_, _≤_}
 use mathlib.Core.Path.{_≡_, sym, _∙_}
 use native.Mathlib.Omega.{arith}
-use Rattle.nodes.specs.Words.{wordsFrom, someIs}
-use Rattle.nodes.proofs.WordRows.{is-start, is-step, is-found, is-stop}
+use Rattle.nodes.specs.Code.Words.{wordsFrom, someIs}
+use Rattle.nodes.proofs.Steps.WordRows.{is-start, is-step, is-found, is-stop}
 use borrow.Author.Needs.{needs}
 use Rattle.nodes.proofs.words.some_is.Statement.{statement}
 use Rattle.nodes.proofs.words.some_is.Tie as tie

@@ -1,6 +1,6 @@
 -- The cells written, and then the root word.
 use mathlib.Core.Path.{sym, subst}
-use Rattle.blocks.specs.Fits.{Fits}
+use Rattle.blocks.specs.Code.Fits.{Fits}
 use borrow.Author.Needs.{needs}
 use Rattle.store.proofs.CommitSteps.{commit-root}
 use Rattle.store.proofs.committing.commit.Statement.{statement}

@@ -6,7 +6,7 @@ use lib.ListN.{length, getD}
 use borrow.Author.Needs.{needs}
 use Rattle.cells.specs.Writes.{written}
 use Rattle.updates.specs.Commit.{buildWrites}
-use Rattle.staging.specs.Stage.{staged}
+use Rattle.staging.specs.Code.Stage.{staged}
 use Rattle.store.proofs.CommitSteps.{commit-none, commit-more, commit-all}
 use Rattle.store.proofs.committing.commit_cells.Statement.{statement}
 use Rattle.store.proofs.committing.commit_cells.Tie as tie

@@ -1,5 +1,5 @@
 use mathlib.Core.Path.{sym, _∙_, subst}
-use Rattle.blocks.specs.Fits.{Fits}
+use Rattle.blocks.specs.Code.Fits.{Fits}
 use Rattle.store.proofs.FormatSteps.{format-refused, new-fits, format-done}
 use borrow.Author.Needs.{needs}
 use Rattle.store.proofs.formatting.format.Statement.{statement}

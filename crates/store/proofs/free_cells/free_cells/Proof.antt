@@ -9,7 +9,7 @@ use borrow.Author.Needs.{needs}
 use borrow.Author.Tests.{eq-eqb, ne-eqb}
 use Rattle.cells.specs.Occurrences.{select}
 use Rattle.nodes.specs.Layout.{cellLimit}
-use Rattle.staging.specs.Stage.{stageCells}
+use Rattle.staging.specs.Code.Stage.{stageCells}
 use Rattle.store.specs.Free.{countUp}
 use Rattle.store.proofs.FreeSteps.{unmarked, Walked, walk-start, listed-more, walk-kept, walk-dropped, walk-end, walk-full, walk-done}
 use Rattle.store.proofs.free_cells.free_cells.Statement.{statement}

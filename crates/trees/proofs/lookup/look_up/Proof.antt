@@ -4,7 +4,7 @@ use Prim.Native.Nat.{_-_, _≤_}
 use lib.ListN.{length, drop}
 use borrow.Author.Needs.{needs}
 use Rattle.cells.specs.Memory.{memoryOf}
-use Rattle.nodes.specs.Coded.{heldOf}
+use Rattle.nodes.specs.Code.Coded.{heldOf}
 use Rattle.trees.specs.Lookup.{lookup}
 use Rattle.trees.proofs.LookSteps.{Rooted, look-goes, look-stops, look-ends}
 use Rattle.trees.proofs.lookup.look_up.Statement.{statement}

@@ -5,8 +5,8 @@ use native.Mathlib.Omega.{arith}
 use mathlib.Core.Path.{refl, sym, ap, _∙_}
 use borrow.Author.Needs.{needs}
 use borrow.Author.Tests.{not-true, not-false}
-use Rattle.nodes.specs.Coded.{heldOf}
-use Rattle.trees.proofs.NextAnswers.{first-missing, first-grown, first-one-written, first-deeper-none, first-deeper-written}
+use Rattle.nodes.specs.Code.Coded.{heldOf}
+use Rattle.trees.proofs.NextKey.NextAnswers.{first-missing, first-grown, first-one-written, first-deeper-none, first-deeper-written}
 use borrow.Fn.Kinds.{In}
 use borrow.Fn.PlainCycle.{Measures, is, falls, and}
 use Rattle.trees.proofs.next_key.first_below.Reads as first-below

@@ -5,7 +5,7 @@ use native.Mathlib.Omega.{arith}
 use lib.ListN.{length}
 use borrow.Author.Needs.{needs}
 use borrow.Author.Tests.{not-true, not-false}
-use Rattle.trees.proofs.NextAnswers.{next-ended, next-missing, next-room, next-later, next-written}
+use Rattle.trees.proofs.NextKey.NextAnswers.{next-ended, next-missing, next-room, next-later, next-written}
 use borrow.Fn.Kinds.{In}
 use borrow.Fn.PlainCycle.{Measures, is, falls, and}
 use Rattle.trees.proofs.next_key.next_from.Reads as next-from

@@ -6,10 +6,10 @@ use borrow.Author.Needs.{needs}
 use Rattle.cells.proofs.Memory.{memory-length}
 use Rattle.nodes.specs.Split.{splitCell, validBranch}
 use Rattle.nodes.proofs.Coded.{coded-split, split-facts}
-use Rattle.nodes.proofs.Rest.{rest-of-split}
-use Rattle.trees.proofs.Judging.{judged-none, judged-same}
-use Rattle.trees.proofs.Reading.{tested-cell}
-use Rattle.trees.proofs.SplitTrees.{end-other, end-split}
+use Rattle.nodes.proofs.Steps.Rest.{rest-of-split}
+use Rattle.trees.proofs.Validation.Judging.{judged-none, judged-same}
+use Rattle.trees.proofs.Validation.Reading.{tested-cell}
+use Rattle.trees.proofs.Validation.SplitTrees.{end-other, end-split}
 use Rattle.trees.proofs.stamps.stamp_branch.Statement.{statement}
 use Rattle.trees.proofs.stamps.stamp_branch.Tie as tie
 

@@ -1,7 +1,7 @@
 -- `stamp_cell` meets its contract: a cell that is not valid or has the stamp is refused, and any other gets it.
 use borrow.Author.Needs.{needs}
 use borrow.Author.Tests.{not-true, not-false}
-use Rattle.trees.proofs.Judging.{cell-invalid, cell-valid, cell-twice, cell-new}
+use Rattle.trees.proofs.Validation.Judging.{cell-invalid, cell-valid, cell-twice, cell-new}
 use Rattle.trees.proofs.stamps.stamp_cell.Statement.{statement}
 use Rattle.trees.proofs.stamps.stamp_cell.Tie as tie
 

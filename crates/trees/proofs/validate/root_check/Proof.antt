@@ -1,7 +1,7 @@
 -- `root_check` meets its contract: NONE passes, and any other word is judged as a plain node.
 use borrow.Author.Needs.{needs}
-use Rattle.trees.proofs.Judging.{judged-empty, judged-same}
-use Rattle.trees.proofs.ChildTrees.{root-none, root-plain}
+use Rattle.trees.proofs.Validation.Judging.{judged-empty, judged-same}
+use Rattle.trees.proofs.Validation.ChildTrees.{root-none, root-plain}
 use Rattle.trees.proofs.validate.root_check.Statement.{statement}
 use Rattle.trees.proofs.validate.root_check.Tie as tie
 

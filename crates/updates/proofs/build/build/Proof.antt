@@ -7,8 +7,8 @@ use borrow.Author.Needs.{needs}
 use Rattle.cells.specs.Memory.{memoryOf}
 use Rattle.updates.specs.Build.{pathCopy, build}
 use Rattle.staging.specs.Numbering.{numberFrom}
-use Rattle.updates.specs.Staged.{builtOf, insertedAt, reached}
-use Rattle.updates.proofs.StagedDescent.{path-read, copied-end, copied-whole, node-fits, copied-more}
+use Rattle.updates.specs.Code.Staged.{builtOf, insertedAt, reached}
+use Rattle.updates.proofs.Stage.StagedDescent.{path-read, copied-end, copied-whole, node-fits, copied-more}
 use Rattle.updates.proofs.Bound.{build-bound}
 use Rattle.updates.proofs.build.build.Statement.{statement}
 use Rattle.updates.proofs.build.build.Tie as tie

@@ -1,4 +1,4 @@
-use Rattle.updates.proofs.StagedBuild.{none-childless, child-found, child-missing, child-broken}
+use Rattle.updates.proofs.Stage.StagedBuild.{none-childless, child-found, child-missing, child-broken}
 use borrow.Author.Needs.{needs}
 use Rattle.updates.proofs.build.child_word.Statement.{statement}
 use Rattle.updates.proofs.build.child_word.Tie as tie

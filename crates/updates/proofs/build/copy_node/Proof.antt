@@ -1,5 +1,5 @@
 -- One node: its word without the value, the child set, and the value put back.
-use Rattle.updates.proofs.StagedDescent.{bare-read, set-fits, copy-is, back-fits}
+use Rattle.updates.proofs.Stage.StagedDescent.{bare-read, set-fits, copy-is, back-fits}
 use mathlib.Core.Path.{_∙_}
 use borrow.Author.Needs.{needs}
 use Rattle.updates.proofs.build.copy_node.Statement.{statement}

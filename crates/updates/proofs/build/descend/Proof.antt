@@ -4,7 +4,7 @@ use Prim.Native.Nat.{_-_, _≤_}
 use lib.ListN.{length}
 use borrow.Author.Needs.{needs}
 use Rattle.cells.specs.Memory.{memoryOf}
-use Rattle.updates.proofs.StagedDescent.{tree-read, Down, down-none, down-more, down-all}
+use Rattle.updates.proofs.Stage.StagedDescent.{tree-read, Down, down-none, down-more, down-all}
 use Rattle.updates.proofs.build.descend.Statement.{statement}
 use Rattle.updates.proofs.build.descend.Tie as tie
 

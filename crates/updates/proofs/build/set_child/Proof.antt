@@ -2,7 +2,7 @@ use mathlib.Core.Path.{sym, _∙_}
 use native.Mathlib.Omega.{arith}
 use Rattle.nodes.proofs.Coded.{coded-split, coded-sparse, chain-facts, split-facts, sparse-facts}
 use Rattle.nodes.proofs.Read.{read-split, read-sparse}
-use Rattle.updates.proofs.StagedBuild.{set-nothing, set-leaf, set-chain, set-split, set-sparse, set-none, fits-as}
+use Rattle.updates.proofs.Stage.StagedBuild.{set-nothing, set-leaf, set-chain, set-split, set-sparse, set-none, fits-as}
 use borrow.Author.Needs.{needs}
 use Rattle.updates.proofs.build.set_child.Statement.{statement}
 use Rattle.updates.proofs.build.set_child.Tie as tie

@@ -1,7 +1,7 @@
 use native.Mathlib.Omega.{arith}
 use Rattle.nodes.proofs.Coded.{prefix-facts}
-use Rattle.nodes.proofs.StepWays.{cell-length}
-use Rattle.updates.proofs.StagedBuild.{aside-leaf, aside-prefix, aside-same}
+use Rattle.nodes.proofs.Steps.StepWays.{cell-length}
+use Rattle.updates.proofs.Stage.StagedBuild.{aside-leaf, aside-prefix, aside-same}
 use borrow.Author.Needs.{needs}
 use Rattle.updates.proofs.build.word_aside.Statement.{statement}
 use Rattle.updates.proofs.build.word_aside.Tie as tie

@@ -1,4 +1,4 @@
-use Rattle.updates.proofs.StagedChains.{over-new, over-new-fits, over-first-is, room-place, over-longer-fits, over-longer-is}
+use Rattle.updates.proofs.Stage.StagedChains.{over-new, over-new-fits, over-first-is, room-place, over-longer-fits, over-longer-is}
 use borrow.Author.Needs.{needs}
 use Rattle.updates.proofs.chain.chain_over.Statement.{statement}
 use Rattle.updates.proofs.chain.chain_over.Tie as tie

@@ -2,7 +2,7 @@ use mathlib.Core.Path.{ap, _∙_}
 use native.Mathlib.Omega.{arith}
 use lib.ListN.{length}
 use Rattle.cells.proofs.Memory.{memory-length}
-use Rattle.updates.proofs.StagedChains.{chain-same-fits, chain-same-is, chain-other-fits, chain-other-is}
+use Rattle.updates.proofs.Stage.StagedChains.{chain-same-fits, chain-same-is, chain-other-fits, chain-other-is}
 use borrow.Author.Needs.{needs}
 use Rattle.updates.proofs.chain.chain_set.Statement.{statement}
 use Rattle.updates.proofs.chain.chain_set.Tie as tie

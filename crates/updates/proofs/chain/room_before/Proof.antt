@@ -1,5 +1,5 @@
 use borrow.Author.Tests.{not-true, not-false}
-use Rattle.updates.proofs.StagedChains.{room-not-own, room-leaf, room-no-chain, room-kind}
+use Rattle.updates.proofs.Stage.StagedChains.{room-not-own, room-leaf, room-no-chain, room-kind}
 use borrow.Author.Needs.{needs}
 use Rattle.updates.proofs.chain.room_before.Statement.{statement}
 use Rattle.updates.proofs.chain.room_before.Tie as tie

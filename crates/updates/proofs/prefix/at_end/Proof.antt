@@ -3,7 +3,7 @@ use native.Mathlib.Omega.{arith}
 use lib.ListN.{length}
 use Rattle.cells.proofs.Memory.{memory-length}
 use Rattle.nodes.proofs.Coded.{prefix-facts}
-use Rattle.updates.proofs.StagedEnds.{end-nothing, end-leaf, end-invalid, end-prefix, end-other}
+use Rattle.updates.proofs.Stage.StagedEnds.{end-nothing, end-leaf, end-invalid, end-prefix, end-other}
 use borrow.Author.Needs.{needs}
 use Rattle.updates.proofs.prefix.at_end.Statement.{statement}
 use Rattle.updates.proofs.prefix.at_end.Tie as tie

@@ -1,4 +1,4 @@
-use Rattle.updates.proofs.StagedEnds.{back-fits, back-held, back-empty}
+use Rattle.updates.proofs.Stage.StagedEnds.{back-fits, back-held, back-empty}
 use borrow.Author.Needs.{needs}
 use Rattle.updates.proofs.prefix.put_back.Statement.{statement}
 use Rattle.updates.proofs.prefix.put_back.Tie as tie

@@ -1,5 +1,5 @@
 use borrow.Author.Tests.{not-true, not-false}
-use Rattle.updates.proofs.StagedRows.{branch-none, branch-fits, branch-some}
+use Rattle.updates.proofs.Stage.StagedRows.{branch-none, branch-fits, branch-some}
 use borrow.Author.Needs.{needs}
 use Rattle.updates.proofs.rows.branch_row.Statement.{statement}
 use Rattle.updates.proofs.rows.branch_row.Tie as tie

@@ -1,6 +1,6 @@
 use borrow.Author.Needs.{needs}
 use Rattle.nodes.specs.Sparse.{sparseChild}
-use Rattle.updates.proofs.StagedSparse.{with-here, with-other}
+use Rattle.updates.proofs.Stage.StagedSparse.{with-here, with-other}
 use Rattle.updates.proofs.rows.child_with.Statement.{statement}
 use Rattle.updates.proofs.rows.child_with.Tie as tie
 

@@ -6,7 +6,7 @@ use lib.ListN.{length, getD}
 use borrow.Author.Needs.{needs}
 use Rattle.nodes.specs.Sparse.{sparseChild}
 use Rattle.updates.specs.SetChild.{withChild}
-use Rattle.updates.proofs.StagedSparse.{fill-next}
+use Rattle.updates.proofs.Stage.StagedSparse.{fill-next}
 use Rattle.updates.proofs.rows.fill_words.Statement.{statement}
 use Rattle.updates.proofs.rows.fill_words.Tie as tie
 

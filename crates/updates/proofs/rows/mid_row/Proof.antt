@@ -6,11 +6,11 @@ use lib.ListN.{length, take}
 use borrow.Author.Needs.{needs}
 use Rattle.nodes.specs.Sparse.{sparseChild}
 use Rattle.staging.specs.Numbering.{numberFrom}
-use Rattle.staging.specs.Stage.{staged}
+use Rattle.staging.specs.Code.Stage.{staged}
 use Rattle.updates.specs.SetChild.{withChild}
 use Rattle.updates.specs.SplitBuild.{rows, endRow}
-use Rattle.updates.proofs.StagedRows.{Making, making-start}
-use Rattle.updates.proofs.StagedSplitOf.{endSlot, end-fits, end-more, mid-fits, mid-is}
+use Rattle.updates.proofs.Stage.StagedRows.{Making, making-start}
+use Rattle.updates.proofs.Stage.StagedSplitOf.{endSlot, end-fits, end-more, mid-fits, mid-is}
 use Rattle.updates.proofs.rows.mid_row.Statement.{statement}
 use Rattle.updates.proofs.rows.mid_row.Tie as tie
 

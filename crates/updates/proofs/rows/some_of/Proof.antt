@@ -5,7 +5,7 @@ use Prim.Native.Nat.{_+_, _-_, _≤_}
 use lib.ListN.{getD}
 use borrow.Author.Needs.{needs}
 use Rattle.nodes.specs.Sparse.{someWord}
-use Rattle.nodes.proofs.WordRows.{some-stop, some-found, some-step}
+use Rattle.nodes.proofs.Steps.WordRows.{some-stop, some-found, some-step}
 use Rattle.updates.proofs.rows.some_of.Statement.{statement}
 use Rattle.updates.proofs.rows.some_of.Tie as tie
 

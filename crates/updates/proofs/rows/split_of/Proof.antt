@@ -8,9 +8,9 @@ use Rattle.nodes.specs.Sparse.{sparseChild}
 use Rattle.updates.specs.SetChild.{withChild}
 use Rattle.updates.specs.SplitBuild.{rows, midRow}
 use Rattle.staging.specs.Numbering.{numberFrom}
-use Rattle.staging.specs.Stage.{staged}
-use Rattle.updates.proofs.StagedRows.{Making, making-start}
-use Rattle.updates.proofs.StagedSplitOf.{midSlot, mids-first-fits, mids-more, head-fits, split-of-is}
+use Rattle.staging.specs.Code.Stage.{staged}
+use Rattle.updates.proofs.Stage.StagedRows.{Making, making-start}
+use Rattle.updates.proofs.Stage.StagedSplitOf.{midSlot, mids-first-fits, mids-more, head-fits, split-of-is}
 use Rattle.updates.proofs.rows.split_of.Statement.{statement}
 use Rattle.updates.proofs.rows.split_of.Tie as tie
 

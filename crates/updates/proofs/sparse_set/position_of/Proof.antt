@@ -5,8 +5,8 @@ use native.Mathlib.Omega.{arith}
 use Prim.Native.Nat.{_-_, _≤_}
 use borrow.Author.Needs.{needs}
 use Rattle.nodes.specs.Sparse.{positionOf}
-use Rattle.nodes.proofs.SparseSteps.{count-small}
-use Rattle.updates.proofs.StagedSparse.{position-here, position-later, position-among, position-past}
+use Rattle.nodes.proofs.SparseNodes.SparseSteps.{count-small}
+use Rattle.updates.proofs.Stage.StagedSparse.{position-here, position-later, position-among, position-past}
 use Rattle.updates.proofs.sparse_set.position_of.Statement.{statement}
 use Rattle.updates.proofs.sparse_set.position_of.Tie as tie
 

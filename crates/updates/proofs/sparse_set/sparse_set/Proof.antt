@@ -3,8 +3,8 @@ use native.Mathlib.Omega.{arith}
 use lib.ListN.{length}
 use Rattle.cells.proofs.Memory.{memory-length}
 use Rattle.nodes.specs.Sparse.{sparseCount}
-use Rattle.nodes.proofs.SparseSteps.{count-small}
-use Rattle.updates.proofs.StagedSparse.{replaced-fits, replaced-is, appended-fits, appended-is, seventh-fits, seventh-is}
+use Rattle.nodes.proofs.SparseNodes.SparseSteps.{count-small}
+use Rattle.updates.proofs.Stage.StagedSparse.{replaced-fits, replaced-is, appended-fits, appended-is, seventh-fits, seventh-is}
 use borrow.Author.Needs.{needs}
 use Rattle.updates.proofs.sparse_set.sparse_set.Statement.{statement}
 use Rattle.updates.proofs.sparse_set.sparse_set.Tie as tie

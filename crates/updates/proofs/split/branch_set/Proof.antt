@@ -1,4 +1,4 @@
-use Rattle.updates.proofs.StagedCell.{put-allocate}
+use Rattle.updates.proofs.Stage.StagedCell.{put-allocate}
 use borrow.Author.Needs.{needs}
 use Rattle.updates.proofs.split.branch_set.Statement.{statement}
 use Rattle.updates.proofs.split.branch_set.Tie as tie

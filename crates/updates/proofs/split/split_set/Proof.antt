@@ -1,6 +1,6 @@
 use native.Mathlib.Omega.{arith}
 use Prim.Native.Nat.{_/_, _%_}
-use Rattle.updates.proofs.StagedSplits.{mid-word-inside, end-word-inside, head-word-read, allocated-count, split-fits, split-is}
+use Rattle.updates.proofs.Stage.StagedSplits.{mid-word-inside, end-word-inside, head-word-read, allocated-count, split-fits, split-is}
 use borrow.Author.Needs.{needs}
 use Rattle.updates.proofs.split.split_set.Statement.{statement}
 use Rattle.updates.proofs.split.split_set.Tie as tie

@@ -1,4 +1,4 @@
-use Rattle.updates.proofs.StagedSplits.{below-none, below-some}
+use Rattle.updates.proofs.Stage.StagedSplits.{below-none, below-some}
 use borrow.Author.Needs.{needs}
 use Rattle.updates.proofs.split.word_below.Statement.{statement}
 use Rattle.updates.proofs.split.word_below.Tie as tie

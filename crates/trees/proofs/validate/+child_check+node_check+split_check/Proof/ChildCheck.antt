@@ -5,11 +5,11 @@ use native.Mathlib.Omega.{arith}
 use borrow.Author.Tests.{not-true, not-false}
 use Rattle.nodes.specs.Prefix.{prefixLink, validPrefix}
 use Rattle.nodes.proofs.Coded.{coded-leaf, coded-prefix, prefix-facts}
-use Rattle.nodes.proofs.StepWays.{cell-length}
-use Rattle.trees.proofs.Judging.{judged-empty, judged-none, judged-same, first-failed, then-second}
-use Rattle.trees.proofs.Reading.{tested-cell}
-use Rattle.trees.proofs.ChildTrees.{child-none, child-deep, child-below, tree-leaf, prefix-tree}
-use Rattle.trees.proofs.Tags.{other-plain}
+use Rattle.nodes.proofs.Steps.StepWays.{cell-length}
+use Rattle.trees.proofs.Validation.Judging.{judged-empty, judged-none, judged-same, first-failed, then-second}
+use Rattle.trees.proofs.Validation.Reading.{tested-cell}
+use Rattle.trees.proofs.Validation.ChildTrees.{child-none, child-deep, child-below, tree-leaf, prefix-tree}
+use Rattle.trees.proofs.Validation.Tags.{other-plain}
 use borrow.Author.Needs.{needs}
 use Rattle.trees.proofs.validate.child_check.Reads as reads
 use Rattle.trees.proofs.validate.+child_check+node_check+split_check.Lts-child_check as lts

@@ -7,18 +7,18 @@ use native.Mathlib.Omega.{arith}
 use borrow.Author.Tests.{not-true, not-false}
 use Rattle.cells.specs.Memory.{memoryOf}
 use Rattle.nodes.specs.Split.{gather, validHead}
-use Rattle.nodes.specs.Coded.{pointerOf}
+use Rattle.nodes.specs.Code.Coded.{pointerOf}
 use Rattle.nodes.proofs.Coded.{coded-chain, coded-sparse, coded-split, chain-facts, sparse-facts, split-facts}
-use Rattle.nodes.proofs.StepWays.{cell-length}
-use Rattle.trees.specs.Visit.{visit}
-use Rattle.trees.proofs.Joins.{joined}
-use Rattle.trees.proofs.Judging.{judged-none, judged-same, judged-by, first-failed, then-second, walk-starts, walk-ends, walk-fails, walk-goes-on}
-use Rattle.trees.proofs.Reading.{cell-bytes, last-word, tested-cell}
-use Rattle.trees.proofs.ChildTrees.{plain-not}
-use Rattle.trees.proofs.ChainTrees.{chain-deep, chain-tree-read}
-use Rattle.trees.proofs.SparseTrees.{sparseTree, sparse-tree-read, sparse-tree-here, position-fits}
-use Rattle.trees.proofs.SplitTrees.{split-tree}
-use Rattle.trees.proofs.Tags.{not-plain}
+use Rattle.nodes.proofs.Steps.StepWays.{cell-length}
+use Rattle.trees.specs.Code.Visit.{visit}
+use Rattle.trees.proofs.Validation.Joins.{joined}
+use Rattle.trees.proofs.Validation.Judging.{judged-none, judged-same, judged-by, first-failed, then-second, walk-starts, walk-ends, walk-fails, walk-goes-on}
+use Rattle.trees.proofs.Validation.Reading.{cell-bytes, last-word, tested-cell}
+use Rattle.trees.proofs.Validation.ChildTrees.{plain-not}
+use Rattle.trees.proofs.Validation.ChainTrees.{chain-deep, chain-tree-read}
+use Rattle.trees.proofs.Validation.SparseTrees.{sparseTree, sparse-tree-read, sparse-tree-here, position-fits}
+use Rattle.trees.proofs.Validation.SplitTrees.{split-tree}
+use Rattle.trees.proofs.Validation.Tags.{not-plain}
 use borrow.Author.Needs.{needs}
 use Rattle.trees.proofs.validate.node_check.Reads as reads
 use Rattle.trees.proofs.validate.+child_check+node_check+split_check.Lts-node_check as lts

@@ -8,11 +8,11 @@ use borrow.Author.Tests.{not-true, not-false}
 use Rattle.cells.specs.Memory.{memoryOf}
 use Rattle.nodes.specs.Layout.{Layout}
 use Rattle.nodes.specs.Split.{gather}
-use Rattle.trees.specs.Visit.{visit}
-use Rattle.trees.specs.Parts.{splitBranches}
-use Rattle.trees.proofs.Joins.{joined}
-use Rattle.trees.proofs.Judging.{judged-same, walk-starts, walk-leaves, part-fails, part-passed, walk-fails, walk-goes-on, walk-passes, walk-ends}
-use Rattle.trees.proofs.SplitTrees.{row, row-head, row-none, row-branch, row-child, branch-inside}
+use Rattle.trees.specs.Code.Visit.{visit}
+use Rattle.trees.specs.Code.Parts.{splitBranches}
+use Rattle.trees.proofs.Validation.Joins.{joined}
+use Rattle.trees.proofs.Validation.Judging.{judged-same, walk-starts, walk-leaves, part-fails, part-passed, walk-fails, walk-goes-on, walk-passes, walk-ends}
+use Rattle.trees.proofs.Validation.SplitTrees.{row, row-head, row-none, row-branch, row-child, branch-inside}
 use borrow.Author.Needs.{needs}
 use Rattle.trees.proofs.validate.split_check.Reads as reads
 use Rattle.trees.proofs.validate.+child_check+node_check+split_check.Lts-split_check as lts

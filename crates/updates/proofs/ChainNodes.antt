@@ -1,0 +1,4 @@
+-- A child set at NONE or at a chain.
+pub mod Chains
+pub mod ChainSet
+pub mod Rooms

@@ -1,0 +1,4 @@
+-- Values set aside and put back, and the rule at the key's end.
+pub mod Prefixes
+pub mod Aside
+pub mod KeyEnd
