@@ -16,7 +16,7 @@ use Rattle.cells.specs.Memory.{memoryOf}
 use Rattle.cells.proofs.Choice.{never, absurd-bool, absurd-false}
 use Rattle.nodes.specs.Layout.{keyLimit}
 use Rattle.trees.specs.Entries.{Entry, keyBefore, nextEntry}
-use Rattle.trees.proofs.Pairs.Keys.{before-asymmetric}
+use Rattle.trees.proofs.Entries.Keys.{before-asymmetric}
 use Rattle.trees.proofs.NextKey.Next.{next-above, next-short, next-shown, next-shown-least, none-shown}
 use Rattle.blocks.specs.Trailer.{badSize, layoutOf, rootWord}
 use Rattle.blocks.specs.Sound.{sound}

@@ -7,7 +7,7 @@ use mathlib.Core.Option.{Option}
 use Prim.Native.Nat.{ℕ}
 use borrow.Author.Tests.{eq-eqb, ne-eqb}
 use Rattle.trees.specs.Lookup.{Table, sameKey, assign}
-use Rattle.trees.proofs.Pairs.Keys.{same-key-refl}
+use Rattle.trees.proofs.Entries.Keys.{same-key-refl}
 
 pub assign-own : (table : Table) (key : List ℕ) (given : Option ℕ) → assign table key given key ≡ given
 unfolding assign

@@ -26,7 +26,7 @@ use Rattle.nodes.proofs.Read.{read-plain, read-chain, read-prefix}
 use Rattle.trees.specs.Tree.{tree}
 use Rattle.trees.specs.Lookup.{lookup}
 use Rattle.trees.specs.Entries.{below, ownEntry, childEntries, entriesUnder, entries}
-use Rattle.trees.proofs.Pairs.PairLaws.{pairs, entries-node, childEntries-same, under-entries}
+use Rattle.trees.proofs.Entries.PairLaws.{pairs, entries-node, childEntries-same, under-entries}
 use Rattle.trees.proofs.Tree.{kids, tree-cut, tree-at, tree-join, child-tree, lookup-nil, lookup-cons, lookup-other, lookup-zero}
 
 -- the cells that a node was read from are among these

@@ -8,5 +8,5 @@ pub mod Found
 pub mod MeantTree
 pub mod Proved
 pub mod NextKey
-pub mod Pairs
 pub mod Validation
+pub mod Entries

@@ -20,7 +20,7 @@ use Rattle.trees.specs.Tree.{spread, step, tree}
 use Rattle.trees.specs.Root.{isRoot, rootTree}
 use Rattle.trees.specs.Lookup.{lookup}
 use Rattle.trees.proofs.Tree.{lookup-other}
-use Rattle.trees.proofs.Pairs.Shown.{long-absent}
+use Rattle.trees.proofs.Entries.Shown.{long-absent}
 use mathlib.Core.Bool.{cond}
 
 -- a byte, by its cell and its offset there, has a meaning in the tree of a word: in its node, or below a character of it

@@ -14,8 +14,8 @@ use Rattle.trees.specs.Tree.{tree}
 use Rattle.trees.specs.Lookup.{lookup}
 use Rattle.trees.specs.Entries.{entries}
 use Rattle.trees.specs.EntryAt.{entryAt, risingKeys}
-use Rattle.trees.proofs.Pairs.EntriesLookup as pairs
-use Rattle.trees.proofs.Pairs.EntriesRising as rising
+use Rattle.trees.proofs.Entries.EntriesLookup as pairs
+use Rattle.trees.proofs.Entries.EntriesRising as rising
 use Rattle.trees.proofs.Frame as frame
 use Rattle.trees.proofs.MeantTree as meant
 use Rattle.trees.proofs.MeantTree.{TreeMeans}

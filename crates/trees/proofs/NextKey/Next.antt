@@ -17,9 +17,9 @@ use Rattle.trees.specs.Tree.{tree}
 use Rattle.trees.specs.Lookup.{lookup, sameKey}
 use Rattle.trees.specs.Entries.{Entry, first, entries, keyBefore, nextEntry}
 use Rattle.trees.specs.EntryAt.{entryAt, risingKeys}
-use Rattle.trees.proofs.Pairs.Keys.{held-or-not, before-nil, same-key, same-key-refl, other-key-is}
-use Rattle.trees.proofs.Pairs.EntriesLookup.{entry-none, entry-here, entry-later, lookup-entries}
-use Rattle.trees.proofs.Pairs.EntriesRising.{rising-head, rising-tail, entries-rising, entries-bytes, entries-short, bytes-each}
+use Rattle.trees.proofs.Entries.Keys.{held-or-not, before-nil, same-key, same-key-refl, other-key-is}
+use Rattle.trees.proofs.Entries.EntriesLookup.{entry-none, entry-here, entry-later, lookup-entries}
+use Rattle.trees.proofs.Entries.EntriesRising.{rising-head, rising-tail, entries-rising, entries-bytes, entries-short, bytes-each}
 
 -- the next pair is the first one where that is greater, and else the next of the others
 pub next-none : (key : List ℕ) → nextEntry key [] ≡ none

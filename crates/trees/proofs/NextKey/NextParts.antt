@@ -11,7 +11,7 @@ use Rattle.cells.proofs.Choice.{never, keep}
 use Rattle.nodes.specs.Code.Least.{leastFrom}
 use Rattle.trees.specs.Entries.{Entry, below, ownEntry, childEntries, first, keyBefore, nextEntry}
 use Rattle.trees.specs.Code.NextWalk.{keyOf, behind, ownKey}
-use Rattle.trees.proofs.Pairs.Keys.{held-or-not, before-nil, nil-before, before-less, before-more, before-same}
+use Rattle.trees.proofs.Entries.Keys.{held-or-not, before-nil, nil-before, before-less, before-more, before-same}
 use Rattle.trees.proofs.NextKey.Next.{next-none, next-here, next-later}
 
 -- the key of a pair, if there is one

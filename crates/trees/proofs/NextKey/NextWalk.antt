@@ -16,8 +16,8 @@ use Rattle.trees.specs.Entries.{Entry, childEntries, entries, first, nex
 use Rattle.trees.specs.EntryAt.{entryAt}
 use Rattle.trees.specs.Code.NextWalk.{keyOf, behind, firstBelow, ownKey, firstKey, nextFrom}
 use Rattle.trees.proofs.Tree.{tree-cut, tree-below}
-use Rattle.trees.proofs.Pairs.EntriesLookup.{entry-none, entries-zero, entries-end, entries-more, lookup-entries}
-use Rattle.trees.proofs.Pairs.Shown.{shown}
+use Rattle.trees.proofs.Entries.EntriesLookup.{entry-none, entries-zero, entries-end, entries-more, lookup-entries}
+use Rattle.trees.proofs.Entries.Shown.{shown}
 use Rattle.trees.proofs.NextKey.Next.{next-none}
 use Rattle.trees.proofs.NextKey.NextParts.{first-own, next-own, next-children-nil, next-children, first-children}
 

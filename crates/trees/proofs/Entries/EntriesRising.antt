@@ -17,9 +17,9 @@ use Rattle.nodes.specs.Layout.{Layout}
 use Rattle.nodes.specs.Node.{Node, read}
 use Rattle.trees.specs.Entries.{Entry, below, ownEntry, childEntries, entriesUnder, nodeEntries, entries, keyBefore}
 use Rattle.trees.specs.EntryAt.{risingKeys}
-use Rattle.trees.proofs.Pairs.Keys.{nil-before, before-less, before-same}
-use Rattle.trees.proofs.Pairs.EntriesLookup.{entriesUnder-zero, entriesUnder-word}
-use Rattle.trees.proofs.Pairs.EveryPair.{all-always, all-map, all-append, all-children, all-entries}
+use Rattle.trees.proofs.Entries.Keys.{nil-before, before-less, before-same}
+use Rattle.trees.proofs.Entries.EntriesLookup.{entriesUnder-zero, entriesUnder-word}
+use Rattle.trees.proofs.Entries.EveryPair.{all-always, all-map, all-append, all-children, all-entries}
 
 -- a key is before the keys of all these pairs
 abbrev pub beforeAll : List ℕ → List Entry → Bool

@@ -12,7 +12,7 @@ use Rattle.cells.proofs.Choice.{all-none, all-join, all-head, all-tail, all-wea
 use Rattle.nodes.specs.Layout.{Layout}
 use Rattle.nodes.specs.Node.{Node, read}
 use Rattle.trees.specs.Entries.{Entry, below, ownEntry, childEntries, entriesUnder, nodeEntries, entries}
-use Rattle.trees.proofs.Pairs.EntriesLookup.{entriesUnder-zero, entriesUnder-word}
+use Rattle.trees.proofs.Entries.EntriesLookup.{entriesUnder-zero, entriesUnder-word}
 
 -- a test that holds of anything holds of every element
 pub all-always : {A : Type 0} (test : A → Bool) (l : List A) → ((a : A) → test a ≡ true) → all test l ≡ true

@@ -39,8 +39,3 @@ under-entries f g v same = elim (ℕ-discrete v 0) [
   | yes zero-word ↦ rw zero-word
   | no other ↦ rw (ne-eqb v 0 other) (same other)
 ]
-pub mod EntriesLookup
-pub mod EntriesRising
-pub mod EveryPair
-pub mod Keys
-pub mod Shown

@@ -18,8 +18,8 @@ use Rattle.trees.specs.Lookup.{lookup, sameKey}
 use Rattle.trees.specs.Entries.{Entry, below, ownEntry, childEntries, entriesUnder, entries}
 use Rattle.trees.specs.EntryAt.{entryAt}
 use Rattle.trees.proofs.Tree.{tree-cut, child-tree, lookup-nil, lookup-cons, lookup-other, lookup-zero}
-use Rattle.trees.proofs.Pairs.PairLaws.{pairs, entries-node, childEntries-same}
-use Rattle.trees.proofs.Pairs.Keys.{held-or-not, same-key-heads, other-key-heads}
+use Rattle.trees.proofs.Entries.PairLaws.{pairs, entries-node, childEntries-same}
+use Rattle.trees.proofs.Entries.Keys.{held-or-not, same-key-heads, other-key-heads}
 
 -- no pairs below any character
 pub childEntries-none : (f : ℕ → List Entry) (count from : ℕ) → ((y : ℕ) → from ≤ y → y < from + count → f y ≡ []) → childEntries f count from ≡ []
