@@ -1,5 +1,4 @@
--- The code of any change of a block: what the build may ask for, and that what stands in the stage is committed as the
--- definition says, where its cells are free.
+-- The code of any change of a block: what its build asks for, and that what stands in the stage is what is committed.
 use mathlib.Core.Path.{_≡_, sym, ap, _∙_}
 use mathlib.Core.List.{List, [], _∷_, _++_}
 use mathlib.Core.Bool.{Bool, true}

@@ -1,5 +1,4 @@
--- The ways through the code of a valid insertion: what is built in the stage and committed is what the definition of an
--- insertion says.
+-- The code of a valid insertion: what is built in the stage and committed is what the definition of an insertion says.
 use mathlib.Core.Path.{_≡_, sym, ap, _∙_}
 use mathlib.Core.List.{List}
 use mathlib.Core.Bool.{Bool, true, false}

@@ -28,8 +28,7 @@ fn put_number(numbers: &mut [u16], place: usize, number: u16)
     numbers[place] = number;
 }
 
-// Lists the usable cells without a stamp in the order in which they are allocated, up to as many as a build can take, and
-// tells how many are listed.
+// Lists the usable cells without a stamp in the order of allocation, at most as many as a build can take, and counts them.
 fn free_cells(
     layout: Layout,
     root: u32,
