@@ -36,6 +36,10 @@ changeNumber (ChangeAnswer.Refused refusal) = refusalNumber refusal
 abbrev pub changedOutcome : ChangeAnswer → List ℕ → Changed
 changedOutcome answer block = record { answer = changeNumber answer; block = block }
 
+abbrev pub countNumber : CountAnswer → ℕ
+countNumber (CountAnswer.Done count) = 0
+countNumber (CountAnswer.Refused refusal) = refusalNumber refusal
+
 -- 01: "The answer counts the cells taken." and "A no returns zeros beside its number"
 abbrev pub countedOutcome : CountAnswer → List ℕ → Counted
 countedOutcome (CountAnswer.Done count) block = record { answer = 0; count = count; block = block }

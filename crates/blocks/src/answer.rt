@@ -1,6 +1,6 @@
 // What the calls answer.
 ghost use mathlib.Core.Path.{_≡_};
-ghost use Rattle.blocks.specs.Answers.{refusalNumber};
+ghost use Rattle.blocks.specs.Answers.{refusalNumber, changeNumber, countNumber};
 use nodes::layout::KEY_LIMIT;
 
 // Why a call did nothing, in the order of the answer numbers.
@@ -27,7 +27,7 @@ pub enum ChangeAnswer {
     Refused(Refusal),
 }
 
-// The answer of an insertion: how many cells it allocated.
+// The answer of a call that allocates cells: how many.
 pub enum CountAnswer {
     Done(u32),
     Refused(Refusal),
@@ -65,5 +65,25 @@ pub fn number(refusal: Refusal) -> u8
         Refusal::HeldNoDate => 12,
         Refusal::Expired => 13,
         Refusal::OutsideGate => 14,
+    }
+}
+
+// The answer number of a call that changes a block, or only judges it.
+pub fn change_number(answer: ChangeAnswer) -> u8
+    ensures { λ r. ⌜ r ≡ changeNumber answer ⌝ }
+{
+    match answer {
+        ChangeAnswer::Done => 0,
+        ChangeAnswer::Refused(refusal) => number(refusal),
+    }
+}
+
+// The answer number of a call that counts the cells it allocated.
+pub fn count_number(answer: CountAnswer) -> u8
+    ensures { λ r. ⌜ r ≡ countNumber answer ⌝ }
+{
+    match answer {
+        CountAnswer::Done(_) => 0,
+        CountAnswer::Refused(refusal) => number(refusal),
     }
 }

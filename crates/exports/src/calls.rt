@@ -1,11 +1,9 @@
 // The calls that make, judge and change a block, and the next key.
 ghost use mathlib.Core.Path.{_≡_};
-ghost use Rattle.blocks.specs.Answers.{changeNumber};
 ghost use Rattle.blocks.specs.Read.{nextKey, validate};
 ghost use Rattle.snapshots.specs.Snapshots.{release, restore, snapshot};
 ghost use Rattle.store.specs.Format.{format};
-use blocks::answer::ChangeAnswer;
-use blocks::answer::number;
+use blocks::answer::change_number;
 use blocks::next::next_key;
 use blocks::validate::validate;
 use nodes::layout::KEY_LIMIT;
@@ -13,16 +11,6 @@ use snapshots::release;
 use snapshots::restore;
 use snapshots::snapshot;
 use store::formatting::format;
-
-// The answer number of a change.
-fn change_number(answer: ChangeAnswer) -> u8
-    ensures { λ r. ⌜ r ≡ changeNumber answer ⌝ }
-{
-    match answer {
-        ChangeAnswer::Done => 0,
-        ChangeAnswer::Refused(refusal) => number(refusal),
-    }
-}
 
 // Makes a block fresh.
 #[no_mangle]

@@ -9,14 +9,14 @@ use lib.ListN.{length, getD, take, drop}
 use Rattle.cells.specs.Word.{wordAt}
 use Rattle.cells.proofs.Choice.{absurd-bool, absurd-false}
 use Rattle.blocks.specs.Refusal.{Changed, Counted}
-use Rattle.blocks.specs.Answers.{changeNumber, changedOutcome, countedOutcome}
+use Rattle.blocks.specs.Answers.{changeNumber, changedOutcome, countedOutcome, countNumber}
 use Rattle.blocks.specs.declared.answer.ChangeAnswer.{ChangeAnswer}
 use Rattle.blocks.specs.declared.answer.CountAnswer.{CountAnswer}
 use Rattle.store.specs.Insert.{insert}
 use Rattle.snapshots.specs.Snapshots.{snapshot, restore, release}
 use Rattle.history.specs.Calls.{Call, inserting, snapshotting, restoring, releasing, ours, outcome}
 use Rattle.history.specs.Code.Encoded.{Decoded, decodeInsert, decodeSlot, decodeCall}
-use Rattle.history.specs.Code.Running.{insertNumber, numbered, answered, StepOutcome, step, stepOutcome}
+use Rattle.history.specs.Code.Running.{numbered, answered, StepOutcome, step, stepOutcome}
 use Rattle.history.specs.declared.runner.Stepped.{Stepped}
 use Rattle.history.proofs.Decoding.{insert-there, slot-there, tag-insert}
 
@@ -35,11 +35,11 @@ module _ (b after : List ℕ) (slot number : ℕ) (answer : ChangeAnswer) (is : 
   release-answered e = e ∙ ap (λ (n : ℕ). numbered n after) (sym is)
 
 uncounted-insert : (answer : CountAnswer) (after : List ℕ)
-    → numbered (countedOutcome answer after .answer) (countedOutcome answer after .block) ≡ numbered (insertNumber answer) after
+    → numbered (countedOutcome answer after .answer) (countedOutcome answer after .block) ≡ numbered (countNumber answer) after
 uncounted-insert (CountAnswer.Done count) after = refl
 uncounted-insert (CountAnswer.Refused why) after = refl
 
-pub insert-answered : (b after key : List ℕ) (value number : ℕ) (answer : CountAnswer) → number ≡ insertNumber answer
+pub insert-answered : (b after key : List ℕ) (value number : ℕ) (answer : CountAnswer) → number ≡ countNumber answer
     → insert b key value ≡ countedOutcome answer after → answered b (inserting key value) ≡ numbered number after
 unfolding answered outcome ours
 insert-answered b after key value number answer is e =

@@ -2,13 +2,11 @@
 ghost use mathlib.Core.Path.{_≡_};
 ghost use Prim.Native.Nat.{_≤_};
 ghost use lib.ListN.{length};
-ghost use Rattle.blocks.specs.Answers.{changeNumber};
 ghost use Rattle.history.specs.Calls.{inserting, snapshotting, restoring, releasing};
 ghost use Rattle.history.specs.Code.Encoded.{decodeCall, decodeInsert};
-ghost use Rattle.history.specs.Code.Running.{insertNumber, numbered, answered, step, stepOutcome, runOutcome, Meets};
-use blocks::answer::ChangeAnswer;
-use blocks::answer::CountAnswer;
-use blocks::answer::number;
+ghost use Rattle.history.specs.Code.Running.{numbered, answered, step, stepOutcome, runOutcome, Meets};
+use blocks::answer::change_number;
+use blocks::answer::count_number;
 use cells::word_at;
 use snapshots::release;
 use snapshots::restore;
@@ -35,31 +33,11 @@ pub enum RunAnswer {
     Ran(usize, Stop),
 }
 
-// The answer number of a call that changes a block.
-fn change_number(answer: ChangeAnswer) -> u8
-    ensures { λ r. ⌜ r ≡ changeNumber answer ⌝ }
-{
-    match answer {
-        ChangeAnswer::Done => 0,
-        ChangeAnswer::Refused(refusal) => number(refusal),
-    }
-}
-
-// The answer number of an insertion.
-fn insert_number(answer: CountAnswer) -> u8
-    ensures { λ r. ⌜ r ≡ insertNumber answer ⌝ }
-{
-    match answer {
-        CountAnswer::Done(_) => 0,
-        CountAnswer::Refused(refusal) => number(refusal),
-    }
-}
-
 // An insertion, with its answer number.
 fn run_insert(block: &mut [u8], key: &[u8], value: u32) -> u8
     ensures { λ r. ⌜ answered (now (block .entry)) (inserting (now (key .entry)) value) ≡ numbered r (now (block .exit)) ⌝ }
 {
-    insert_number(insert(block, key, value))
+    count_number(insert(block, key, value))
 }
 
 // A snapshot, with its answer number.

@@ -1,4 +1,4 @@
--- Words written into tables: which word then stands where.
+-- Words written into branches: which word then stands where.
 use mathlib.Core.Path.{_≡_, refl, sym, ap, _∙_, subst}
 use mathlib.Core.Logic.{_≢_, _⊎_, inl, inr}
 use mathlib.Core.Bool.{Bool, true, false, cond}
@@ -82,7 +82,7 @@ words-at words (suc count) position l q whole inside low high small = elim (ℕ-
       (length-withWord l (4 * position) (words position) ∙ whole) (omega arith) (omega arith) (omega arith) small
 ]
 
--- the words of a table of eight, and of a head of four
+-- the words of a branch of eight, and of a head of four
 pub branch-words : (words : ℕ → ℕ) (q : ℕ) → q < 8 → words q < 4294967296 → branchWord (withWords words 8 0 blank) q ≡ words q
 branch-words words q inside small = words-at words 8 0 blank q (blank-cell .size) (omega arith) (omega arith) (omega arith) small
 

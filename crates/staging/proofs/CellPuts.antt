@@ -58,7 +58,7 @@ module _ {s after : List ℕ} {at : ℕ} (x word y other : ℕ) where
   unfolding sparsePair
   put-pair-above above put = rw (le-ltb x y above) put
 
--- a table that is there or not
+-- a branch that is there or not
 module _ {s after : List ℕ} {at : ℕ} (block : List ℕ) (word : ℕ) where
   pub put-branch-none : word ≡ 0 → Put s after at blank → Put s after at (branchCopy (memoryOf block) word)
   unfolding branchCopy

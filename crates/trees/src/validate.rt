@@ -68,7 +68,7 @@ fn node_check(
     }
 }
 
-// Judges the words of a split's head: each mid, each of its ends and the children there. Loops, since a call for each table takes stack.
+// Judges the words of a split's head: each mid, each of its ends and the children there. Loops, since a call for each branch takes stack.
 fn split_check(
     layout: Layout,
     block: &[u8],

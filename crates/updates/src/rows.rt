@@ -16,7 +16,7 @@ use staging::stage::STAGE_CELLS;
 use staging::stage::STAGE_SIZE;
 use staging::stage::allocated_as;
 
-// The word of a table that was made, NONE where all of its words are, and how many cells are staged.
+// The word of a branch that was made, NONE where all of its words are, and how many cells are staged.
 pub struct Placed {
     pub word: u32,
     pub count: usize,

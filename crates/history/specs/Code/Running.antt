@@ -7,8 +7,6 @@ use lib.Dec.{eqb}
 use lib.ListN.{length, take, drop}
 use Rattle.blocks.specs.Trailer.{layoutOf, slots}
 use Rattle.blocks.specs.Refusal.{Changed}
-use Rattle.blocks.specs.declared.answer.CountAnswer.{CountAnswer}
-use Rattle.blocks.specs.Answers.{refusalNumber}
 use Rattle.store.specs.Format.{format}
 use Rattle.history.specs.Calls.{Call, ours, outcome, run, answersOf}
 use Rattle.history.specs.Ledger.{emptyLedger, ledgerAnswers, fedBy}
@@ -18,11 +16,6 @@ use Rattle.history.specs.declared.runner.Stop.{Stop}
 use Rattle.history.specs.declared.runner.Stepped.{Stepped}
 use Rattle.history.specs.declared.runner.RunAnswer.{RunAnswer}
 use mathlib.Core.Bool.{cond}
-
--- the answer number of an insertion
-abbrev pub insertNumber : CountAnswer → ℕ
-insertNumber (CountAnswer.Done count) = 0
-insertNumber (CountAnswer.Refused refusal) = refusalNumber refusal
 
 -- a call's answer number and the block that it leaves
 unfoldable pub answered : List ℕ → Call → Changed

@@ -81,7 +81,7 @@ mid-is layout m w = by (splitCell (pointer layout w)) refl
         ∙ ap (λ o. joined o (endsOf (w / 32))) (sym (bind-of c (λ c. cellIf (validBranch (m c)) c)))
 
 module _ (layout : Layout) (m : Memory) (found : ℕ → Option (List ℕ)) where
-  -- what is visited for a word, by the tables left
+  -- what is visited for a word, by the branches left
   branches-last : (w : ℕ) → branches layout m found 0 w ≡ found w
   unfolding branches
   branches-last w = refl
@@ -99,7 +99,7 @@ module _ (layout : Layout) (m : Memory) (found : ℕ → Option (List ℕ)) wher
       ≡ joined (endCells layout m w) (gather (λ i. branches layout m found level (branchWord (m (w / 32)) i)) 8 0)
   branches-word level w other = branch-under level w ∙ under-word _ w other
 
-  -- the words of a table that a word names
+  -- the words of a branch that a word names
   below-words : (g : ℕ → Option (List ℕ)) (w : ℕ) → w ≢ 0 → gather (λ i. g (wordBelow m w i)) 8 0 ≡ gather (λ i. g (branchWord (m (w / 32)) i)) 8 0
   below-words g w other = gather-equal _ _ 8 (λ i h. ap g (below-word m w i other))
 
@@ -220,7 +220,7 @@ cell-words found block c o count at start fits =
     ap found (memory-word block c (o + 4 * i) (omega arith) ∙ ap (wordAt block) p))
 
 module _ (layout : Layout) (block : List ℕ) (d : ℕ) where
-  -- what the walk visits for the words at a byte position, so many tables down
+  -- what the walk visits for the words at a byte position, so many branches down
   abbrev pub row : ℕ → ℕ → ℕ → Option (List ℕ)
   row level at = foundAt (branches layout (memoryOf block) (childTree layout (memoryOf block) d) level) block at
 
@@ -253,7 +253,7 @@ module _ (layout : Layout) (block : List ℕ) (d : ℕ) where
     unfolding branches
     row-child = found-word _ block at i word there
 
--- the table that a word names, or none
+-- the branch that a word names, or none
 pub end-other : (layout : Layout) (m : Memory) (w : ℕ) → splitCell (pointer layout w) ≡ none → endCells layout m w ≡ none
 unfolding endCells
 end-other layout m w no-cell = rw no-cell (bind-none _)
@@ -263,7 +263,7 @@ pub end-split : (layout : Layout) (m : Memory) (w c : ℕ) (valid : Bool) → po
 unfolding endCells
 end-split layout m w c valid named tested = rw (split-cell-is (pointer layout w) c named) (bind-of c _ ∙ ap (λ t. cellIf t c) (sym tested))
 
--- a table that was visited stands in the block
+-- a branch that was visited stands in the block
 pub branch-inside : (layout : Layout) (m : Memory) (word stamp : ℕ) (before after : List ℕ) (passed : Bool)
     → VisitAnswer (endCells layout m word) stamp before after passed → passed ≡ true → word / 32 < layout .cells
 branch-inside layout m word stamp before after passed judged t =

@@ -29,7 +29,7 @@ isPlain invalid = false
 unfoldable pub plainTree : Layout → Memory → ℕ → ℕ → Option (List ℕ)
 plainTree layout m depth word = cond (isPlain (pointer layout word)) (tree layout m depth word) none
 
--- what the walk of a split visits for a word, so many tables down: each table before its words, and then what is found for a child
+-- what the walk of a split visits for a word, so many branches down: each branch before its words, and then what is found for a child
 unfoldable pub branches : Layout → Memory → (ℕ → Option (List ℕ)) → ℕ → ℕ → Option (List ℕ)
 branches layout m found zero word = found word
 branches layout m found (suc level) word =

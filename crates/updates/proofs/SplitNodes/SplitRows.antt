@@ -25,7 +25,7 @@ use Rattle.nodes.proofs.Steps.WordRows.{some-word-is, some-word-at, some-word-n
 use Rattle.staging.proofs.BranchWords.{cond-bounded, branch-words}
 use Rattle.updates.proofs.SplitNodes.SplitCells.{made-nonzero, made-bounded}
 
--- a table's row, by whether some word of it is a pointer
+-- a branch's row, by whether some word of it is a pointer
 abbrev branchRowIf : (ℕ → ℕ) → (ℕ → ℕ) → List (List ℕ) → Bool → Row
 branchRowIf number words cells t =
     cond t (record { words = λ _. wordTo (number (length cells)) 0x1C; cells = withWords words 8 0 blank ∷ cells })
@@ -101,7 +101,7 @@ module _ (layout : Layout) (number : ℕ → ℕ) (m′ : Memory) where
         }
 
 module _ (layout : Layout) (small : layout .cells ≤ cellLimit) (number : ℕ → ℕ) (m′ : Memory) where
-  -- a table of eight words, the cells below them known
+  -- a branch of eight words, the cells below them known
   module _ (found : ℕ → Option (List ℕ)) (Good : ℕ → Type 0) (words : ℕ → ℕ) (bounded : (k : ℕ) → words k < 4294967296)
       (before cells : List (List ℕ)) (below : List ℕ)
       (count : (c : ℕ) → occurrences c below + occurrences c (numbers number before) ≡ occurrences c (numbers number cells))

@@ -1,4 +1,4 @@
--- `stamp_table` meets its contract: a word that names no split's cell is refused, and else the cell is visited where it is valid.
+-- `stamp_branch` meets its contract: a word that names no split's cell is refused, and else the cell is visited where it is valid.
 use mathlib.Core.Path.{sym, ap, _∙_}
 use native.Mathlib.Omega.{arith}
 use lib.ListN.{length}
