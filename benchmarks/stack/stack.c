@@ -22,11 +22,33 @@ static uint8_t key[KEY_LIMIT];
 static size_t key_length;
 static uint8_t answer;
 
-static void *nothing(void *unused) { return unused; }
-static void *validate(void *unused) { answer = exports_validate(block, block_size); return unused; }
-static void *insert(void *unused) { uint32_t count; answer = exports_insert(block, block_size, key, key_length, 7, &count); return unused; }
-static void *get(void *unused) { uint32_t value; answer = exports_get(block, block_size, key, key_length, &value); return unused; }
-static void *next_key(void *unused) { uint32_t size; uint8_t out[KEY_LIMIT]; answer = exports_next_key(block, block_size, key, key_length, &size, out); return unused; }
+static void *nothing(void *unused) {
+    return unused;
+}
+
+static void *validate(void *unused) {
+    answer = exports_validate(block, block_size);
+    return unused;
+}
+
+static void *insert(void *unused) {
+    uint32_t count;
+    answer = exports_insert(block, block_size, key, key_length, 7, &count);
+    return unused;
+}
+
+static void *get(void *unused) {
+    uint32_t value;
+    answer = exports_get(block, block_size, key, key_length, &value);
+    return unused;
+}
+
+static void *next_key(void *unused) {
+    uint32_t size;
+    uint8_t out[KEY_LIMIT];
+    answer = exports_next_key(block, block_size, key, key_length, &size, out);
+    return unused;
+}
 
 // the bytes of a painted stack that a thread used
 static size_t used_by(void *(*call)(void *)) {
@@ -36,7 +58,10 @@ static size_t used_by(void *(*call)(void *)) {
     pthread_attr_init(&attributes);
     pthread_attr_setstack(&attributes, stack, STACK_SIZE);
     pthread_t thread;
-    if (pthread_create(&thread, &attributes, call, NULL) != 0) { perror("thread"); exit(1); }
+    if (pthread_create(&thread, &attributes, call, NULL) != 0) {
+        perror("thread");
+        exit(1);
+    }
     pthread_join(thread, NULL);
     size_t low = 0;
     while (low < STACK_SIZE && stack[low] == PAINT) low++;
@@ -47,13 +72,19 @@ static size_t used_by(void *(*call)(void *)) {
 static void measure(const char *name, void *(*call)(void *), uint8_t expected) {
     size_t own = used_by(nothing);
     size_t all = used_by(call);
-    if (answer != expected) { printf("%s answered %u\n", name, answer); exit(1); }
+    if (answer != expected) {
+        printf("%s answered %u\n", name, answer);
+        exit(1);
+    }
     printf("| %s | %zu |\n", name, all - own);
 }
 
 static void put(size_t length, uint32_t value) {
     uint32_t count;
-    if (exports_insert(block, block_size, key, length, value, &count) != 0) { printf("the block could not be filled\n"); exit(1); }
+    if (exports_insert(block, block_size, key, length, value, &count) != 0) {
+        printf("the block could not be filled\n");
+        exit(1);
+    }
 }
 
 static void all_calls(const char *title) {
@@ -86,7 +117,11 @@ int main(void) {
     // every node of the path is a sparse node of two children
     fresh(2048);
     put(KEY_LIMIT, 1);
-    for (size_t at = 0; at < KEY_LIMIT; at++) { memset(key, 'A', KEY_LIMIT); key[at] = 'B'; put(at + 1, 2); }
+    for (size_t at = 0; at < KEY_LIMIT; at++) {
+        memset(key, 'A', KEY_LIMIT);
+        key[at] = 'B';
+        put(at + 1, 2);
+    }
     memset(key, 'A', KEY_LIMIT);
     all_calls("A tree of sparse nodes, as deep as a key is long");
 
@@ -94,7 +129,11 @@ int main(void) {
     fresh(2048);
     put(KEY_LIMIT, 1);
     for (size_t at = 0; at < KEY_LIMIT; at++)
-        for (uint8_t next = 1; next < 7; next++) { memset(key, 'A', KEY_LIMIT); key[at] = (uint8_t)('A' + next); put(at + 1, 2); }
+        for (uint8_t next = 1; next < 7; next++) {
+            memset(key, 'A', KEY_LIMIT);
+            key[at] = (uint8_t)('A' + next);
+            put(at + 1, 2);
+        }
     memset(key, 'A', KEY_LIMIT);
     all_calls("A tree of splits, as deep as a key is long");
 

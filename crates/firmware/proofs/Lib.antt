@@ -2,3 +2,4 @@
 pub mod NamedKinds
 pub mod NumberSteps
 pub mod EveryChoice
+pub mod Proved

@@ -5,6 +5,7 @@ ghost use lib.ListN.{length};
 ghost use Rattle.history.specs.Calls.{inserting, snapshotting, restoring, releasing};
 ghost use Rattle.history.specs.Code.Encoded.{decodeCall, decodeInsert};
 ghost use Rattle.history.specs.Code.Running.{numbered, answered, step, stepOutcome, runOutcome, Meets};
+use blocks::answer::ChangeAnswer;
 use blocks::answer::change_number;
 use blocks::answer::count_number;
 use cells::word_at;

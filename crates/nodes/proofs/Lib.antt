@@ -9,3 +9,4 @@ pub mod Meaning
 pub mod MeantNode
 pub mod Steps
 pub mod SparseNodes
+pub mod Proved

@@ -6,3 +6,4 @@ pub mod Rising
 pub mod Steps
 pub mod Tally
 pub mod Walked
+pub mod Proved
