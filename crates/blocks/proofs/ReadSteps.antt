@@ -9,7 +9,7 @@ use lib.ListN.{length}
 use borrow.Author.Tests.{not-false}
 use Rattle.cells.specs.Memory.{memoryOf}
 use Rattle.cells.specs.Occurrences.{occurrences}
-use Rattle.nodes.specs.Layout.{Layout, keyLimit, Covered}
+use Rattle.nodes.specs.Layout.{Layout, keyLimit}
 use Rattle.trees.specs.Tree.{tree}
 use Rattle.trees.specs.Lookup.{lookup}
 use Rattle.trees.specs.Code.Coded.{Grown}
@@ -22,6 +22,7 @@ use Rattle.blocks.proofs.Refusals.{passed, zero-exactly}
 use Rattle.blocks.proofs.RefusalSteps.{refused-earlier}
 use Rattle.blocks.proofs.Roots.{root-parts, sound-parts}
 use Rattle.blocks.proofs.ValidateSteps.{layout-fits}
+use Rattle.nodes.specs.Code.Covered.{Covered}
 
 -- a validation that refuses is the call's answer, whatever else the call asks
 module _ (b : List ℕ) (rest : List Refusal) where

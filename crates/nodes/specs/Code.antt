@@ -4,3 +4,4 @@ pub mod Least
 pub mod LeastChild
 pub mod Step
 pub mod Words
+pub mod Covered

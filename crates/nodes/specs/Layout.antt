@@ -1,9 +1,7 @@
 -- What a block's edition and size decide. Every definition that reads or writes a layout takes it.
 use mathlib.Core.Bool.{Bool, _&&_}
-use mathlib.Core.List.{List}
-use Prim.Native.Nat.{ℕ, _+_, _-_, _*_, _≤_}
+use Prim.Native.Nat.{ℕ, _+_, _-_}
 use lib.Dec.{leb, ltb, eqb}
-use lib.ListN.{length}
 
 -- edition and number of cells, as the code's struct has them
 abbrev pub Layout : Type 0
@@ -36,8 +34,3 @@ keyLimit = 48
 -- 01: "n from 4 to 2,048"
 abbrev pub cellLimit : ℕ
 cellLimit = 2048
-
--- every cell of a layout stands in the block, and there are no more than a block may have
-pub record Covered (layout : Layout) (block : List ℕ) : Type 0 where
-  pub fits : layout .cells * 32 ≤ length block
-  pub small : layout .cells ≤ cellLimit

@@ -1,9 +1,10 @@
 // The value of a key in the tree of a word.
 ghost use mathlib.Core.Path.{_≡_};
 ghost use Rattle.cells.specs.Memory.{memoryOf};
-ghost use Rattle.nodes.specs.Layout.{keyLimit, Covered};
+ghost use Rattle.nodes.specs.Layout.{keyLimit};
 ghost use Rattle.trees.specs.Lookup.{lookup};
 ghost use Rattle.trees.specs.Code.Coded.{Grown, lookupOf};
+ghost use Rattle.nodes.specs.Code.Covered.{Covered};
 use nodes::layout::Layout;
 use nodes::step::ChildStep;
 use nodes::step::child_step;

@@ -1,9 +1,10 @@
 // Cells visited over an array of stamps, one byte for each cell.
 ghost use Prim.Native.Nat.{_<_};
 ghost use Rattle.cells.specs.Memory.{memoryOf};
-ghost use Rattle.nodes.specs.Layout.{cellLimit, Covered};
+ghost use Rattle.nodes.specs.Layout.{cellLimit};
 ghost use Rattle.nodes.specs.Split.{endCells};
 ghost use Rattle.trees.specs.Code.Visit.{VisitAnswer, cellIf};
+ghost use Rattle.nodes.specs.Code.Covered.{Covered};
 use cells::cell;
 use nodes::layout::CELL_LIMIT;
 use nodes::layout::Layout;

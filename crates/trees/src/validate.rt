@@ -4,7 +4,7 @@ ghost use Rattle.cells.specs.Memory.{memoryOf};
 ghost use Rattle.trees.specs.Root.{rootTree};
 ghost use Rattle.trees.specs.Code.Visit.{VisitAnswer};
 ghost use Rattle.trees.specs.Code.Parts.{childTree, plainTree, splitBranches};
-ghost use Rattle.nodes.specs.Layout.{Covered};
+ghost use Rattle.nodes.specs.Code.Covered.{Covered};
 use crate::stamps::stamp_branch;
 use crate::stamps::stamp_cell;
 use cells::cell;
