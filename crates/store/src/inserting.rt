@@ -27,7 +27,7 @@ pub struct Staged {
 }
 
 // Builds an insertion in the stage; the block is only read.
-pub fn stage_insertion(
+fn stage_insertion(
     layout: Layout,
     block: &[u8],
     numbers: &[u16; STAGE_CELLS],

@@ -63,7 +63,7 @@ fn word_aside(layout: Layout, block: &[u8], word: u32) -> u32
 }
 
 // A child of a node with no value set, by the node's kind.
-pub fn set_child(
+fn set_child(
     layout: Layout,
     block: &[u8],
     numbers: &[u16; STAGE_CELLS],
