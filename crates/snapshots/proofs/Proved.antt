@@ -2,6 +2,7 @@
 use mathlib.Core.Path.{_≡_}
 use mathlib.Core.List.{List}
 use Prim.Native.Nat.{ℕ}
+use Rattle.cells.specs.Bytes.{IsBytes}
 use Rattle.blocks.specs.Refusal.{Changed}
 use Rattle.snapshots.specs.Snapshots.{snapshot, restore, release}
 use Rattle.snapshots.specs.Tables.{snapshotCall, restoreCall, releaseCall, SlotTable}
@@ -18,11 +19,11 @@ module _ (b : List ℕ) (slot : ℕ) where
   pub release-meets : SlotTable b slot (releaseCall b slot) (release b slot)
   release-meets = tables.release-table b slot
 
-  pub snapshot-told : (r : Changed) → SlotTable b slot (snapshotCall b slot) r → r ≡ snapshot b slot
+  pub snapshot-told : (r : Changed) → IsBytes b → SlotTable b slot (snapshotCall b slot) r → r ≡ snapshot b slot
   snapshot-told = determined.snapshot-told b slot
 
-  pub restore-told : (r : Changed) → SlotTable b slot (restoreCall b slot) r → r ≡ restore b slot
+  pub restore-told : (r : Changed) → IsBytes b → SlotTable b slot (restoreCall b slot) r → r ≡ restore b slot
   restore-told = determined.restore-told b slot
 
-  pub release-told : (r : Changed) → SlotTable b slot (releaseCall b slot) r → r ≡ release b slot
+  pub release-told : (r : Changed) → IsBytes b → SlotTable b slot (releaseCall b slot) r → r ≡ release b slot
   release-told = determined.release-told b slot
