@@ -86,8 +86,7 @@ bits-told zero v w small small′ same = omega (arith, pow-zero 2)
 bits-told (suc s) v w small small′ same =
     let more : 2 ^ suc s ≡ 2 ^ s * 2 = pow-suc 2 s in
     let high : v / 2 ≡ w / 2 = bits-told s (v / 2) (w / 2) (omega arith) (omega arith) above in
-    let low : v % 2 ≡ w % 2 = lowest in
-    omega arith
+    omega (arith, lowest)
   where
     above : (i : ℕ) → i < s → v / 2 / 2 ^ i % 2 ≡ w / 2 / 2 ^ i % 2
     above i inside =

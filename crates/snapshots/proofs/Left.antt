@@ -1,6 +1,5 @@
 -- What a call on a slot leaves is told by its fields, in every byte.
 use mathlib.Core.Path.{_≡_, refl, sym, ap, _∙_, subst}
-use mathlib.Core.Logic.{_≢_}
 use mathlib.Core.Bool.{Bool, true, false}
 use mathlib.Core.List.{List}
 use Prim.Native.Nat.{ℕ, _+_, _-_, _/_, _%_, _^_, _<_}
@@ -10,10 +9,9 @@ use lib.Dec.{eqb}
 use lib.ListN.{getD}
 use lib.Seq.{ext-getD}
 use borrow.Author.Tests.{eqb-true, eqb-false}
-use Rattle.cells.specs.Memory.{memoryOf}
 use Rattle.nodes.specs.Layout.{isTrailer}
 use Rattle.blocks.specs.Trailer.{rootAt, slotAt, bitsAt, layoutOf, rootWord, slots, validSlot, slotBits, inUse}
-use Rattle.blocks.specs.Left.{OutsideWord, SlotFields, SlotLeft}
+use Rattle.blocks.specs.Left.{SlotFields, SlotLeft}
 use Rattle.blocks.proofs.Trailer.{byte-in-cell, slot-valid}
 use Rattle.blocks.proofs.Left.{word-or, slot-or, word-told}
 use Rattle.snapshots.proofs.Bits.{bits-told}

@@ -4,10 +4,16 @@ use mathlib.Core.List.{List}
 use Prim.Native.Nat.{ℕ}
 use Rattle.cells.specs.Bytes.{IsBytes}
 use Rattle.blocks.specs.Refusal.{Changed}
+use Rattle.blocks.specs.Left.{SlotFields, SlotLeft}
 use Rattle.snapshots.specs.Snapshots.{snapshot, restore, release}
 use Rattle.snapshots.specs.Tables.{snapshotCall, restoreCall, releaseCall, SlotTable}
 use Rattle.snapshots.proofs.SlotTables as tables
+use Rattle.snapshots.proofs.Left as left
 use Rattle.snapshots.proofs.Determined as determined
+
+-- the fields of what a call leaves tell every byte of it
+pub left-told : (b q r : List ℕ) (fields : SlotFields) → SlotLeft b q fields → SlotLeft b r fields → q ≡ r
+left-told = left.left-told
 
 module _ (b : List ℕ) (slot : ℕ) where
   pub snapshot-meets : SlotTable b slot (snapshotCall b slot) (snapshot b slot)

@@ -27,7 +27,7 @@ block-told b b′ same cells =
     ext-getD 0 b b′ same (λ k inside. byte-in-cell b k ∙ ap (λ (l : List ℕ). getD l (k % 32) 0) (cells (k / 32)) ∙ sym (byte-in-cell b′ k))
 
 -- fresh blocks of one length are the same: all zero but for two words
-fresh-told : (edition : ℕ) (b q r : List ℕ) → FreshLeft edition b q → FreshLeft edition b r → q ≡ r
+pub fresh-told : (edition : ℕ) (b q r : List ℕ) → FreshLeft edition b q → FreshLeft edition b r → q ≡ r
 fresh-told edition b q r x y =
     let cells : ℕ = cellsAt (newLayout edition b) in
     let stated : ℕ = editionAt (newLayout edition b) in
