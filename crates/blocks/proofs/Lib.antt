@@ -12,4 +12,5 @@ pub mod RefusalSteps
 pub mod Proved
 pub mod TrailerWrites
 pub mod After
+pub mod Left
 pub mod Determined

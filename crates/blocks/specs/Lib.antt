@@ -5,5 +5,6 @@ pub mod Refusal
 pub mod Read
 pub mod Tables
 pub mod After
+pub mod Left
 pub mod Answers
 pub mod Code

@@ -1,13 +1,19 @@
 -- Implementations that do not do what 01 asks. 01: "These dummies have to fall"; that none of them meets demand 3 is proved.
-use mathlib.Core.List.{List}
-use Prim.Native.Nat.{ℕ, _+_}
+use mathlib.Core.Bool.{cond}
+use mathlib.Core.List.{List, [], _∷_}
+use Prim.Native.Nat.{ℕ, _+_, _*_, _/_, _%_}
+use lib.Dec.{eqb}
+use lib.ListN.{set}
+use Rattle.cells.specs.Memory.{memoryOf}
+use Rattle.cells.specs.Writes.{written, cellWrites}
 use Rattle.nodes.specs.Layout.{Layout}
-use Rattle.blocks.specs.Trailer.{layoutOf}
-use Rattle.blocks.specs.TrailerWrites.{withSlotWord, withSlotBits}
+use Rattle.blocks.specs.Trailer.{layoutOf, slotWord}
+use Rattle.blocks.specs.TrailerWrites.{withRoot, withSlotWord, withSlotBits}
 use Rattle.blocks.specs.Refusal.{Changed, changedBy, Counted}
 use Rattle.store.specs.Format.{format}
+use Rattle.store.specs.Free.{free}
 use Rattle.store.specs.Insert.{insert}
-use Rattle.snapshots.specs.Snapshots.{withBit, slotRefusals, snapshot, restore, release}
+use Rattle.snapshots.specs.Snapshots.{withBit, slotRefusals, usedSlotRefusals, snapshotBlock, snapshot, restore, release}
 use Rattle.history.specs.Calls.{Implementation}
 
 -- a refusal of any call
@@ -68,3 +74,27 @@ insertOvercounted block key value = let i = insert block key value in record { a
 
 unfoldable pub inventsCount : Implementation
 inventsCount = record { formatCall = format; insertCall = insertOvercounted; snapshotCall = snapshot; restoreCall = restore; releaseCall = release }
+
+-- a snapshot that, where it is done, also sets byte 0; 01: "Cell 0 is never used."
+abbrev cellZeroSnapshot : List ℕ → ℕ → Changed
+cellZeroSnapshot block slot = changedBy (slotRefusals block slot) block (set (snapshotBlock (layoutOf block) block slot) 0 0xFF)
+
+unfoldable pub writesCellZero : Implementation
+writesCellZero = record { formatCall = format; insertCall = insert; snapshotCall = cellZeroSnapshot; restoreCall = restore; releaseCall = release }
+
+-- a restore that, where it is done, copies the cell that the slot's word names into the first free cell and sets the root to the copy,
+-- of the same kind; as ours where the table is empty or no cell is free. The block is sound and shows the slot's table, and every
+-- cell that was reached keeps its bytes: only the fields exclude it.
+unfoldable pub copiedInto : Layout → List ℕ → ℕ → List ℕ → List ℕ
+copiedInto layout block word [] = withRoot layout block word
+copiedInto layout block word (cell ∷ cells) =
+    cond (eqb word 0) (withRoot layout block word)
+    (withRoot layout (written block (cellWrites cell (memoryOf block (word / 32)))) (cell * 32 + word % 32))
+
+abbrev restoreByCopy : List ℕ → ℕ → Changed
+restoreByCopy block slot =
+    let layout = layoutOf block in
+    changedBy (usedSlotRefusals block slot) block (copiedInto layout block (slotWord layout block slot) (free layout block))
+
+unfoldable pub restoresByCopy : Implementation
+restoresByCopy = record { formatCall = format; insertCall = insert; snapshotCall = snapshot; restoreCall = restoreByCopy; releaseCall = release }

@@ -12,7 +12,7 @@ use Rattle.store.specs.Free.{free}
 use Rattle.store.specs.Format.{format}
 use Rattle.store.specs.Committed.{numbering}
 use Rattle.store.specs.Insert.{insert}
-use Rattle.store.specs.Tables.{FormatTable, InsertTable}
+use Rattle.store.specs.Tables.{FreshLeft, FormatTable, InsertTable}
 use Rattle.store.proofs.WriteCalls.{format-table, insert-table}
 use Rattle.store.proofs.Determined as determined
 use Rattle.store.proofs.FreeWrites.{WritesInto}
@@ -20,6 +20,10 @@ use Rattle.store.proofs.FreeWrites as free-writes
 
 pub format-meets : (b : List ℕ) → FormatTable b (format b)
 format-meets = format-table
+
+-- the fields of a fresh block tell every byte of it
+pub fresh-told : (edition : ℕ) (b q r : List ℕ) → FreshLeft edition b q → FreshLeft edition b r → q ≡ r
+fresh-told = determined.fresh-told
 
 pub format-told : (b : List ℕ) (r : Changed) → FormatTable b r → r ≡ format b
 format-told = determined.format-told
