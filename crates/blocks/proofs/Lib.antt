@@ -13,3 +13,4 @@ pub mod Proved
 pub mod TrailerWrites
 pub mod After
 pub mod Determined
+pub mod FixedAnswers

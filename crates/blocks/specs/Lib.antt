@@ -6,4 +6,5 @@ pub mod Read
 pub mod Tables
 pub mod After
 pub mod Answers
+pub mod Computing
 pub mod Code

@@ -5,4 +5,6 @@ pub mod Laws
 pub mod WholeReadings
 pub mod VerdictLaws
 mod VerdictSteps
+pub mod Determined
+pub mod FixedVerdict
 pub mod Proved
