@@ -15,7 +15,7 @@ use Rattle.dosing.specs.Temperature.{WholeReadings}
 use Rattle.dosing.specs.Verdict.{Verdict, verdict}
 use Rattle.dosing.specs.Tables.{VerdictTable}
 use Rattle.dosing.proofs.VerdictLaws.{verdict-table}
-use Rattle.dosing.proofs.Determined as determined
+use Rattle.dosing.proofs.VerdictTold as told
 use Rattle.dosing.proofs.FixedVerdict as fixed
 use Rattle.dosing.proofs.WholeReadings.{whole-readings}
 
@@ -26,7 +26,7 @@ verdict-meets = verdict-table
 -- 01: "Every public call's contract determines its result .., whatever came in, refusals too"
 pub verdict-told : (block label : List ℕ) (today : Date) (reading : Reading) (sheet : ProductSheet) (v : Verdict)
     → VerdictTable block label today reading sheet v → v ≡ verdict block label today reading sheet
-verdict-told = determined.verdict-told
+verdict-told = told.verdict-told
 
 -- 01: "These dummies have to fall: .. one fixed verdict for all": over all that may be asked, in any one block that passes validation,
 -- and for any one label with a date, on that day

@@ -31,7 +31,7 @@ abbrev pub undated : List ℕ
 undated = shelf (0xFF ∷ 0xFF ∷ 0xFF ∷ 0xFF ∷ []) 4
 
 -- sample K's section 60 and length 4,000, and its 240 ml
-abbrev sheet : TemperatureGate → ProductSheet
+abbrev pub sheet : TemperatureGate → ProductSheet
 sheet gate = sheetOf gate (fin false 15 (pos 2)) (fin false 125 (pos 5))
 
 abbrev dosed : Verdict
@@ -42,7 +42,7 @@ abbrev refused : ℕ → Verdict
 refused number = record { answer = number; dose = fin false 0 (pos 0) }
 
 -- sheets for 5 degrees Celsius or more and for 5 to 200, which is sample L's 392 Fahrenheit, and one with a limit that is not a number
-abbrev warm : ProductSheet
+abbrev pub warm : ProductSheet
 warm = sheet (AtLeast (fin false 5 (pos 0)))
 
 abbrev mild : ProductSheet
@@ -51,14 +51,14 @@ mild = sheet (Between (fin false 5 (pos 0)) (fin false 25 (pos 3)))
 abbrev unknown : ProductSheet
 unknown = sheet (AtLeast nan)
 
-abbrev on : ℕ → ℕ → ℕ → Date
+abbrev pub on : ℕ → ℕ → ℕ → Date
 on day month year = dateOf (yearOf year) (monthOf month) (dayOf day)
 
 -- the degrees in question: 4, 5, 392 and 393 of a unit
-abbrev four : Float
+abbrev pub four : Float
 four = fin false 1 (pos 2)
 
-abbrev five : Float
+abbrev pub five : Float
 five = fin false 5 (pos 0)
 
 abbrev hot : Float
