@@ -34,11 +34,11 @@ undated = shelf (0xFF ∷ 0xFF ∷ 0xFF ∷ 0xFF ∷ []) 4
 abbrev pub sheet : TemperatureGate → ProductSheet
 sheet gate = sheetOf gate (fin false 15 (pos 2)) (fin false 125 (pos 5))
 
-abbrev dosed : Verdict
+abbrev pub dosed : Verdict
 dosed = record { answer = 0; dose = fin false 15 (pos 4) }
 
 -- 01: "A no returns zeros beside its number"
-abbrev refused : ℕ → Verdict
+abbrev pub refused : ℕ → Verdict
 refused number = record { answer = number; dose = fin false 0 (pos 0) }
 
 -- sheets for 5 degrees Celsius or more and for 5 to 200, which is sample L's 392 Fahrenheit, and one with a limit that is not a number
@@ -61,10 +61,10 @@ four = fin false 1 (pos 2)
 abbrev pub five : Float
 five = fin false 5 (pos 0)
 
-abbrev hot : Float
+abbrev pub hot : Float
 hot = fin false 49 (pos 3)
 
-abbrev hotter : Float
+abbrev pub hotter : Float
 hotter = fin false 393 (pos 0)
 
 -- what an equation about verdicts on such a block unfolds
