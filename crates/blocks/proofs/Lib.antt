@@ -14,3 +14,4 @@ pub mod TrailerWrites
 pub mod After
 pub mod Left
 pub mod Determined
+pub mod FixedAnswers

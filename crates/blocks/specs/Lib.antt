@@ -7,4 +7,5 @@ pub mod Tables
 pub mod After
 pub mod Left
 pub mod Answers
+pub mod Computing
 pub mod Code
