@@ -2,13 +2,14 @@
 use mathlib.Core.Path.{refl}
 use mathlib.Core.List.{List, [], _∷_, _++_}
 use Prim.Native.Nat.{ℕ}
+use Rattle.nodes.specs.Written.{words, eightWords, chainBytes, sparseBytes, prefixBytes, headBytes, branchBytes}
 use Rattle.store.specs.Computing.{callsOpen}
-use Rattle.samples.specs.Crafted.{words, cell, unused, chain, sparse, prefix, head, branch, sixCells, pair, OnlyBrokenRefused}
+use Rattle.samples.specs.Crafted.{unused, sixCells, pair, OnlyBrokenRefused}
 
 -- a chain 41 (1), below it a prefix (2) of this kind; a chain 42 (3), and a prefix over it (4)
 abbrev withPrefix : ℕ → ℕ → ℕ → List ℕ
 withPrefix value ff link =
-    sixCells (chain 0x00000041 0x0000005F) (prefix value ff link) (chain 0x00000042 0xFFFFFFFF) (prefix 7 0xFF000000 0x0000007B) 0x0000003B
+    sixCells (chainBytes 0x00000041 0x0000005F) (prefixBytes value ff link) (chainBytes 0x00000042 0xFFFFFFFF) (prefixBytes 7 0xFF000000 0x0000007B) 0x0000003B
 
 -- 01: "1F prefix: value at 00-03 (top bit clear), FF at 04": 00, FE and an embedded prefix's 1B for FF; the top bit
 pub prefix-bytes :
@@ -36,12 +37,12 @@ prefix-links = refl
 -- a chain 41 in cell 0 and in each usable cell but one, which has a prefix over the chain in cell 4
 abbrev withRoot : ℕ → List ℕ
 withRoot root =
-    chain 0x00000041 0xFFFFFFFF
-    ++ chain 0x00000041 0xFFFFFFFF
-    ++ chain 0x00000041 0xFFFFFFFF
-    ++ prefix 5 0xFF000000 0x0000009B
-    ++ chain 0x00000041 0xFFFFFFFF
-    ++ cell root 0 0 0 0x00000000 0x00000006 0x00000000 0x00000001
+    chainBytes 0x00000041 0xFFFFFFFF
+    ++ chainBytes 0x00000041 0xFFFFFFFF
+    ++ chainBytes 0x00000041 0xFFFFFFFF
+    ++ prefixBytes 5 0xFF000000 0x0000009B
+    ++ chainBytes 0x00000041 0xFFFFFFFF
+    ++ eightWords root 0 0 0 0x00000000 0x00000006 0x00000000 0x00000001
 
 -- 01: "The root is NONE, chain, sparse or split.", "the cell (1 to n-2)", "1D is no kind.": a root that is a leaf, a prefix,
 -- kind 1D, in cell 0, in the trailer, past it
@@ -59,7 +60,7 @@ roots = refl
 
 -- a root that is a chain of 41 with this word at 1C; a chain 42 (2)
 abbrev withChild : ℕ → List ℕ
-withChild child = sixCells (chain 0x00000041 child) (chain 0x00000042 0xFFFFFFFF) unused unused 0x0000003B
+withChild child = sixCells (chainBytes 0x00000041 child) (chainBytes 0x00000042 0xFFFFFFFF) unused unused 0x0000003B
 
 -- 01: "A chain's child is never NONE.", "1D is no kind."; a child in cell 0, in the trailer
 pub chains :
@@ -80,20 +81,20 @@ withSparse root = sixCells root unused unused unused 0x0000003E
 -- given.": a third word and a sixth one past two children; the first, the second and the third NONE; equal characters, falling ones
 pub sparse-cells :
     OnlyBrokenRefused
-    (pair (withSparse (sparse 0xFFFFFFFF 0xFFFFFFFE 0xFFFFFFFD 0x41430000 0x00000006))
-    (withSparse (sparse 0xFFFFFFFF 0xFFFFFFFE 0x00000000 0x41430000 0x00000006))
-    ∷ pair (withSparse (cell 0xFFFFFFFF 0xFFFFFFFE 0 0 0 0xFFFFFFFD 0x41430000 0x00000006))
-    (withSparse (cell 0xFFFFFFFF 0xFFFFFFFE 0 0 0 0 0x41430000 0x00000006))
-    ∷ pair (withSparse (sparse 0x00000000 0xFFFFFFFE 0 0x41430000 0x00000006))
-    (withSparse (sparse 0xFFFFFFFF 0xFFFFFFFE 0 0x41430000 0x00000006))
-    ∷ pair (withSparse (sparse 0xFFFFFFFF 0x00000000 0 0x41430000 0x00000006))
-    (withSparse (sparse 0xFFFFFFFF 0xFFFFFFFE 0 0x41430000 0x00000006))
-    ∷ pair (withSparse (sparse 0xFFFFFFFF 0xFFFFFFFE 0x00000000 0x41433500 0x00000026))
-    (withSparse (sparse 0xFFFFFFFF 0xFFFFFFFE 0xFFFFFFFD 0x41433500 0x00000026))
-    ∷ pair (withSparse (sparse 0xFFFFFFFF 0xFFFFFFFE 0 0x41410000 0x00000006))
-    (withSparse (sparse 0xFFFFFFFF 0xFFFFFFFE 0 0x41430000 0x00000006))
-    ∷ pair (withSparse (sparse 0xFFFFFFFF 0xFFFFFFFE 0 0x43410000 0x00000006))
-    (withSparse (sparse 0xFFFFFFFF 0xFFFFFFFE 0 0x41430000 0x00000006))
+    (pair (withSparse (sparseBytes 0xFFFFFFFF 0xFFFFFFFE 0xFFFFFFFD 0x41430000 0x00000006))
+    (withSparse (sparseBytes 0xFFFFFFFF 0xFFFFFFFE 0x00000000 0x41430000 0x00000006))
+    ∷ pair (withSparse (eightWords 0xFFFFFFFF 0xFFFFFFFE 0 0 0 0xFFFFFFFD 0x41430000 0x00000006))
+    (withSparse (eightWords 0xFFFFFFFF 0xFFFFFFFE 0 0 0 0 0x41430000 0x00000006))
+    ∷ pair (withSparse (sparseBytes 0x00000000 0xFFFFFFFE 0 0x41430000 0x00000006))
+    (withSparse (sparseBytes 0xFFFFFFFF 0xFFFFFFFE 0 0x41430000 0x00000006))
+    ∷ pair (withSparse (sparseBytes 0xFFFFFFFF 0x00000000 0 0x41430000 0x00000006))
+    (withSparse (sparseBytes 0xFFFFFFFF 0xFFFFFFFE 0 0x41430000 0x00000006))
+    ∷ pair (withSparse (sparseBytes 0xFFFFFFFF 0xFFFFFFFE 0x00000000 0x41433500 0x00000026))
+    (withSparse (sparseBytes 0xFFFFFFFF 0xFFFFFFFE 0xFFFFFFFD 0x41433500 0x00000026))
+    ∷ pair (withSparse (sparseBytes 0xFFFFFFFF 0xFFFFFFFE 0 0x41410000 0x00000006))
+    (withSparse (sparseBytes 0xFFFFFFFF 0xFFFFFFFE 0 0x41430000 0x00000006))
+    ∷ pair (withSparse (sparseBytes 0xFFFFFFFF 0xFFFFFFFE 0 0x43410000 0x00000006))
+    (withSparse (sparseBytes 0xFFFFFFFF 0xFFFFFFFE 0 0x41430000 0x00000006))
     ∷ [])
 unfolding callsOpen words
 sparse-cells = refl
@@ -102,23 +103,23 @@ sparse-cells = refl
 -- one digit over one child; 1 twice; the digits 0 and 2; 1 below 0, with the characters rising in that order
 pub order-words :
     OnlyBrokenRefused
-    (pair (withSparse (sparse 0 0 0 0x41430000 0x00000000))
-    (withSparse (sparse 0xFFFFFFFF 0xFFFFFFFE 0 0x41430000 0x00000006))
-    ∷ pair (withSparse (sparse 0xFFFFFFFF 0 0 0x41430000 0x00000001))
-    (withSparse (sparse 0xFFFFFFFF 0xFFFFFFFE 0 0x41430000 0x00000006))
-    ∷ pair (withSparse (sparse 0xFFFFFFFF 0xFFFFFFFE 0 0x41430000 0x00000007))
-    (withSparse (sparse 0xFFFFFFFF 0xFFFFFFFE 0 0x41430000 0x00000006))
-    ∷ pair (withSparse (sparse 0xFFFFFFFF 0xFFFFFFFE 0 0x41004300 0x0000000C))
-    (withSparse (sparse 0xFFFFFFFF 0xFFFFFFFE 0 0x41430000 0x00000006))
-    ∷ pair (withSparse (sparse 0xFFFFFFFF 0xFFFFFFFE 0xFFFFFFFD 0x43415000 0x00000049))
-    (withSparse (sparse 0xFFFFFFFF 0xFFFFFFFE 0xFFFFFFFD 0x41435000 0x0000004E))
+    (pair (withSparse (sparseBytes 0 0 0 0x41430000 0x00000000))
+    (withSparse (sparseBytes 0xFFFFFFFF 0xFFFFFFFE 0 0x41430000 0x00000006))
+    ∷ pair (withSparse (sparseBytes 0xFFFFFFFF 0 0 0x41430000 0x00000001))
+    (withSparse (sparseBytes 0xFFFFFFFF 0xFFFFFFFE 0 0x41430000 0x00000006))
+    ∷ pair (withSparse (sparseBytes 0xFFFFFFFF 0xFFFFFFFE 0 0x41430000 0x00000007))
+    (withSparse (sparseBytes 0xFFFFFFFF 0xFFFFFFFE 0 0x41430000 0x00000006))
+    ∷ pair (withSparse (sparseBytes 0xFFFFFFFF 0xFFFFFFFE 0 0x41004300 0x0000000C))
+    (withSparse (sparseBytes 0xFFFFFFFF 0xFFFFFFFE 0 0x41430000 0x00000006))
+    ∷ pair (withSparse (sparseBytes 0xFFFFFFFF 0xFFFFFFFE 0xFFFFFFFD 0x43415000 0x00000049))
+    (withSparse (sparseBytes 0xFFFFFFFF 0xFFFFFFFE 0xFFFFFFFD 0x41435000 0x0000004E))
     ∷ [])
 unfolding callsOpen words
 order-words = refl
 
 -- a root that is a split with this head (1), mid (2) and end (3) of the character 41, whose bits are 01 000 001
 abbrev withSplit : ℕ → ℕ → ℕ → List ℕ
-withSplit inHead inMid inEnd = sixCells (head 0 inHead 0 0) (branch inMid 0) (branch 0 inEnd) unused 0x0000003C
+withSplit inHead inMid inEnd = sixCells (headBytes 0 inHead 0 0) (branchBytes inMid 0) (branchBytes 0 inEnd) unused 0x0000003C
 
 -- 01: "A split head, mid and end each hold at least one pointer."
 pub split-pointers :

@@ -2,14 +2,15 @@
 use mathlib.Core.Path.{_≡_, refl}
 use mathlib.Core.List.{List, [], _∷_, _++_, map}
 use Prim.Native.Nat.{ℕ}
+use Rattle.nodes.specs.Written.{words, eightWords, chainBytes, prefixBytes}
 use Rattle.blocks.specs.Read.{validate}
 use Rattle.store.specs.Computing.{callsOpen}
-use Rattle.samples.specs.Crafted.{words, cell, unused, chain, prefix, Pair, pair, OnlyBrokenRefused}
+use Rattle.samples.specs.Crafted.{unused, Pair, pair, OnlyBrokenRefused}
 
 -- a block of four cells that shows 41, with these words at 04, 08, 0C and from 10 on
 abbrev trailer : ℕ → ℕ → ℕ → ℕ → ℕ → ℕ → ℕ → List ℕ
 trailer one two three bits cells spare edition =
-    unused ++ chain 0x00000041 0xFFFFFFFF ++ unused ++ cell 0x0000003B one two three bits cells spare edition
+    unused ++ chainBytes 0x00000041 0xFFFFFFFF ++ unused ++ eightWords 0x0000003B one two three bits cells spare edition
 
 -- the trailer mended: no snapshot, and 01's words
 abbrev beside : List ℕ → Pair
@@ -90,11 +91,11 @@ empty-held = refl
 abbrev held : ℕ → ℕ → ℕ → ℕ → List ℕ
 held one two three bits =
     unused
-    ++ chain 0x00000041 0xFFFFFFFF
-    ++ prefix 5 0xFF000000 0x0000007B
-    ++ chain 0x00000042 0xFFFFFFFF
-    ++ chain 0x00000043 0x00000000
-    ++ cell 0x0000003B one two three bits 0x00000006 0x00000000 0x00000001
+    ++ chainBytes 0x00000041 0xFFFFFFFF
+    ++ prefixBytes 5 0xFF000000 0x0000007B
+    ++ chainBytes 0x00000042 0xFFFFFFFF
+    ++ chainBytes 0x00000043 0x00000000
+    ++ eightWords 0x0000003B one two three bits 0x00000006 0x00000000 0x00000001
 
 -- 01: "each held mark's tree obey all this": the word of each slot a leaf, a prefix, kind 1D, a chain with no child
 pub held-words :
