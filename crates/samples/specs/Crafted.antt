@@ -3,17 +3,17 @@ use mathlib.Core.Path.{_≡_}
 use mathlib.Core.List.{List, [], _∷_, _++_, map}
 use Prim.Native.Nat.{ℕ}
 use Rattle.cells.specs.Bytes.{zeros}
-use Rattle.nodes.specs.Written.{eightWords}
+use Rattle.nodes.specs.Written.{eightWords, chainBytes}
 use Rattle.blocks.specs.Read.{validate}
 
 -- a cell that nothing leads to
 abbrev pub unused : List ℕ
 unused = zeros 32
 
--- a block of six cells: cell 0, four usable ones, and a trailer with this root and no snapshot
+-- a block of six cells: a chain 41 in cell 0, four usable cells, and a trailer with this root and no snapshot
 abbrev pub sixCells : List ℕ → List ℕ → List ℕ → List ℕ → ℕ → List ℕ
 sixCells one two three four root =
-    unused ++ one ++ two ++ three ++ four ++ eightWords root 0 0 0 0x00000000 0x00000006 0x00000000 0x00000001
+    chainBytes 0x00000041 0xFFFFFFFF ++ one ++ two ++ three ++ four ++ eightWords root 0 0 0 0x00000000 0x00000006 0x00000000 0x00000001
 
 -- a block that breaks a rule, and the same block mended
 pub record Pair : Type 0 where

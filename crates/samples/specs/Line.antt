@@ -1,6 +1,6 @@
 -- One value that a bench sample of 01 gives.
 use mathlib.Core.Bool.{Bool}
-use mathlib.Core.List.{List, [], _∷_}
+use mathlib.Core.List.{List}
 use Prim.Native.Nat.{ℕ}
 use lib.Ieee.{Float}
 use Rattle.nodes.specs.Written.{word as fourBytes}

@@ -22,7 +22,7 @@ pub prefix-bytes :
 unfolding callsOpen words
 prefix-bytes = refl
 
--- 01: "A prefix links to a chain, sparse or split.": a link that is NONE, a leaf, a prefix, kind 1D, in cell 0
+-- 01: "A prefix links to a chain, sparse or split.": a link that is NONE, a leaf, a prefix, kind 1D; one to cell 0
 pub prefix-links :
     OnlyBrokenRefused
     (pair (withPrefix 5 0xFF000000 0x00000000) (withPrefix 5 0xFF000000 0x0000007B)
@@ -45,7 +45,7 @@ withRoot root =
     ++ eightWords root 0 0 0 0x00000000 0x00000006 0x00000000 0x00000001
 
 -- 01: "The root is NONE, chain, sparse or split.", "the cell (1 to n-2)", "1D is no kind.": a root that is a leaf, a prefix,
--- kind 1D, in cell 0, in the trailer, past it
+-- kind 1D, in cell 0, in the trailer, past it. No node can be read in the last two; the rule alone is `nodes/Pointer usable-cells`.
 pub roots :
     OnlyBrokenRefused
     (pair (withRoot 0xFFFFFFFF) (withRoot 0x0000003B)
@@ -117,9 +117,9 @@ pub order-words :
 unfolding callsOpen words
 order-words = refl
 
--- a root that is a split with this head (1), mid (2) and end (3) of the character 41, whose bits are 01 000 001
+-- a root that is a split with this head (1), mid (2) and end (3) of the character 41, whose bits are 01 000 001; a chain 42 (4)
 abbrev withSplit : ℕ → ℕ → ℕ → List ℕ
-withSplit inHead inMid inEnd = sixCells (headBytes 0 inHead 0 0) (branchBytes inMid 0) (branchBytes 0 inEnd) unused 0x0000003C
+withSplit inHead inMid inEnd = sixCells (headBytes 0 inHead 0 0) (branchBytes inMid 0) (branchBytes 0 inEnd) (chainBytes 0x00000042 0xFFFFFFFF) 0x0000003C
 
 -- 01: "A split head, mid and end each hold at least one pointer."
 pub split-pointers :
@@ -132,7 +132,7 @@ unfolding callsOpen words
 split-pointers = refl
 
 -- 01: "Pointers to mids and ends carry kind 1C too.": in a head the kinds 00, 1B, 1D, 1E, 1F, and 1C with the top bit; in a mid 00,
--- 1E, 1F and a leaf; in an end no kind
+-- 1E, 1F, and 1C with the top bit; in an end 1D
 pub split-kinds :
     OnlyBrokenRefused
     (pair (withSplit 0x00000040 0x0000007C 0xFFFFFFFF) (withSplit 0x0000005C 0x0000007C 0xFFFFFFFF)
@@ -144,8 +144,8 @@ pub split-kinds :
     ∷ pair (withSplit 0x0000005C 0x00000060 0xFFFFFFFF) (withSplit 0x0000005C 0x0000007C 0xFFFFFFFF)
     ∷ pair (withSplit 0x0000005C 0x0000007E 0xFFFFFFFF) (withSplit 0x0000005C 0x0000007C 0xFFFFFFFF)
     ∷ pair (withSplit 0x0000005C 0x0000007F 0xFFFFFFFF) (withSplit 0x0000005C 0x0000007C 0xFFFFFFFF)
-    ∷ pair (withSplit 0x0000005C 0xFFFFFFFF 0xFFFFFFFF) (withSplit 0x0000005C 0x0000007C 0xFFFFFFFF)
-    ∷ pair (withSplit 0x0000005C 0x0000007C 0x0000009D) (withSplit 0x0000005C 0x0000007C 0xFFFFFFFF)
+    ∷ pair (withSplit 0x0000005C 0x8000007C 0xFFFFFFFF) (withSplit 0x0000005C 0x0000007C 0xFFFFFFFF)
+    ∷ pair (withSplit 0x0000005C 0x0000007C 0x0000009D) (withSplit 0x0000005C 0x0000007C 0x0000009B)
     ∷ [])
 unfolding callsOpen words
 split-kinds = refl

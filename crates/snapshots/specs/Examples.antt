@@ -12,7 +12,7 @@ use Rattle.trees.specs.Root.{isRoot, rootTree, onceVisited}
 use Rattle.blocks.specs.Trailer.{badLength, badSize, layoutOf, rootWord, slots, validSlot, slotAt, inUse, everySlot, zeroFrom, validTrailer}
 use Rattle.blocks.specs.Sound.{slotRoots, roots, soundWith}
 use Rattle.blocks.specs.Refusal.{firstRefusal}
-use Rattle.snapshots.specs.Snapshots.{snapshot, restore, release}
+use Rattle.snapshots.specs.Snapshots.{snapshot, release}
 use Rattle.snapshots.specs.Computing.{snapshotsOpen}
 
 -- 01's sample A: a block of four cells that shows 41
