@@ -1,8 +1,9 @@
 -- One value that a bench sample of 01 gives.
 use mathlib.Core.Bool.{Bool}
-use mathlib.Core.List.{List, [], _∷_}
-use Prim.Native.Nat.{ℕ, _/_, _%_}
+use mathlib.Core.List.{List}
+use Prim.Native.Nat.{ℕ}
 use lib.Ieee.{Float}
+use Rattle.nodes.specs.Written.{word as fourBytes}
 
 -- 01: "Marked A to L for proof."
 pub data Letter : Type 0 where
@@ -35,4 +36,4 @@ line sample says value = record { sample = sample; says = says; value = value }
 
 -- the four bytes of a word
 abbrev pub word : ℕ → List ℕ
-word w = w / 16777216 % 256 ∷ w / 65536 % 256 ∷ w / 256 % 256 ∷ w % 256 ∷ []
+word w = fourBytes w
