@@ -67,7 +67,8 @@ counted! {
 counted! {
     /// How a list of calls ends, what is left over there, and what stands in it.
     ListCase: AtEnd, BadSize, NoCall, Full, EndAsAnswersFill, NothingAtAll, AnswersLeftOver, NoAnswerByte,
-    FullBeforeNoCall, OtherTag, InsertCut, SlotCut, OneByteShort, KeyOf0, KeyOf48, KeyOf49, KeyOf255, LongList, LargeBlock,
+    FullBeforeNoCall, OtherTag, InsertCut, SlotCut, OneByteShort, KeyOf0, KeyOf48, KeyOf49, KeyOf255, LongList,
+    LargeBlock,
 }
 
 /// The shapes and order words of one block.
@@ -195,7 +196,7 @@ impl Coverage {
         short += self.report_limits();
         let words = self.orders.len();
         println!("order words met: {words} of 436");
-        short + usize::from(words != 436) + self.report_large()
+        short + usize::from(words != 436) + self.report_large(least)
     }
 
     /// Prints what the lists met, with the answers of their calls, and gives the number of counts that fall short.
@@ -204,7 +205,7 @@ impl Coverage {
         for (call, reachable) in LISTED {
             short += self.report_answers(call, reachable, least);
         }
-        short + self.report_large()
+        short + self.report_large(least)
     }
 
     /// Prints a call's answers and gives the number of those that fall short; an answer that it cannot give is one too.
@@ -227,10 +228,10 @@ impl Coverage {
         few.count()
     }
 
-    /// Prints the share of the larger blocks, which must be a fifth of the calls.
-    fn report_large(&self) -> usize {
+    /// Prints the share of the larger blocks, which must be a fifth of the calls where any count is asked for.
+    fn report_large(&self, least: u64) -> usize {
         println!("calls on blocks of 64 cells or more: {} of {}, a fifth asked for", self.large_calls, self.calls);
-        usize::from(self.large_calls * 5 < self.calls)
+        usize::from(least > 0 && self.large_calls * 5 < self.calls)
     }
 }
 

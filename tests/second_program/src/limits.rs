@@ -1,4 +1,4 @@
-//! The limits of the specification, met exactly and missed by one step: which of them a call meets, and calls that meet each.
+//! The limits of the specification, met exactly and missed by one step: which of them a call meets, and calls for each.
 
 use crate::calls::Call;
 use crate::compare::Comparison;
