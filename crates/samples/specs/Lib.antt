@@ -5,3 +5,4 @@ pub mod Samples
 pub mod Pinned
 pub mod Foreign
 pub mod FreeCells
+pub mod Builds
