@@ -76,9 +76,11 @@ module _ (number : ℕ → ℕ) (n : Numbering number) (layout : Layout) (m : Me
     valueAt-clean (prefix c) word = prefix-alone number n value _
     valueAt-clean invalid word = leaf-clean
 
-    -- the build of one insertion
-    pub build-clean : (key : List ℕ) → IsBytes key → (d root : ℕ) (cs : List ℕ) → length key ≤ d → tree layout m d root ≡ some cs
-        → CleanBuild number (build layout number m root key value)
-    unfolding build
-    build-clean key is-bytes d root cs fits found =
-        pathCopy-clean _ (λ word. valueAt-clean (pointer layout word) word) key is-bytes d root cs fits found .clean
+    module _ (key : List ℕ) (is-bytes : IsBytes key) (d root : ℕ) (cs : List ℕ) (fits : length key ≤ d) (found : tree layout m d root ≡ some cs) where
+      pub build-built : CleanBuilt number n (build layout number m root key value)
+      unfolding build
+      build-built = pathCopy-clean _ (λ word. valueAt-clean (pointer layout word) word) key is-bytes d root cs fits found
+
+      -- the build of one insertion
+      pub build-clean : CleanBuild number (build layout number m root key value)
+      build-clean = build-built .clean

@@ -205,8 +205,15 @@ module _ (number : ℕ → ℕ) (n : Numbering number) where
       word-same (branchCopy m mid) (4 * (x / 8 % 8)) toEnd (omega (arith, branchCopy-length m mid (whole (mid / 32)))) (omega (arith, n .high (length (b .cells)))) in
       let in-head : headWord head (x / 64) ≡ toMid =
       word-same (headCopy (m c)) (0x10 + 4 * (x / 64)) toMid (omega (arith, headCopy-cell (m c) .size)) (omega (arith, n .high (length (newEnd ∷ b .cells)))) in
-      allocate-each number n headUse head (newMid ∷ newEnd ∷ b .cells) (head-clean head (λ i before. head-copy-zero (m c) (0x10 + 4 * (x / 64)) toMid i before (omega arith))) refl
-      (midUse, mid-clean newMid, (refl, (x / 64, omega arith, in-head)),
-      (endUse, end-clean newEnd, inl (refl, (x / 8 % 8, omega arith, in-mid)),
-      known-else number n (ByWord (b .word)) (Either (Leads endUse newEnd) (Either (Leads midUse newMid) (Leads headUse head)))
-      (λ to word some small h. inl (h .0, (x % 8, omega arith, in-end ∙ sym (h .1)))) (b .cells) (clean-each number n (b .word) (b .cells) (built .clean))))
+      allocate-each number n headUse head (newMid ∷ newEnd ∷ b .cells) (head-clean head (λ i before. head-copy-zero (m c) (0x10 + 4 * (x / 64)) toMid i before (omega arith))) refl (
+        midUse,
+        mid-clean newMid,
+        (refl, (x / 64, omega arith, in-head)),
+        (
+          endUse,
+          end-clean newEnd,
+          inl (refl, (x / 8 % 8, omega arith, in-mid)),
+          known-else number n (ByWord (b .word)) (Either (Leads endUse newEnd) (Either (Leads midUse newMid) (Leads headUse head)))
+              (λ to word some small h. inl (h .0, (x % 8, omega arith, in-end ∙ sym (h .1)))) (b .cells) (clean-each number n (b .word) (b .cells) (built .clean)),
+        ),
+      )
