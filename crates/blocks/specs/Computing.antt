@@ -18,6 +18,7 @@ use Rattle.blocks.specs.Sound.{slotRoots, roots, soundWith}
 use Rattle.blocks.specs.Refusal.{firstRefusal, overLong, badKey}
 use Rattle.blocks.specs.Read.{missing, valueOr, validate, get}
 
+-- validation and look-up
 unfoldable pub readsOpen : Unit {0}
 unfolding bind zeros wordAt memoryOf occurrences all distinct trailerCells validEdition usable byKind pointer chainChild gather under chainNode plain readAt read spread step tree isRoot rootTree onceVisited cellsOf lookup badLength badSize layoutOf rootWord slots slotAt inUse everySlot zeroFrom validTrailer slotRoots roots soundWith firstRefusal overLong badKey missing valueOr validate get
 readsOpen = tt

@@ -24,9 +24,11 @@ slotRoots layout block (suc count) slot =
 unfoldable pub roots : Layout → List ℕ → List ℕ
 roots layout block = rootWord layout block ∷ slotRoots layout block (slots layout) 1
 
+-- 01: "A book is sound when its trailer, the root's tree and each held mark's tree obey all this."
 unfoldable pub soundWith : Layout → List ℕ → Bool
 soundWith layout block = validTrailer layout block && all (validRoot layout (memoryOf block)) (roots layout block)
 
+-- the same by the layout that the block itself states
 abbrev pub sound : List ℕ → Bool
 sound block = soundWith (layoutOf block) block
 
@@ -49,6 +51,7 @@ slotted end one two three bits =
     ++ chainBytes 0x00000041 end
     ++ eightWords 0x0000003B one two three bits 0x00000006 0x00000000 0x00000001
 
+-- the cells that a block reaches
 abbrev reachedIn : List ℕ → List ℕ
 reachedIn block = reachable (layoutOf block) block
 

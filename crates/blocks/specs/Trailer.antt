@@ -46,6 +46,7 @@ zeroWordAt layout = trailerAt layout + 0x18
 abbrev pub editionOf : ℕ → ℕ
 editionOf cells = trailerOf cells + 0x1C
 
+-- the place of the edition where the layout is known
 abbrev pub editionAt : Layout → ℕ
 editionAt layout = editionOf (layout .cells)
 
@@ -57,9 +58,11 @@ layoutOf block = record { edition = wordAt block (editionOf (length block / 32))
 unfoldable pub badLength : ℕ → ℕ → Bool
 badLength least size = not (eqb (size % 32) 0) || ltb (size / 32) least || ltb cellLimit (size / 32)
 
+-- 01, answer 1, of a block by the layout that it states
 unfoldable pub badSize : List ℕ → Bool
 badSize block = badLength (leastCells (layoutOf block)) (length block)
 
+-- 01: "00-03 root pointer"
 unfoldable pub rootWord : Layout → List ℕ → ℕ
 rootWord layout block = wordAt block (rootAt layout)
 
@@ -71,6 +74,7 @@ slots layout = 3
 unfoldable pub validSlot : Layout → ℕ → Bool
 validSlot layout slot = leb 1 slot && leb slot (slots layout)
 
+-- 01: "04-0F marks 1, 2, 3, a word each"
 abbrev pub slotWord : Layout → List ℕ → ℕ → ℕ
 slotWord layout block slot = wordAt block (slotAt layout slot)
 
@@ -82,6 +86,7 @@ slotBits layout block = getD block (bitsAt layout) 0
 abbrev pub slotBit : ℕ → ℕ
 slotBit slot = 2 ^ (slot - 1)
 
+-- 01: "mark 1, 2, 3 held": its bit is set
 unfoldable pub inUse : Layout → List ℕ → ℕ → Bool
 inUse layout block slot = eqb (slotBits layout block / slotBit slot % 2) 1
 
@@ -117,6 +122,7 @@ pub lengths :
 unfolding badLength
 lengths = refl
 
+-- the same of blocks that are all zero
 pub sizes :
     _≡_ {A = List Bool}
     (map badSize (zeros 128 ∷ zeros 96 ∷ zeros 127 ∷ zeros 129 ∷ [] ∷ []))
@@ -128,6 +134,7 @@ sizes = refl
 abbrev four : Layout
 four = record { edition = 1; cells = 4 }
 
+-- the words of its trailer past the root, in their order
 abbrev trailing : ℕ → ℕ → ℕ → ℕ → ℕ → ℕ → ℕ → List ℕ
 trailing one two three bits cells spare edition = zeros 96 ++ eightWords 0x0000003B one two three bits cells spare edition
 

@@ -17,6 +17,7 @@ use Rattle.dosing.specs.Sheet.{sheetOf, validSection, validLength, valid
 abbrev low : Float
 low = fin true 25 (pos 2)
 
+-- just below it
 abbrev belowLow : Float
 belowLow = fin true 13107201 (negsuc 16)
 
@@ -24,6 +25,7 @@ belowLow = fin true 13107201 (negsuc 16)
 abbrev high : Float
 high = fin false 25 (pos 4)
 
+-- just above it
 abbrev aboveHigh : Float
 aboveHigh = fin false 13107201 (negsuc 14)
 
@@ -31,6 +33,7 @@ aboveHigh = fin false 13107201 (negsuc 14)
 abbrev half : Float
 half = fin false 1 (negsuc 0)
 
+-- just below it
 abbrev belowHalf : Float
 belowHalf = fin false 16777215 (negsuc 24)
 
@@ -38,6 +41,7 @@ belowHalf = fin false 16777215 (negsuc 24)
 abbrev pub hundred : Float
 hundred = fin false 25 (pos 2)
 
+-- just above it
 abbrev aboveHundred : Float
 aboveHundred = fin false 13107201 (negsuc 16)
 
@@ -45,6 +49,7 @@ aboveHundred = fin false 13107201 (negsuc 16)
 abbrev pub one : Float
 one = fin false 1 (pos 0)
 
+-- just below it
 abbrev belowOne : Float
 belowOne = fin false 16777215 (negsuc 23)
 
@@ -52,6 +57,7 @@ belowOne = fin false 16777215 (negsuc 23)
 abbrev tenThousand : Float
 tenThousand = fin false 625 (pos 4)
 
+-- just above it
 abbrev aboveTenThousand : Float
 aboveTenThousand = fin false 10240001 (negsuc 9)
 
@@ -59,6 +65,7 @@ aboveTenThousand = fin false 10240001 (negsuc 9)
 abbrev sixty : Float
 sixty = fin false 15 (pos 2)
 
+-- just above it
 abbrev aboveSixty : Float
 aboveSixty = fin false 15728641 (negsuc 17)
 
@@ -66,6 +73,7 @@ aboveSixty = fin false 15728641 (negsuc 17)
 abbrev pub beyond : Float → Float
 beyond number = Ieee.ofBits binary32 (Ieee.toBits binary32 number + 1)
 
+-- the next towards zero
 abbrev pub short : Float → Float
 short number = Ieee.ofBits binary32 (Ieee.toBits binary32 number - 1)
 

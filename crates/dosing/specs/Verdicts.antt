@@ -34,6 +34,7 @@ undated = shelf (0xFF ∷ 0xFF ∷ 0xFF ∷ 0xFF ∷ []) 4
 abbrev pub sheet : TemperatureGate → ProductSheet
 sheet gate = sheetOf gate (fin false 15 (pos 2)) (fin false 125 (pos 5))
 
+-- answer 0 with the 240 ml
 abbrev pub dosed : Verdict
 dosed = record { answer = 0; dose = fin false 15 (pos 4) }
 
@@ -45,12 +46,15 @@ refused number = record { answer = number; dose = fin false 0 (pos 0) }
 abbrev pub warm : ProductSheet
 warm = sheet (AtLeast (fin false 5 (pos 0)))
 
+-- 5 to 200
 abbrev mild : ProductSheet
 mild = sheet (Between (fin false 5 (pos 0)) (fin false 25 (pos 3)))
 
+-- a limit that is not a number
 abbrev unknown : ProductSheet
 unknown = sheet (AtLeast nan)
 
+-- a day by its three numbers
 abbrev pub on : ℕ → ℕ → ℕ → Date
 on day month year = dateOf (yearOf year) (monthOf month) (dayOf day)
 
@@ -58,12 +62,15 @@ on day month year = dateOf (yearOf year) (monthOf month) (dayOf day)
 abbrev pub four : Float
 four = fin false 1 (pos 2)
 
+-- 5
 abbrev pub five : Float
 five = fin false 5 (pos 0)
 
+-- 392
 abbrev pub hot : Float
 hot = fin false 49 (pos 3)
 
+-- 393
 abbrev pub hotter : Float
 hotter = fin false 393 (pos 0)
 

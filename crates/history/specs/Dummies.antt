@@ -20,6 +20,7 @@ use Rattle.history.specs.Calls.{Implementation}
 abbrev refuses : ℕ → List ℕ → Changed
 refuses number block = record { answer = number; block = block }
 
+-- a refused insertion
 abbrev refusesInsert : ℕ → List ℕ → Counted
 refusesInsert number block = record { answer = number; count = 0; block = block }
 
@@ -34,6 +35,7 @@ alwaysNo number =
       releaseCall = λ block slot. refuses number block;
     }
 
+-- the second formats, and refuses all else
 unfoldable pub onlyFormats : ℕ → Implementation
 onlyFormats number =
     record {
@@ -48,6 +50,7 @@ onlyFormats number =
 abbrev insertNothing : List ℕ → List ℕ → ℕ → Counted
 insertNothing block key value = let i = insert block key value in record { answer = i .answer; count = i .count; block = block }
 
+-- all other calls as ours
 unfoldable pub insertsNothing : Implementation
 insertsNothing = record { formatCall = format; insertCall = insertNothing; snapshotCall = snapshot; restoreCall = restore; releaseCall = release }
 
@@ -55,9 +58,11 @@ insertsNothing = record { formatCall = format; insertCall = insertNothing; snaps
 unfoldable pub rootlessBlock : Layout → List ℕ → ℕ → List ℕ
 rootlessBlock layout block slot = withSlotWord layout (withSlotBits layout block (withBit layout block slot)) slot 0
 
+-- it refuses as ours does
 abbrev rootlessSnapshot : List ℕ → ℕ → Changed
 rootlessSnapshot block slot = changedBy (slotRefusals block slot) block (rootlessBlock (layoutOf block) block slot)
 
+-- all other calls as ours
 unfoldable pub storesNoRoot : Implementation
 storesNoRoot = record { formatCall = format; insertCall = insert; snapshotCall = rootlessSnapshot; restoreCall = restore; releaseCall = release }
 
@@ -65,6 +70,7 @@ storesNoRoot = record { formatCall = format; insertCall = insert; snapshotCall =
 abbrev restoreNothing : List ℕ → ℕ → Changed
 restoreNothing block slot = record { answer = restore block slot .answer; block = block }
 
+-- all other calls as ours
 unfoldable pub restoresNothing : Implementation
 restoresNothing = record { formatCall = format; insertCall = insert; snapshotCall = snapshot; restoreCall = restoreNothing; releaseCall = release }
 
@@ -72,6 +78,7 @@ restoresNothing = record { formatCall = format; insertCall = insert; snapshotCal
 abbrev insertOvercounted : List ℕ → List ℕ → ℕ → Counted
 insertOvercounted block key value = let i = insert block key value in record { answer = i .answer; count = i .count + 1; block = i .block }
 
+-- all other calls as ours
 unfoldable pub inventsCount : Implementation
 inventsCount = record { formatCall = format; insertCall = insertOvercounted; snapshotCall = snapshot; restoreCall = restore; releaseCall = release }
 
@@ -79,6 +86,7 @@ inventsCount = record { formatCall = format; insertCall = insertOvercounted; sna
 abbrev cellZeroSnapshot : List ℕ → ℕ → Changed
 cellZeroSnapshot block slot = changedBy (slotRefusals block slot) block (set (snapshotBlock (layoutOf block) block slot) 0 0xFF)
 
+-- all other calls as ours
 unfoldable pub writesCellZero : Implementation
 writesCellZero = record { formatCall = format; insertCall = insert; snapshotCall = cellZeroSnapshot; restoreCall = restore; releaseCall = release }
 
@@ -91,10 +99,12 @@ copiedInto layout block word (cell ∷ cells) =
     cond (eqb word 0) (withRoot layout block word)
     (withRoot layout (written block (cellWrites cell (memoryOf block (word / 32)))) (cell * 32 + word % 32))
 
+-- it refuses as ours does
 abbrev restoreByCopy : List ℕ → ℕ → Changed
 restoreByCopy block slot =
     let layout = layoutOf block in
     changedBy (usedSlotRefusals block slot) block (copiedInto layout block (slotWord layout block slot) (free layout block))
 
+-- all other calls as ours
 unfoldable pub restoresByCopy : Implementation
 restoresByCopy = record { formatCall = format; insertCall = insert; snapshotCall = snapshot; restoreCall = restoreByCopy; releaseCall = release }

@@ -16,6 +16,7 @@ use Rattle.nodes.specs.Split.{gather, under, splitCell, endCells, midCel
 use Rattle.nodes.specs.Prefix.{validPrefix}
 use Rattle.nodes.specs.Node.{chainNode, plain, readAt, read}
 
+-- bytes, words, order words and nodes
 unfoldable pub nodesOpen : Unit {0}
 unfolding bind zeros words wordAt memoryOf occurrences all distinct digits eachOnce place validDigits rising trailerCells validEdition usable byKind pointer chainChild someWord everyWord sparseDigits validSparse childFrom gather under splitCell endCells midCells headCells wordBelow splitChild validPrefix chainNode plain readAt read
 nodesOpen = tt

@@ -41,8 +41,8 @@ cellLimit = 2048
 abbrev pub six : Layout
 six = record { edition = 1; cells = 6 }
 
--- 01: "n from 4 to 2,048", "Labels have 1 to 48 bytes."
-pub limits : _≡_ {A = List ℕ} (leastCells six ∷ cellLimit ∷ keyLimit ∷ []) (4 ∷ 2048 ∷ 48 ∷ [])
+-- 01: "n from 4 to 2,048"
+pub limits : _≡_ {A = List ℕ} (leastCells six ∷ cellLimit ∷ []) (4 ∷ 2048 ∷ [])
 unfolding trailerCells
 limits = refl
 

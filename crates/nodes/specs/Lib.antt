@@ -9,3 +9,4 @@ pub mod Node
 pub mod Value
 pub mod Computing
 pub mod Code
+pub mod Meaning

@@ -20,6 +20,7 @@ use Rattle.nodes.specs.Prefix.{prefixValue, prefixLink, prefixCells, val
 use Rattle.nodes.specs.Written.{words, eightWords, chainBytes, sparseBytes, prefixBytes, headBytes, branchBytes}
 use mathlib.Core.Bool.{cond}
 
+-- a node of any kind in one shape
 pub record Node : Type 0 where
   pub value : Option ℕ
   pub cells : List ℕ  -- the cells that the node visits; 01: "enters"
@@ -30,6 +31,7 @@ pub record Node : Type 0 where
 abbrev pub childless : Option ℕ → Node
 childless value = record { value = value; cells = []; footprint = []; child = λ _. 0 }
 
+-- the child words of a node with one child
 abbrev pub oneChild : ℕ → ℕ → ℕ → ℕ
 oneChild character word x = cond (eqb x character) word 0
 
@@ -43,9 +45,11 @@ chainNode bytes cell place =
       child = oneChild (chainCharacter bytes place) (chainChild bytes cell place);
     }
 
+-- the node of a sparse cell
 abbrev pub sparseNode : List ℕ → ℕ → Node
 sparseNode bytes cell = record { value = none; cells = cell ∷ []; footprint = cell ∷ []; child = sparseChild bytes }
 
+-- the node of a split, with the cells of its mids and ends
 abbrev pub splitNode : Memory → ℕ → List ℕ → Node
 splitNode m cell below = record { value = none; cells = cell ∷ below; footprint = cell ∷ below; child = splitChild m cell }
 

@@ -10,6 +10,7 @@ use Rattle.cells.specs.Word.{wordAt}
 use Rattle.nodes.specs.Layout.{Layout, six}
 use Rattle.nodes.specs.Written.{words, prefixBytes}
 
+-- 01: "value at 00-03"
 abbrev pub prefixValue : List ℕ → ℕ
 prefixValue bytes = wordAt bytes 0
 
@@ -21,6 +22,7 @@ prefixLink cell bytes = wordAt bytes 0x1C
 abbrev pub prefixCells : ℕ → List ℕ → List ℕ
 prefixCells cell bytes = cell ∷ []
 
+-- 01: "(top bit clear), FF at 04"
 unfoldable pub validPrefix : Layout → List ℕ → Bool
 validPrefix layout bytes = ltb (prefixValue bytes) 0x80000000 && eqb (getD bytes 4 0) 0xFF
 

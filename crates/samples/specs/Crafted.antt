@@ -20,6 +20,7 @@ pub record Pair : Type 0 where
   pub broken : List ℕ
   pub mended : List ℕ
 
+-- a pair by its two blocks
 abbrev pub pair : List ℕ → List ℕ → Pair
 pair broken mended = record { broken = broken; mended = mended }
 

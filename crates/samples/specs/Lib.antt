@@ -9,3 +9,4 @@ pub mod Crafted
 pub mod Unsound
 pub mod UnsoundTrees
 pub mod UnsoundTrailer
+pub mod Builds

@@ -20,17 +20,20 @@ pub data Says : Type 0 where
   answerOn : ℕ → ℕ → ℕ → Says  -- the verdict of a day: year, month, day
   dose degrees : Says
 
+-- a value of any kind that the samples speak of
 pub data Value : Type 0 where
   number : ℕ → Value
   bytes : List ℕ → Value
   truth : Bool → Value
   float : Float → Value
 
+-- one line of the samples: which, what of it, and the value
 pub record Line : Type 0 where
   pub sample : Letter
   pub says : Says
   pub value : Value
 
+-- a line by its three parts
 abbrev pub line : Letter → Says → Value → Line
 line sample says value = record { sample = sample; says = says; value = value }
 

@@ -44,13 +44,16 @@ pub record SlotCall : Type 0 where
   pub present : Table
   pub held : ℕ → Table
 
+-- 01: "Marking sets a slot to the present root (a held slot is overwritten)."
 abbrev pub snapshotCall : List ℕ → ℕ → SlotCall
 snapshotCall b slot = record { barred = false; fields = snapshotFields b slot; present = shown b; held = replacedAt (slotShown b) slot (shown b) }
 
+-- 01: "Going back sets the root to a held mark, which stays held."
 abbrev pub restoreCall : List ℕ → ℕ → SlotCall
 restoreCall b slot =
     record { barred = not (inUse (layoutOf b) b slot); fields = restoreFields b slot; present = slotShown b slot; held = slotShown b }
 
+-- 01: "Dropping clears the slot."
 abbrev pub releaseCall : List ℕ → ℕ → SlotCall
 releaseCall b slot =
     record { barred = not (inUse (layoutOf b) b slot); fields = releaseFields b slot; present = shown b; held = slotShown b }

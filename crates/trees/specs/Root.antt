@@ -8,7 +8,7 @@ use Rattle.cells.specs.Bytes.{zeros}
 use Rattle.cells.specs.Memory.{Memory, memoryOf}
 use Rattle.cells.specs.Occurrences.{distinct}
 use Rattle.nodes.specs.Layout.{Layout, keyLimit, six}
-use Rattle.nodes.specs.Written.{eightWords, chainBytes, sparseBytes}
+use Rattle.nodes.specs.Written.{chainBytes, sparseBytes}
 use Rattle.nodes.specs.Computing.{nodesOpen}
 use Rattle.nodes.specs.Pointer.{Pointer, pointer}
 use Rattle.nodes.specs.Pointer.Pointer.{nothing, leaf, chain, split, sparse, prefix, invalid}
@@ -37,6 +37,7 @@ onceVisited (some cells) = distinct cells
 abbrev pub validRoot : Layout → Memory → ℕ → Bool
 validRoot layout m word = onceVisited (rootTree layout m word)
 
+-- the cells found, none where a rule is broken
 unfoldable pub cellsOf : Option (List ℕ) → List ℕ
 cellsOf none = []
 cellsOf (some cells) = cells
@@ -79,16 +80,3 @@ pub visited-twice :
     (true ∷ false ∷ false ∷ [])
 unfolding nodesOpen spread step tree isRoot rootTree onceVisited
 visited-twice = refl
-
--- two chain cells of 41, the first whole, the second from the place that this word names on
-abbrev longPath : ℕ → Memory
-longPath second =
-    memoryOf (zeros 32 ++ eightWords 0x41414141 0x41414141 0x41414141 0x41414141 0x41414141 0x41414141 0x41414141 second ++ eightWords 0x41414141 0x41414141 0x41414141 0x41414141 0x41414141 0x41414141 0x41414141 0xFFFFFFFF)
-
--- 01: "No path has more than 48 characters.": 28 and 20, 28 and 21
-pub long-paths :
-    _≡_ {A = List (Option (List ℕ))}
-    (rootTree six (longPath 0x00000048) 0x00000020 ∷ rootTree six (longPath 0x00000047) 0x00000020 ∷ [])
-    (some (1 ∷ 2 ∷ []) ∷ none ∷ [])
-unfolding nodesOpen spread step tree isRoot rootTree
-long-paths = refl

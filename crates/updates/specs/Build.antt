@@ -29,6 +29,7 @@ unfoldable pub putBack : Layout → (ℕ → ℕ) → Option ℕ → Built → B
 putBack layout number none b = b
 putBack layout number (some value) b = allocate number 0x1F (prefixCell value (b .word)) (b .cells)
 
+-- the child word of a node that was read, NONE where there is no node
 unfoldable pub childOf : Option Node → ℕ → ℕ
 childOf none x = 0
 childOf (some node) x = node .child x
