@@ -14,4 +14,5 @@ pub mod FreeWrites
 pub mod WriteCalls
 pub mod Determined
 pub mod MeantBlock
+pub mod InsertZeros
 pub mod Proved

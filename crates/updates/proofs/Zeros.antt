@@ -1,0 +1,4 @@
+-- The steps to `BuildZeros`.
+pub mod Known
+pub mod SplitZeros
+pub mod NodeZeros
