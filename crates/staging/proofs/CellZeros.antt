@@ -75,7 +75,7 @@ without-zero (suc count) from s i whole most low high = elim (ℕ-discrete i (24
 
 pub copy-zero : (s : List ℕ) (i : ℕ) → length s ≡ 32 → 24 + sparseCount s ≤ i → i < 30 → getD (sparseCopy s) i 0 ≡ 0
 unfolding sparseCopy
-copy-zero s i whole low high = without-zero (6 - sparseCount s) (sparseCount s) s i whole (omega arith) low (omega arith)
+copy-zero s i whole low high = without-zero _ _ s i whole (omega arith) low (omega arith)
 
 -- a split's head: the bytes before its words, copied or new
 pub head-copy-zero : (s : List ℕ) (at word i : ℕ) → i < 16 → 16 ≤ at → getD (withWord (headCopy s) at word) i 0 ≡ 0

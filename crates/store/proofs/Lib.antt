@@ -1,3 +1,4 @@
+pub mod Computed
 pub mod CallAnswers
 pub mod Free
 pub mod Format
