@@ -2,3 +2,4 @@
 pub mod Known
 pub mod SplitZeros
 pub mod NodeZeros
+pub mod Junk

@@ -99,7 +99,8 @@ module _ (number : ℕ → ℕ) (n : Numbering number) where
         let later : Row = rows make count (i + 1) (make i cells .cells) in
         let words : ℕ → ℕ = λ j. cond (eqb j i) made (later .words j) in
         let here : words i ≡ made = rw (eq-eqb i i refl) in
-        let there : (j : ℕ) → i + 1 ≤ j → words j ≡ later .words j = λ j low. let other : j ≢ i = omega arith in rw (ne-eqb j i other) in
+        let there : (j word : ℕ) → i + 1 ≤ j → later .words j ≡ word → words j ≡ word =
+        λ j word low is. let other : j ≢ i = omega arith in rw (ne-eqb j i other) is in
         let first : EachClean number (Either (Either P (Made role made)) (Left (i + 1))) (make i cells .cells) =
         known-else number n (Either (Either P (Left (i + 1))) (Made role made)) (Either (Either P (Made role made)) (Left (i + 1)))
         (λ to word some small h. ⊎-elim (λ p. ⊎-elim (λ q. inl (inl q)) (λ l. inr l) p) (λ a. inl (inr a)) h) (make i cells .cells) (law i P cells each) in
@@ -108,7 +109,7 @@ module _ (number : ℕ → ℕ) (n : Numbering number) where
         (λ to word some small h.
         ⊎-elim
         (λ p. ⊎-elim (λ q. ⊎-elim (λ o. inl (inl o)) (λ a. inr (a .0, i, omega arith, omega arith, here ∙ a .1)) q) (λ l. inl (inr l)) p)
-        (λ a. inr (a .0, a .1, omega (arith, a .2), omega (arith, a .3), there (a .1) (a .2) ∙ a .4)) h)
+        (λ a. inr (a .0, a .1, omega (arith, a .2), omega (arith, a .3), there (a .1) word (a .2) (a .4))) h)
         (later .cells) (rows-each count (i + 1) end (omega arith) (Either P (Made role made)) (make i cells .cells) first)
 
   -- an end, where what is left leads from it or is left still
