@@ -8,6 +8,9 @@
  * Every call judges the whole block and all that it is told, whatever comes in, and answers with the lowest number below that
  * applies. On every answer but REGISTER_DONE the block stays byte for byte and the number beside the answer is zero.
  *
+ * C cuts a number wider than a parameter before the call: the year 4,294,969,321 in 64 bits would arrive as 2025 and be taken for it.
+ * Judge wider numbers yourself before you hand them over.
+ *
  * A pointer to bytes stands before the number of bytes; it may be NULL where that is 0. The last pointer of a call leads to one
  * number, is never NULL and is written on every answer. The block, the bytes and that number do not overlap.
  */

@@ -1,4 +1,5 @@
-"""Checks that definitions and the contracts of the calls rest on no definition that is there for the code alone."""
+"""Checks that definitions and the contracts of the calls rest on no definition that is there for the code alone, and that each
+definition has a line above it that says what it is."""
 
 import re
 import sys
@@ -14,6 +15,7 @@ CALLS = {
     "crates/dosing/src/verdict.rt": ["verdict"],
     "crates/firmware/src/lib.rt": ["register_insert", "register_get", "register_verdict"],
 }
+DEFINITION = re.compile(r"^(?:unfoldable|abbrev|pub record|pub data)\b(?! mutual)")
 IMPORT = re.compile(r"^(?:ghost )?use Rattle·\w+(?:·specs)?\.specs\.(?P<module>[\w.]+)\.\{(?P<names>[^}]*)\}", re.M)
 
 
@@ -34,6 +36,17 @@ def definitions():
                 yield f"{path} uses {name}, which is there for the code alone"
 
 
+def unsaid():
+    """Definitions outside specs/Code with no comment above them."""
+    for path in sorted(Path("crates").glob("*/specs/*.antt")):
+        above = ""
+        for number, line in enumerate(path.read_text().split("\n"), 1):
+            if DEFINITION.match(line) and not above.startswith("--"):
+                yield f"{path}:{number} does not say what it defines"
+            if not line.startswith("infix"):
+                above = line
+
+
 def contracts():
     """Calls with a precondition, with no contract, or whose contract cites a definition that is there for the code alone."""
     for file, functions in CALLS.items():
@@ -50,7 +63,7 @@ def contracts():
                     yield f"{file}: the contract of {function} cites {name}, which is there for the code alone"
 
 
-found = [*definitions(), *contracts()]
+found = [*definitions(), *unsaid(), *contracts()]
 for line in found:
     print(f"audit: {line}")
 if found:

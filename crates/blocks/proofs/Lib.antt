@@ -12,4 +12,6 @@ pub mod RefusalSteps
 pub mod Proved
 pub mod TrailerWrites
 pub mod After
+pub mod Left
 pub mod Determined
+pub mod FixedAnswers

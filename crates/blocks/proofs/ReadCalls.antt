@@ -151,7 +151,7 @@ module _ (b key : List ℕ) (valid : sound b ≡ true) where
   parts : RootParts (layoutOf b) (memoryOf b) (rootWord (layoutOf b) b)
   parts = root-parts (layoutOf b) (memoryOf b) (rootWord (layoutOf b) b) (sound-parts (layoutOf b) b valid .root)
 
-  least-above : (e : Entry) → nextEntry key (shownEntries b) ≡ some e → LeastAbove b key (e .key)
+  pub least-above : (e : Entry) → nextEntry key (shownEntries b) ≡ some e → LeastAbove b key (e .key)
   least-above e next =
       let at = rootWord (layoutOf b) b in
       record {
@@ -160,7 +160,7 @@ module _ (b key : List ℕ) (valid : sound b ≡ true) where
         least = next-shown-least (layoutOf b) (memoryOf b) keyLimit at (parts .cells) (parts .found) key e next;
       }
 
-  none-above : nextEntry key (shownEntries b) ≡ none → (k : List ℕ) → keyBefore key k ≡ true → shown b k ≡ none
+  pub none-above : nextEntry key (shownEntries b) ≡ none → (k : List ℕ) → keyBefore key k ≡ true → shown b k ≡ none
   none-above = none-shown (layoutOf b) (memoryOf b) keyLimit (rootWord (layoutOf b) b) (parts .cells) (parts .found) key
 
   none-next : ((k : List ℕ) → keyBefore key k ≡ true → shown b k ≡ none) → nextEntry key (shownEntries b) ≡ none

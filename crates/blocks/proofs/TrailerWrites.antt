@@ -29,7 +29,7 @@ idle-replaced false e new kept = kept e
 
 -- the root set
 module _ (b : List ℕ) (s : Sized b) (v : ℕ) where
-  root-byte : (i : ℕ) → (i < rootAt (layoutOf b)) ⊎ (rootAt (layoutOf b) + 4 ≤ i) → getD (withRoot (layoutOf b) b v) i 0 ≡ getD b i 0
+  pub root-byte : (i : ℕ) → (i < rootAt (layoutOf b)) ⊎ (rootAt (layoutOf b) + 4 ≤ i) → getD (withRoot (layoutOf b) b v) i 0 ≡ getD b i 0
   root-byte i far = byte-other b (rootAt (layoutOf b)) v i far
 
   pub root-written : validTrailer (layoutOf b) b ≡ true → v < 4294967296
@@ -59,7 +59,7 @@ module _ (b : List ℕ) (s : Sized b) (slot v w : ℕ) (is-slot : validSlot (lay
   slot-block-bytes bytes small = withWord-bytes _ _ w (set-bytes b (bitsAt (layoutOf b)) v bytes small)
 
   -- bytes outside both are as they were
-  slot-block-byte : (i : ℕ) → i ≢ bitsAt (layoutOf b) → (i < slotAt (layoutOf b) slot) ⊎ (slotAt (layoutOf b) slot + 4 ≤ i)
+  pub slot-block-byte : (i : ℕ) → i ≢ bitsAt (layoutOf b) → (i < slotAt (layoutOf b) slot) ⊎ (slotAt (layoutOf b) slot + 4 ≤ i)
       → getD (slotBlock b slot v w) i 0 ≡ getD b i 0
   slot-block-byte i other far =
       byte-other (withSlotBits (layoutOf b) b v) (slotAt (layoutOf b) slot) w i far ∙ getD-set-other b (bitsAt (layoutOf b)) i v 0 other

@@ -36,6 +36,7 @@ changeNumber (ChangeAnswer.Refused refusal) = refusalNumber refusal
 abbrev pub changedOutcome : ChangeAnswer → List ℕ → Changed
 changedOutcome answer block = record { answer = changeNumber answer; block = block }
 
+-- the same of an answer that counts cells
 abbrev pub countNumber : CountAnswer → ℕ
 countNumber (CountAnswer.Done count) = 0
 countNumber (CountAnswer.Refused refusal) = refusalNumber refusal
@@ -45,10 +46,12 @@ abbrev pub countedOutcome : CountAnswer → List ℕ → Counted
 countedOutcome (CountAnswer.Done count) block = record { answer = 0; count = count; block = block }
 countedOutcome (CountAnswer.Refused refusal) block = record { answer = refusalNumber refusal; count = 0; block = block }
 
+-- 01: "A no returns zeros beside its number": the value is 0 then
 abbrev pub foundOutcome : GetAnswer → Found
 foundOutcome (GetAnswer.Value value) = record { answer = 0; value = value }
 foundOutcome (GetAnswer.Refused refusal) = record { answer = refusalNumber refusal; value = 0 }
 
+-- the answer of the next key; the code fills in the zeros of a no itself
 abbrev pub nextOutcome : NextAnswer → Next
 nextOutcome next = record { answer = changeNumber (next .answer); size = next .size; key = next .key }
 

@@ -5,5 +5,7 @@ pub mod Refusal
 pub mod Read
 pub mod Tables
 pub mod After
+pub mod Left
 pub mod Answers
+pub mod Computing
 pub mod Code

@@ -14,6 +14,7 @@ use Rattle.blocks.specs.Trailer.{badSize, layoutOf, rootWord}
 use Rattle.blocks.specs.Sound.{sound}
 use Rattle.blocks.specs.Refusal.{Refusal, refusal, firstRefusal, badKey, overLong}
 
+-- 01, answer 11: "no such .., or no next one": there is nothing
 unfoldable pub missing : {A : Type 0} → Option A → Bool
 missing none = true
 missing (some a) = false
@@ -30,10 +31,12 @@ validate block = firstRefusal (blockRefusals block)
 abbrev pub shown : List ℕ → Table
 shown block key = lookup (layoutOf block) (memoryOf block) (rootWord (layoutOf block) block) key
 
+-- what a look-up answers: the number and the value beside it
 pub record Found : Type 0 where
   pub answer : ℕ
   pub value : ℕ
 
+-- the value beside an answer, 0 where there is none
 unfoldable pub valueOr : Option ℕ → ℕ
 valueOr none = 0
 valueOr (some value) = value
@@ -52,6 +55,7 @@ get block key =
 abbrev pub shownEntries : List ℕ → List Entry
 shownEntries block = entries (layoutOf block) (memoryOf block) keyLimit (rootWord (layoutOf block) block)
 
+-- what the next key answers: the number, the length and the 48 bytes
 pub record Next : Type 0 where
   pub answer : ℕ
   pub size : ℕ
@@ -61,6 +65,7 @@ pub record Next : Type 0 where
 unfoldable pub padded : List ℕ → List ℕ
 padded key = take keyLimit (key ++ zeros keyLimit)
 
+-- the key beside an answer, empty where there is none
 unfoldable pub keyOr : Option Entry → List ℕ
 keyOr none = []
 keyOr (some entry) = entry .key

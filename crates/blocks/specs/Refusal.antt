@@ -11,6 +11,7 @@ pub record Refusal : Type 0 where
   pub number : ℕ
   pub applies : Bool
 
+-- a refusal by its number and its situation
 abbrev pub refusal : ℕ → Bool → Refusal
 refusal number applies = record { number = number; applies = applies }
 
@@ -40,6 +41,7 @@ changedBy refusals block new =
 unfoldable pub overLong : List ℕ → Bool
 overLong key = ltb keyLimit (length key)
 
+-- 01, answer 3, where the empty label is refused too
 unfoldable pub badKey : List ℕ → Bool
 badKey key = eqb (length key) 0 || overLong key
 

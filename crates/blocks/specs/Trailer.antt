@@ -1,11 +1,14 @@
 -- The trailer. 01: "Cell n-1 is the trailer and points back."
-use mathlib.Core.Bool.{Bool, true, _&&_, _||_, not}
-use mathlib.Core.List.{List}
+use mathlib.Core.Path.{_≡_, refl}
+use mathlib.Core.Bool.{Bool, true, false, _&&_, _||_, not}
+use mathlib.Core.List.{List, [], _∷_, _++_, map}
 use Prim.Native.Nat.{ℕ, zero, suc, _+_, _-_, _*_, _/_, _%_, _^_}
 use lib.Dec.{leb, ltb, eqb}
 use lib.ListN.{length, getD}
+use Rattle.cells.specs.Bytes.{zeros}
 use Rattle.cells.specs.Word.{wordAt}
-use Rattle.nodes.specs.Layout.{Layout, leastCells, validEdition, cellLimit}
+use Rattle.nodes.specs.Layout.{Layout, trailerCells, leastCells, validEdition, cellLimit}
+use Rattle.nodes.specs.Written.{words, eightWords}
 
 -- where the last of so many cells begins
 abbrev pub trailerOf : ℕ → ℕ
@@ -43,6 +46,7 @@ zeroWordAt layout = trailerAt layout + 0x18
 abbrev pub editionOf : ℕ → ℕ
 editionOf cells = trailerOf cells + 0x1C
 
+-- the place of the edition where the layout is known
 abbrev pub editionAt : Layout → ℕ
 editionAt layout = editionOf (layout .cells)
 
@@ -54,9 +58,11 @@ layoutOf block = record { edition = wordAt block (editionOf (length block / 32))
 unfoldable pub badLength : ℕ → ℕ → Bool
 badLength least size = not (eqb (size % 32) 0) || ltb (size / 32) least || ltb cellLimit (size / 32)
 
+-- 01, answer 1, of a block by the layout that it states
 unfoldable pub badSize : List ℕ → Bool
 badSize block = badLength (leastCells (layoutOf block)) (length block)
 
+-- 01: "00-03 root pointer"
 unfoldable pub rootWord : Layout → List ℕ → ℕ
 rootWord layout block = wordAt block (rootAt layout)
 
@@ -68,6 +74,7 @@ slots layout = 3
 unfoldable pub validSlot : Layout → ℕ → Bool
 validSlot layout slot = leb 1 slot && leb slot (slots layout)
 
+-- 01: "04-0F marks 1, 2, 3, a word each"
 abbrev pub slotWord : Layout → List ℕ → ℕ → ℕ
 slotWord layout block slot = wordAt block (slotAt layout slot)
 
@@ -79,6 +86,7 @@ slotBits layout block = getD block (bitsAt layout) 0
 abbrev pub slotBit : ℕ → ℕ
 slotBit slot = 2 ^ (slot - 1)
 
+-- 01: "mark 1, 2, 3 held": its bit is set
 unfoldable pub inUse : Layout → List ℕ → ℕ → Bool
 inUse layout block slot = eqb (slotBits layout block / slotBit slot % 2) 1
 
@@ -105,3 +113,65 @@ validTrailer layout block =
     && eqb (wordAt block (cellsAt layout)) (layout .cells)
     && zeroFrom block (zeroWordAt layout) 4
     && validEdition (layout .edition)
+
+-- 01: "length no multiple of 32, or n outside 4 to 2,048": 4 and 2,048 cells; 3 and 2,049; a byte less, a byte more, none
+pub lengths :
+    _≡_ {A = List Bool}
+    (map (badLength 4) (128 ∷ 65536 ∷ 96 ∷ 65568 ∷ 127 ∷ 129 ∷ 0 ∷ []))
+    (false ∷ false ∷ true ∷ true ∷ true ∷ true ∷ true ∷ [])
+unfolding badLength
+lengths = refl
+
+-- the same of blocks that are all zero
+pub sizes :
+    _≡_ {A = List Bool}
+    (map badSize (zeros 128 ∷ zeros 96 ∷ zeros 127 ∷ zeros 129 ∷ [] ∷ []))
+    (false ∷ true ∷ true ∷ true ∷ true ∷ [])
+unfolding zeros wordAt trailerCells layoutOf badLength badSize
+sizes = refl
+
+-- a block of four cells with this trailer
+abbrev four : Layout
+four = record { edition = 1; cells = 4 }
+
+-- the words of its trailer past the root, in their order
+abbrev trailing : ℕ → ℕ → ℕ → ℕ → ℕ → ℕ → ℕ → List ℕ
+trailing one two three bits cells spare edition = zeros 96 ++ eightWords 0x0000003B one two three bits cells spare edition
+
+-- 01's table of trailer bytes: the root, then the words of the slots 1, 2 and 3
+pub trailer-words :
+    _≡_ {A = List ℕ}
+    (rootWord four (trailing 0x0000005A 0x0000005B 0x0000003A 0x07000000 4 0 1)
+    ∷ map (slotWord four (trailing 0x0000005A 0x0000005B 0x0000003A 0x07000000 4 0 1)) (1 ∷ 2 ∷ 3 ∷ []))
+    (0x0000003B ∷ 0x0000005A ∷ 0x0000005B ∷ 0x0000003A ∷ [])
+unfolding zeros words wordAt slotAt rootWord
+trailer-words = refl
+
+-- the slots in use, by the byte at 10
+abbrev used : ℕ → List Bool
+used bits = map (inUse four (trailing 0 0 0 bits 4 0 1)) (1 ∷ 2 ∷ 3 ∷ [])
+
+-- 01: "bits 0, 1, 2: mark 1, 2, 3 held"
+pub slot-bits :
+    _≡_ {A = List (List Bool)}
+    (map used (0x01000000 ∷ 0x02000000 ∷ 0x04000000 ∷ 0x05000000 ∷ []))
+    ((true ∷ false ∷ false ∷ []) ∷ (false ∷ true ∷ false ∷ []) ∷ (false ∷ false ∷ true ∷ []) ∷ (true ∷ false ∷ true ∷ []) ∷ [])
+unfolding zeros words inUse
+slot-bits = refl
+
+-- a trailer as it must be; a word with no bit and with its bit; another bit; a byte at 13, n 5, a byte at 1B, edition 2
+pub trailers :
+    _≡_ {A = List Bool}
+    (map (λ block. validTrailer (layoutOf block) block)
+    (trailing 0 0 0 0x00000000 0x00000004 0x00000000 0x00000001
+    ∷ trailing 0 0 0x0000003B 0x00000000 0x00000004 0x00000000 0x00000001
+    ∷ trailing 0 0 0x0000003B 0x04000000 0x00000004 0x00000000 0x00000001
+    ∷ trailing 0 0 0 0x08000000 0x00000004 0x00000000 0x00000001
+    ∷ trailing 0 0 0 0x00000001 0x00000004 0x00000000 0x00000001
+    ∷ trailing 0 0 0 0x00000000 0x00000005 0x00000000 0x00000001
+    ∷ trailing 0 0 0 0x00000000 0x00000004 0x00000001 0x00000001
+    ∷ trailing 0 0 0 0x00000000 0x00000004 0x00000000 0x00000002
+    ∷ []))
+    (true ∷ false ∷ true ∷ false ∷ false ∷ false ∷ false ∷ false ∷ [])
+unfolding zeros words wordAt validEdition layoutOf slots slotAt inUse everySlot zeroFrom validTrailer
+trailers = refl

@@ -1,7 +1,7 @@
 -- Dates of 01's samples and the edges beside them, computed. Assumes nothing.
 use Prim.Native.Nat.{ℕ}
 use mathlib.Core.Bool.{true, not}
-use mathlib.Core.List.{[], _∷_}
+use mathlib.Core.List.{[], _∷_, map}
 use mathlib.Core.Path.{_≡_, refl}
 use lib.Dec.{eqb}
 use lib.ListN.{replicate}
@@ -32,6 +32,7 @@ pub examples :
     ∷ isDate (written 29 2 2024)
     ∷ isDate (written 29 2 2100)
     ∷ not (isDate (written 29 2 2001))
+    ∷ not (isDate (written 29 2 2022))
     ∷ not (isDate (written 30 2 2024))
     ∷ isDate (written 1 1 2000)
     ∷ not (isDate (written 31 12 1999))
@@ -50,6 +51,15 @@ pub examples :
     ∷ not (isDate (unpackedDate 1037223))
     ∷ not (isDate (unpackedDate 4294967295))
     ∷ [])
-    ≡ replicate 29 true
+    ≡ replicate 30 true
 unfolding februaryDays daysOfMonth isDate isAfter
 examples = refl
+
+-- the twelve months of 2022 and of 2024, and the months before and after them
+pub months :
+    (map (λ (m : ℕ). daysOfMonth (yearOf 2022) (monthOf m)) (0 ∷ 1 ∷ 2 ∷ 3 ∷ 4 ∷ 5 ∷ 6 ∷ 7 ∷ 8 ∷ 9 ∷ 10 ∷ 11 ∷ 12 ∷ 13 ∷ [])
+    ∷ map (λ (m : ℕ). daysOfMonth (yearOf 2024) (monthOf m)) (1 ∷ 2 ∷ 3 ∷ [])
+    ∷ [])
+    ≡ ((0 ∷ 31 ∷ 28 ∷ 31 ∷ 30 ∷ 31 ∷ 30 ∷ 31 ∷ 31 ∷ 30 ∷ 31 ∷ 30 ∷ 31 ∷ 0 ∷ []) ∷ (31 ∷ 29 ∷ 31 ∷ []) ∷ [])
+unfolding februaryDays daysOfMonth
+months = refl

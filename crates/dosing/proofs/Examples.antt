@@ -1,37 +1,22 @@
--- Examples computed on the definitions: K and L of 01, every limit met exactly and just missed, and what is no number. Assumes nothing.
+-- Examples computed on the definitions: K and L of 01, a gate's limits met exactly and just missed, and what is no number. The limits
+-- of 01's own numbers stand in specs/Limits. Assumes nothing.
 use mathlib.Core.Path.{_≡_, refl}
 use mathlib.Core.Bool.{Bool, true, false}
 use mathlib.Core.List.{List, [], _∷_, map}
-use Prim.Native.Nat.{_+_, _-_}
 use lib.IntN.{pos}
 use lib.Ieee as Ieee
-use lib.Ieee.{Float, binary32, nan, inf, fin}
-use Rattle.dosing.specs.Temperature.{whole, _⊘_, scaleLow, scaleHigh, onScale, toCelsius, celsius, validReading, validGate, inGate}
-use Rattle.dosing.specs.Sheet.{sheetOf, half, validSection, validLength, validSheet, doseOf}
+use lib.Ieee.{Float, nan, inf, fin}
+use Rattle.dosing.specs.Temperature.{whole, _⊘_, onScale, toCelsius, celsius, validReading, validGate, inGate}
+use Rattle.dosing.specs.Sheet.{sheetOf, validSection, validLength, validSheet, doseOf}
+use Rattle.dosing.specs.Limits.{one, hundred, beyond, short}
 use Rattle.dosing.specs.declared.temperature.Reading.the-variants.{Celsius, Fahrenheit}
 use Rattle.dosing.specs.declared.temperature.TemperatureGate.the-variants.{Any, AtLeast, Between}
-
--- The next binary32 number away from zero, and the next towards it.
-abbrev beyond : Float → Float
-beyond number = Ieee.ofBits binary32 (Ieee.toBits binary32 number + 1)
-
-abbrev short : Float → Float
-short number = Ieee.ofBits binary32 (Ieee.toBits binary32 number - 1)
 
 abbrev minusZero : Float
 minusZero = fin true 0 (pos 0)
 
 abbrev zero : Float
 zero = whole (pos 0)
-
-abbrev one : Float
-one = whole (pos 1)
-
-abbrev tenThousand : Float
-tenThousand = whole (pos 10000)
-
-abbrev hundred : Float
-hundred = whole (pos 100)
 
 -- Doses and conversions, among them one of each that would come out otherwise if it were divided first.
 pub numbers :
@@ -60,18 +45,8 @@ numbers = refl
 
 abbrev accepted : List Bool
 accepted =
-    validSheet (sheetOf Any half one)
-    ∷ validSheet (sheetOf Any hundred tenThousand)
-    ∷ validSheet (sheetOf (Between scaleLow scaleHigh) one one)
-    ∷ validSheet (sheetOf (AtLeast scaleLow) one one)
-    ∷ validSheet (sheetOf (AtLeast scaleHigh) one one)
-    ∷ validGate (Between one one)
-    ∷ validGate (Between zero minusZero)
+    validGate (Between zero minusZero)
     ∷ validGate (AtLeast minusZero)
-    ∷ validReading (Celsius scaleLow)
-    ∷ validReading (Celsius scaleHigh)
-    ∷ validReading (Fahrenheit scaleLow)
-    ∷ validReading (Fahrenheit scaleHigh)
     ∷ validReading (Celsius minusZero)
     ∷ inGate Any nan
     ∷ inGate (AtLeast one) one
@@ -92,11 +67,7 @@ all-accepted = refl
 
 abbrev rejected : List Bool
 rejected =
-    validSheet (sheetOf Any (short half) one)
-    ∷ validSheet (sheetOf Any (beyond hundred) one)
-    ∷ validSheet (sheetOf Any one (short one))
-    ∷ validSheet (sheetOf Any one (beyond tenThousand))
-    ∷ validSheet (sheetOf Any nan one)
+    validSheet (sheetOf Any nan one)
     ∷ validSheet (sheetOf Any (inf false) one)
     ∷ validSheet (sheetOf Any (inf true) one)
     ∷ validSheet (sheetOf Any one nan)
@@ -105,21 +76,12 @@ rejected =
     ∷ validSheet (sheetOf Any minusZero one)
     ∷ validSheet (sheetOf (Between hundred one) one one)
     ∷ validSheet (sheetOf (AtLeast nan) one one)
-    ∷ validGate (Between (beyond one) one)
-    ∷ validGate (Between (beyond scaleLow) one)
-    ∷ validGate (Between one (beyond scaleHigh))
     ∷ validGate (Between nan one)
     ∷ validGate (Between one nan)
     ∷ validGate (Between (inf true) one)
     ∷ validGate (Between one (inf false))
-    ∷ validGate (AtLeast (beyond scaleLow))
-    ∷ validGate (AtLeast (beyond scaleHigh))
     ∷ validGate (AtLeast (inf true))
     ∷ validGate (AtLeast (inf false))
-    ∷ validReading (Celsius (beyond scaleLow))
-    ∷ validReading (Celsius (beyond scaleHigh))
-    ∷ validReading (Fahrenheit (beyond scaleLow))
-    ∷ validReading (Fahrenheit (beyond scaleHigh))
     ∷ validReading (Celsius nan)
     ∷ validReading (Fahrenheit nan)
     ∷ validReading (Celsius (inf true))

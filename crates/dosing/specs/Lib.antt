@@ -4,4 +4,6 @@ pub mod Sheet
 pub mod Verdict
 pub mod Answers
 pub mod Tables
+pub mod Limits
+pub mod Verdicts
 pub mod Code

@@ -34,9 +34,11 @@ Holds block label Of = (value : ℕ) × ((shown block label ≡ some value) × O
 abbrev pub NoDate : ℕ → Type 0
 NoDate value = isDate (unpackedDate value) ≡ false
 
+-- it is a date, and today is after it
 abbrev pub ExpiredOn : Date → ℕ → Type 0
 ExpiredOn today value = (isDate (unpackedDate value) ≡ true) × (isAfter today (unpackedDate value) ≡ true)
 
+-- it is a date, and today is not after it; 01: "A cartridge is good through its expiry day."
 abbrev pub GoodOn : Date → ℕ → Type 0
 GoodOn today value = (isDate (unpackedDate value) ≡ true) × (isAfter today (unpackedDate value) ≡ false)
 

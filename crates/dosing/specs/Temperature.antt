@@ -19,10 +19,12 @@ infixl 6 _⊖_
 abbrev pub _⊖_ : Float → Float → Float
 a ⊖ b = Ieee.sub binary32 a b
 
+-- the product
 infixl 7 _⊗_ _⊘_
 abbrev pub _⊗_ : Float → Float → Float
 a ⊗ b = Ieee.mul binary32 a b
 
+-- the quotient
 abbrev pub _⊘_ : Float → Float → Float
 a ⊘ b = Ieee.div binary32 a b
 
@@ -34,6 +36,7 @@ within low high number = Ieee.le low number && Ieee.le number high
 abbrev pub scaleLow : Float
 scaleLow = whole (negℤ (pos 100))
 
+-- the upper end
 abbrev pub scaleHigh : Float
 scaleHigh = whole (pos 400)
 

@@ -14,6 +14,7 @@ use Rattle.dosing.specs.declared.sheet.ProductSheet.{ProductSheet}
 use Rattle.dosing.specs.Temperature.{whole, celsius, validReading, inGate}
 use Rattle.dosing.specs.Sheet.{validSheet, doseOf}
 
+-- what the verdict answers: the number and the dose in millilitres beside it
 pub record Verdict : Type 0 where
   pub answer : ℕ
   pub dose : Float
@@ -42,6 +43,7 @@ verdictOf refusals sheet =
     let answer = firstRefusal refusals in
     record { answer = answer; dose = cond (eqb answer 0) (doseOf sheet) (whole (pos 0)) }
 
+-- 01: "whether a cartridge may be dosed now", of a block, a label, today, a reading and a sheet
 unfoldable pub verdict : List ℕ → List ℕ → Date → Reading → ProductSheet → Verdict
 verdict block label today reading sheet =
     verdictOf

@@ -2,4 +2,7 @@
 pub mod NamedKinds
 pub mod NumberSteps
 pub mod EveryChoice
+pub mod Judged
+pub mod NumbersLaw
+pub mod UnusedLimits
 pub mod Proved

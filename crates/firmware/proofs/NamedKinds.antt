@@ -57,7 +57,7 @@ module _ (unit : ℕ) (degrees : Float) where
   reading-unnamed a b = rw (ne-eqb unit 1 a, ne-eqb unit 2 b)
 
 -- no sheet and no reading may be off the scale
-off-scale : onScale offScale ≡ false
+pub off-scale : onScale offScale ≡ false
 unfolding onScale Ieee.ofInt Ieee.le
 off-scale = refl
 

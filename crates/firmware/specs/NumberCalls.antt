@@ -22,6 +22,7 @@ use Rattle.firmware.specs.Choices.{Choices}
 abbrev pub insertNumbers : List ℕ → List ℕ → ℕ → Counted
 insertNumbers block key value = insert block key value
 
+-- look-up, by the numbers and bytes that it has already
 abbrev pub getNumbers : List ℕ → List ℕ → Found
 getNumbers block key = get block key
 
@@ -32,6 +33,7 @@ gateOf choices kind low high =
     (cond (eqb kind (choices .atLeastGate)) (some (AtLeast (cond (choices .atLeastIsLow) low high)))
     (cond (eqb kind (choices .betweenGate)) (some (Between low high)) none))
 
+-- the reading of a unit's number, where it names one
 unfoldable pub readingOf : Choices → ℕ → Float → Option Reading
 readingOf choices unit degrees =
     cond (eqb unit (choices .celsiusUnit)) (some (Celsius degrees))
@@ -47,6 +49,7 @@ unfoldable pub badReadingNumbers : Option Reading → Bool
 badReadingNumbers none = true
 badReadingNumbers (some reading) = not (validReading reading)
 
+-- 01, answer 14, where gate and reading are named
 unfoldable pub outsideNumbers : Option TemperatureGate → Option Reading → Bool
 outsideNumbers none reading = true
 outsideNumbers (some gate) none = true
@@ -60,10 +63,12 @@ pub record SheetNumbers : Type 0 where
   pub section : Float
   pub extent : Float
 
+-- what the C call is told of the reading
 pub record ReadingNumbers : Type 0 where
   pub unit : ℕ
   pub degrees : Float
 
+-- the verdict by numbers; what names nothing is refused at its place in the order
 unfoldable pub verdictNumbers : Choices → List ℕ → List ℕ → ℕ → ℕ → ℕ → ReadingNumbers → SheetNumbers → Verdict
 verdictNumbers choices block label year month day r s =
     let gate = gateOf choices (s .kind) (s .low) (s .high) in

@@ -1,4 +1,4 @@
--- None of the dummies meets demand 3: each is refuted by a list of one to three calls on a block of four cells.
+-- None of the dummies meets demand 3: each is refuted by a list of one to four calls on a block of four or eight cells.
 use mathlib.Core.Path.{_≡_, refl, sym, ap, _∙_}
 use mathlib.Core.Logic.{_≢_}
 use mathlib.Core.Bool.{true, false}
@@ -10,11 +10,13 @@ use native.Mathlib.Omega.{arith}
 use lib.ListN.{length, getD}
 use borrow.Author.Tests.{ne-eqb}
 use Rattle.cells.specs.Bytes.{IsBytes, zeros}
+use Rattle.cells.specs.Memory.{memoryOf}
 use Rattle.cells.proofs.Choice.{never}
 use Rattle.cells.proofs.Words.{set-bytes, bytes-zeros}
 use Rattle.trees.specs.Lookup.{emptyTable, sameKey, assign, update}
-use Rattle.nodes.specs.Layout.{trailerCells}
-use Rattle.blocks.specs.Trailer.{badLength, layoutOf, slots, validSlot}
+use Rattle.nodes.specs.Layout.{trailerCells, isTrailer}
+use Rattle.blocks.specs.Trailer.{badLength, layoutOf, rootWord, slots, validSlot, slotWord}
+use Rattle.blocks.specs.Sound.{sound}
 use Rattle.blocks.specs.Refusal.{overLong, badKey, badNewKey, badValue}
 use Rattle.blocks.specs.Refusal.{Changed}
 use Rattle.blocks.specs.Read.{shown}
@@ -23,10 +25,10 @@ use Rattle.store.specs.Insert.{cellsFree, cellsToInsert, blockBuild}
 use Rattle.snapshots.specs.Computing.{snapshotsOpen}
 use Rattle.store.specs.Computing.{callsOpen}
 use Rattle.store.proofs.Format.{format-done}
-use Rattle.history.specs.Calls.{Call, inserting, snapshotting, restoring, outcome, run, answersOf}
+use Rattle.history.specs.Calls.{Call, inserting, snapshotting, restoring, Outcome, outcome, run, answersOf}
 use Rattle.history.specs.Ledger.{emptyLedger, noteInsert, ledgerSlot, noteSnapshot, noteHeld, noteRestore, noteCall, ledgerAfter, ledgerAnswers, gotNoRoom, fedBy}
 use Rattle.history.specs.Demand3.{ledgerBeside, Demand3}
-use Rattle.history.specs.Dummies.{alwaysNo, onlyFormats, insertsNothing, rootlessBlock, storesNoRoot, restoresNothing, inventsCount}
+use Rattle.history.specs.Dummies.{alwaysNo, onlyFormats, insertsNothing, rootlessBlock, storesNoRoot, restoresNothing, inventsCount, writesCellZero, copiedInto, restoresByCopy}
 use Rattle.blocks.specs.After.{slotShown}
 
 -- a key of one letter, a fresh block of four cells, and the lists of calls
@@ -140,3 +142,49 @@ unfolding inventsCount run
 invents-count-refuted d =
     let laid = d .atCall (zeros 128) formats [] insertOne [] (letter-bytes, tt) .kind .laid (count-invented .0) in
     omega (arith, laid .counted, count-invented .1, count-invented .2)
+
+-- a snapshot that writes cell 0: the cell is none of the trailer's, and its first byte was 0
+cell-zero-written :
+    (outcome writesCellZero fresh (snapshotting 1) .answer ≡ 0)
+    × (isTrailer (layoutOf fresh) 0 ≡ false)
+    × (getD (memoryOf (outcome writesCellZero fresh (snapshotting 1) .block) 0) 0 0 ≡ 0xFF)
+    × (getD (memoryOf fresh 0) 0 0 ≡ 0)
+unfolding listsOpen isTrailer writesCellZero
+cell-zero-written = (refl, refl, refl, refl)
+
+pub writes-cell-zero-refuted : Demand3 writesCellZero → ⊥
+unfolding writesCellZero run
+writes-cell-zero-refuted d =
+    let kept = d .atCall (zeros 128) formats [] (snapshotting 1) [] (tt, tt) .kind (cell-zero-written .0) .cells 0 (cell-zero-written .1) in
+    omega (arith, ap (λ (l : List ℕ). getD l 0 0) kept, cell-zero-written .2, cell-zero-written .3)
+
+-- a restore by a copy: the block is sound and shows the key with the value of the slot, and the root is another one
+abbrev freshEight : List ℕ
+freshEight = format (zeros 256) .block
+
+eight-sized : badNewSize 1 (zeros 256) ≡ false
+unfolding trailerCells badLength zeros
+eight-sized = refl
+
+abbrev beforeCopy : List Call
+beforeCopy = insertOne ∷ snapshotting 1 ∷ inserting letter 1 ∷ []
+
+abbrev copied : Outcome
+copied = outcome restoresByCopy (run restoresByCopy freshEight beforeCopy) (restoring 1)
+
+restored-by-copy :
+    (copied .answer ≡ 0)
+    × (rootWord (layoutOf (run restoresByCopy freshEight beforeCopy)) (copied .block) ≡ 0x7B)
+    × (slotWord (layoutOf (run restoresByCopy freshEight beforeCopy)) (run restoresByCopy freshEight beforeCopy) 1 ≡ 0x3B)
+    × (sound (copied .block) ≡ true)
+    × (shown (copied .block) letter ≡ some 0)
+unfolding listsOpen copiedInto restoresByCopy
+restored-by-copy = (refl, refl, refl, refl, refl)
+
+pub restores-by-copy-refuted : Demand3 restoresByCopy → ⊥
+unfolding restoresByCopy
+restores-by-copy-refuted d =
+    let root =
+    d .atCall (zeros 256) (format-done (zeros 256) eight-sized) beforeCopy (restoring 1) [] (letter-bytes, (tt, (letter-bytes, (tt, tt))))
+    .kind (restored-by-copy .0) .root in
+    omega (arith, root, restored-by-copy .1, restored-by-copy .2)

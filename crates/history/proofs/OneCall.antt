@@ -22,7 +22,7 @@ use Rattle.store.specs.Insert.{cellsToInsert, noRoom, blockBuild, insert}
 use Rattle.store.specs.Laid.{MayInsert}
 use Rattle.snapshots.specs.Snapshots.{snapshot, restore, release}
 use Rattle.store.proofs.InsertCall.{insert-after, insert-laid, insert-answer, insert-seven, insert-refused, insert-refused-count}
-use Rattle.snapshots.proofs.SnapshotCalls.{snapshot-law, snapshot-answer, snapshot-refused, restore-law, restore-answer, restore-refused, release-law, release-answer, release-refused}
+use Rattle.snapshots.proofs.SnapshotCalls.{snapshot-law, snapshot-left, snapshot-answer, snapshot-refused, restore-law, restore-left, restore-answer, restore-refused, release-law, release-left, release-answer, release-refused}
 use Rattle.history.specs.Calls.{Call, inserting, snapshotting, restoring, releasing, ours, outcome, counted, KeyIsBytes}
 use Rattle.history.specs.Ledger.{Ledger, Noted, unaltered, done, withHeld, noteInsert, ledgerSlot, noteSnapshot, noteHeld, noteRestore, noteRelease, noteCall, gotNoRoom}
 use Rattle.history.specs.Demand3.{AtBuild, AtKind, AtCall}
@@ -158,9 +158,9 @@ insert-at b key value bytes is-bytes =
 pub kind-at : (b : List ℕ) → IsBytes b → (call : Call) → KeyIsBytes call → AtKind b call (outcome ours b call)
 unfolding outcome ours
 kind-at b bytes (inserting key value) is-bytes = insert-at b key value bytes is-bytes
-kind-at b bytes (snapshotting slot) is-bytes = tt
-kind-at b bytes (restoring slot) is-bytes = tt
-kind-at b bytes (releasing slot) is-bytes = tt
+kind-at b bytes (snapshotting slot) is-bytes = snapshot-left b slot bytes
+kind-at b bytes (restoring slot) is-bytes = restore-left b slot bytes
+kind-at b bytes (releasing slot) is-bytes = release-left b slot bytes
 
 -- a refusal counts nothing
 no-count : (b : List ℕ) (call : Call) → outcome ours b call .answer ≢ 0 → outcome ours b call .count ≡ 0

@@ -32,12 +32,15 @@ pub record Outcome : Type 0 where
   pub count : ℕ
   pub block : List ℕ
 
+-- the outcome of a call that counts nothing
 abbrev pub uncounted : Changed → Outcome
 uncounted c = record { answer = c .answer; count = 0; block = c .block }
 
+-- the outcome of a call that counts cells
 abbrev pub counted : Counted → Outcome
 counted i = record { answer = i .answer; count = i .count; block = i .block }
 
+-- what an implementation makes of one call
 unfoldable pub outcome : Implementation → List ℕ → Call → Outcome
 outcome impl block (inserting key value) = counted (impl .insertCall block key value)
 outcome impl block (snapshotting slot) = uncounted (impl .snapshotCall block slot)
@@ -61,6 +64,7 @@ KeyIsBytes (snapshotting slot) = Unit {0}
 KeyIsBytes (restoring slot) = Unit {0}
 KeyIsBytes (releasing slot) = Unit {0}
 
+-- the same of a list of calls
 abbrev pub KeysAreBytes : List Call → Type 0
 KeysAreBytes [] = Unit {0}
 KeysAreBytes (call ∷ calls) = KeyIsBytes call × KeysAreBytes calls

@@ -13,6 +13,8 @@ use Rattle.updates.specs.Built.{Built}
 use Rattle.blocks.specs.Trailer.{badSize, layoutOf, slots, validSlot, slotWord, inUse}
 use Rattle.blocks.specs.Sound.{sound, reachable}
 use Rattle.blocks.specs.Read.{shown}
+use Rattle.blocks.specs.Left.{SlotFields, SlotLeft}
+use Rattle.snapshots.specs.Tables.{snapshotFields, restoreFields, releaseFields}
 use Rattle.store.specs.Format.{format}
 use Rattle.store.specs.Insert.{cellsToInsert, blockBuild}
 use Rattle.store.specs.Laid.{Laid, Lacks, MayInsert}
@@ -37,6 +39,7 @@ pub record Agrees (block : List ℕ) (ledger : Ledger) : Type 0 where
 abbrev pub ledgerBeside : Implementation → List ℕ → List Call → Ledger
 ledgerBeside impl fresh calls = ledgerAfter (slots (layoutOf fresh)) emptyLedger (fedBy impl fresh calls)
 
+-- what is claimed after a list of calls
 pub record AfterList (impl : Implementation) (fresh : List ℕ) (calls : List Call) : Type 0 where
   -- 00: "each call's answer number is the one that the ledger written out in 01 gives"
   pub answers : answersOf impl fresh calls ≡ ledgerAnswers (slots (layoutOf fresh)) emptyLedger (fedBy impl fresh calls)
@@ -48,12 +51,21 @@ pub record AtBuild (block key : List ℕ) (MayAsk : Type 0) (needed : ℕ) (buil
   pub lacks : o .answer ≡ 7 → Lacks block MayAsk needed
   pub full : Lacks block MayAsk needed → o .answer ≡ 7
 
+-- a call on a slot: where it is done it leaves these fields and every other byte as it was
+abbrev pub AtSlot : List ℕ → SlotFields → Outcome → Type 0
+AtSlot block fields o = o .answer ≡ 0 → SlotLeft block (o .block) fields
+
+-- what is claimed of a call by its kind
 abbrev pub AtKind : List ℕ → Call → Outcome → Type 0
 AtKind block (inserting key value) o = AtBuild block key (MayInsert key value) (cellsToInsert block key) (blockBuild block key value) o
-AtKind block (snapshotting slot) o = Unit {0}
-AtKind block (restoring slot) o = Unit {0}
-AtKind block (releasing slot) o = Unit {0}
+-- 01: "Marking sets a slot to the present root (a held slot is overwritten)."
+AtKind block (snapshotting slot) o = AtSlot block (snapshotFields block slot) o
+-- 01: "Going back sets the root to a held mark, which stays held."
+AtKind block (restoring slot) o = AtSlot block (restoreFields block slot) o
+-- 01: "Dropping clears the slot."
+AtKind block (releasing slot) o = AtSlot block (releaseFields block slot) o
 
+-- what is claimed of each call of a list, as it ends
 pub record AtCall (impl : Implementation) (block : List ℕ) (call : Call) : Type 0 where
   -- 00: "A cell that the root or a held mark reaches as a call begins holds the same bytes when that call ends."
   pub kept : (c : ℕ) → 1 ≤ occurrences c (reachable (layoutOf block) block) → memoryOf (outcome impl block call .block) c ≡ memoryOf block c

@@ -1,19 +1,26 @@
 -- Implementations that do not do what 01 asks. 01: "These dummies have to fall"; that none of them meets demand 3 is proved.
-use mathlib.Core.List.{List}
-use Prim.Native.Nat.{ℕ, _+_}
+use mathlib.Core.Bool.{cond}
+use mathlib.Core.List.{List, [], _∷_}
+use Prim.Native.Nat.{ℕ, _+_, _*_, _/_, _%_}
+use lib.Dec.{eqb}
+use lib.ListN.{set}
+use Rattle.cells.specs.Memory.{memoryOf}
+use Rattle.cells.specs.Writes.{written, cellWrites}
 use Rattle.nodes.specs.Layout.{Layout}
-use Rattle.blocks.specs.Trailer.{layoutOf}
-use Rattle.blocks.specs.TrailerWrites.{withSlotWord, withSlotBits}
+use Rattle.blocks.specs.Trailer.{layoutOf, slotWord}
+use Rattle.blocks.specs.TrailerWrites.{withRoot, withSlotWord, withSlotBits}
 use Rattle.blocks.specs.Refusal.{Changed, changedBy, Counted}
 use Rattle.store.specs.Format.{format}
+use Rattle.store.specs.Free.{free}
 use Rattle.store.specs.Insert.{insert}
-use Rattle.snapshots.specs.Snapshots.{withBit, slotRefusals, snapshot, restore, release}
+use Rattle.snapshots.specs.Snapshots.{withBit, slotRefusals, usedSlotRefusals, snapshotBlock, snapshot, restore, release}
 use Rattle.history.specs.Calls.{Implementation}
 
 -- a refusal of any call
 abbrev refuses : ℕ → List ℕ → Changed
 refuses number block = record { answer = number; block = block }
 
+-- a refused insertion
 abbrev refusesInsert : ℕ → List ℕ → Counted
 refusesInsert number block = record { answer = number; count = 0; block = block }
 
@@ -28,6 +35,7 @@ alwaysNo number =
       releaseCall = λ block slot. refuses number block;
     }
 
+-- the second formats, and refuses all else
 unfoldable pub onlyFormats : ℕ → Implementation
 onlyFormats number =
     record {
@@ -42,6 +50,7 @@ onlyFormats number =
 abbrev insertNothing : List ℕ → List ℕ → ℕ → Counted
 insertNothing block key value = let i = insert block key value in record { answer = i .answer; count = i .count; block = block }
 
+-- all other calls as ours
 unfoldable pub insertsNothing : Implementation
 insertsNothing = record { formatCall = format; insertCall = insertNothing; snapshotCall = snapshot; restoreCall = restore; releaseCall = release }
 
@@ -49,9 +58,11 @@ insertsNothing = record { formatCall = format; insertCall = insertNothing; snaps
 unfoldable pub rootlessBlock : Layout → List ℕ → ℕ → List ℕ
 rootlessBlock layout block slot = withSlotWord layout (withSlotBits layout block (withBit layout block slot)) slot 0
 
+-- it refuses as ours does
 abbrev rootlessSnapshot : List ℕ → ℕ → Changed
 rootlessSnapshot block slot = changedBy (slotRefusals block slot) block (rootlessBlock (layoutOf block) block slot)
 
+-- all other calls as ours
 unfoldable pub storesNoRoot : Implementation
 storesNoRoot = record { formatCall = format; insertCall = insert; snapshotCall = rootlessSnapshot; restoreCall = restore; releaseCall = release }
 
@@ -59,6 +70,7 @@ storesNoRoot = record { formatCall = format; insertCall = insert; snapshotCall =
 abbrev restoreNothing : List ℕ → ℕ → Changed
 restoreNothing block slot = record { answer = restore block slot .answer; block = block }
 
+-- all other calls as ours
 unfoldable pub restoresNothing : Implementation
 restoresNothing = record { formatCall = format; insertCall = insert; snapshotCall = snapshot; restoreCall = restoreNothing; releaseCall = release }
 
@@ -66,5 +78,33 @@ restoresNothing = record { formatCall = format; insertCall = insert; snapshotCal
 abbrev insertOvercounted : List ℕ → List ℕ → ℕ → Counted
 insertOvercounted block key value = let i = insert block key value in record { answer = i .answer; count = i .count + 1; block = i .block }
 
+-- all other calls as ours
 unfoldable pub inventsCount : Implementation
 inventsCount = record { formatCall = format; insertCall = insertOvercounted; snapshotCall = snapshot; restoreCall = restore; releaseCall = release }
+
+-- a snapshot that, where it is done, also sets byte 0; 01: "Cell 0 is never used."
+abbrev cellZeroSnapshot : List ℕ → ℕ → Changed
+cellZeroSnapshot block slot = changedBy (slotRefusals block slot) block (set (snapshotBlock (layoutOf block) block slot) 0 0xFF)
+
+-- all other calls as ours
+unfoldable pub writesCellZero : Implementation
+writesCellZero = record { formatCall = format; insertCall = insert; snapshotCall = cellZeroSnapshot; restoreCall = restore; releaseCall = release }
+
+-- a restore that, where it is done, copies the cell that the slot's word names into the first free cell and sets the root to the copy,
+-- of the same kind; as ours where the table is empty or no cell is free. The block is sound and shows the slot's table, and every
+-- cell that was reached keeps its bytes: only the fields exclude it.
+unfoldable pub copiedInto : Layout → List ℕ → ℕ → List ℕ → List ℕ
+copiedInto layout block word [] = withRoot layout block word
+copiedInto layout block word (cell ∷ cells) =
+    cond (eqb word 0) (withRoot layout block word)
+    (withRoot layout (written block (cellWrites cell (memoryOf block (word / 32)))) (cell * 32 + word % 32))
+
+-- it refuses as ours does
+abbrev restoreByCopy : List ℕ → ℕ → Changed
+restoreByCopy block slot =
+    let layout = layoutOf block in
+    changedBy (usedSlotRefusals block slot) block (copiedInto layout block (slotWord layout block slot) (free layout block))
+
+-- all other calls as ours
+unfoldable pub restoresByCopy : Implementation
+restoresByCopy = record { formatCall = format; insertCall = insert; snapshotCall = snapshot; restoreCall = restoreByCopy; releaseCall = release }

@@ -31,6 +31,7 @@ pub record Noted : Type 0 where
 abbrev pub unaltered : ℕ → Ledger → Noted
 unaltered answer ledger = record { answer = answer; ledger = ledger }
 
+-- a step that is done, with the ledger it leaves
 abbrev pub done : Ledger → Noted
 done ledger = record { answer = 0; ledger = ledger }
 

@@ -9,12 +9,15 @@ use Rattle.snapshots.specs.Computing.{snapshotsOpen}
 use Rattle.store.specs.Computing.{callsOpen}
 use Rattle.history.specs.Calls.{Call, inserting, snapshotting, restoring, releasing, ours, outcome, run, answersOf}
 
+-- a key of one letter
 abbrev letter : List ℕ
 letter = 0x41 ∷ []
 
+-- 01: "fresh 4"
 abbrev fresh : List ℕ
 fresh = format (zeros 128) .block
 
+-- the root word of a block
 abbrev rootOf : List ℕ → ℕ
 rootOf block = rootWord (layoutOf block) block
 
@@ -26,6 +29,7 @@ held = inserting letter 0 ∷ snapshotting 1 ∷ inserting letter 1 ∷ []
 abbrev whileHeld : List Call
 whileHeld = held ++ inserting letter 2 ∷ []
 
+-- the snapshot released before the last insertion
 abbrev onceReleased : List Call
 onceReleased = held ++ releasing 1 ∷ inserting letter 2 ∷ []
 
@@ -33,6 +37,7 @@ onceReleased = held ++ releasing 1 ∷ inserting letter 2 ∷ []
 abbrev refusedCalls : List Call
 refusedCalls = inserting [] 0 ∷ inserting letter 2147483648 ∷ snapshotting 0 ∷ snapshotting 4 ∷ restoring 1 ∷ releasing 3 ∷ []
 
+-- the answers of each list, then the root words after each
 pub worked :
     _≡_ {A = List (List ℕ)}
     (answersOf ours fresh whileHeld

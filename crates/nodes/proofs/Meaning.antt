@@ -1,5 +1,4 @@
--- 01: "Bytes with no meaning aren't judged." Which bytes of a cell have a meaning, by the kind that it is read as, and that two
--- cells that are alike at these are judged and read alike.
+-- 01: "Bytes with no meaning aren't judged.": two cells that are alike at the bytes with a meaning are judged and read alike.
 use mathlib.Core.Path.{_≡_, refl, sym, ap, _∙_}
 use mathlib.Core.Logic.{_⊎_, inl, inr}
 use mathlib.Core.Bool.{Bool, true, false, _&&_, not, cond}
@@ -15,6 +14,7 @@ use Rattle.order_words.specs.Digits.{orderDigits}
 use Rattle.order_words.specs.Order.{validDigits, rising}
 use Rattle.order_words.proofs.Rising.{map-same}
 use Rattle.order_words.proofs.Valid.{at-most-six, digit-below}
+use Rattle.nodes.specs.Meaning.{InChain, InSparse, InHead, InBranch, InPrefix}
 use Rattle.nodes.specs.Chain.{chainCharacter, chainChild}
 use Rattle.nodes.specs.Sparse.{someWord, everyWord, sparseWord, sparseCharacter, sparseDigits, sparseCount, validSparse, childFrom, sparseChild}
 use Rattle.nodes.specs.Split.{headWord, branchWord, validHead, validBranch}
@@ -22,25 +22,6 @@ use Rattle.nodes.specs.Layout.{Layout}
 use Rattle.nodes.specs.Prefix.{prefixValue, prefixLink, validPrefix}
 use Rattle.nodes.proofs.Chain.{chain-child-inside}
 use Rattle.nodes.proofs.SparseNodes.SparseSteps.{count-small}
-
--- a chain: the characters from the place named on, and the word where the run ends
-abbrev pub InChain : ℕ → ℕ → Type 0
-InChain place i = (place ≤ i) × (i < 32)
-
--- a sparse cell of so many children: the six child words, as many characters, the order word
-abbrev pub InSparse : ℕ → ℕ → Type 0
-InSparse count i = (i < 24 + count) ⊎ ((30 ≤ i) × (i < 32))
-
--- a split's head: its four words; a mid and an end: all eight
-abbrev pub InHead : ℕ → Type 0
-InHead i = (16 ≤ i) × (i < 32)
-
-abbrev pub InBranch : ℕ → Type 0
-InBranch i = i < 32
-
--- a prefix: its value, the byte FF, the linked pointer
-abbrev pub InPrefix : ℕ → Type 0
-InPrefix i = (i < 5) ⊎ ((28 ≤ i) × (i < 32))
 
 -- two cells are alike at some offsets
 abbrev pub Alike : (ℕ → Type 0) → List ℕ → List ℕ → Type 0

@@ -21,7 +21,8 @@ use Rattle.nodes.specs.Node.{Node, oneChild, chainNode, splitNode, prefi
 use Rattle.nodes.proofs.Pointers.{names}
 use Rattle.nodes.proofs.Gather.{gather-at, under-word}
 use Rattle.nodes.proofs.Frame.{Like, like-refl, split-cell, below-zero, below-split, end-cut, mid-cut, mid-ends, head-is}
-use Rattle.nodes.proofs.Meaning.{InChain, InSparse, InHead, InBranch, InPrefix, Alike}
+use Rattle.nodes.specs.Meaning.{InChain, InSparse, InHead, InBranch, InPrefix}
+use Rattle.nodes.proofs.Meaning.{Alike}
 use Rattle.nodes.proofs.Meaning.{chain-character-alike, chain-child-alike, valid-sparse-alike, sparse-child-alike}
 use Rattle.nodes.proofs.Meaning.{head-word-alike, valid-head-alike, branch-word-alike, valid-branch-alike}
 use Rattle.nodes.proofs.Meaning.{prefix-value-alike, prefix-link-alike, valid-prefix-alike}

@@ -1,5 +1,7 @@
 -- What a block's edition and size decide. Every definition that reads or writes a layout takes it.
-use mathlib.Core.Bool.{Bool, _&&_}
+use mathlib.Core.Path.{_≡_, refl}
+use mathlib.Core.Bool.{Bool, true, false, _&&_}
+use mathlib.Core.List.{List, [], _∷_, map}
 use Prim.Native.Nat.{ℕ, _+_, _-_}
 use lib.Dec.{leb, ltb, eqb}
 
@@ -34,3 +36,17 @@ keyLimit = 48
 -- 01: "n from 4 to 2,048"
 abbrev pub cellLimit : ℕ
 cellLimit = 2048
+
+-- a block of six cells, for the computed examples
+abbrev pub six : Layout
+six = record { edition = 1; cells = 6 }
+
+-- 01: "n from 4 to 2,048"
+pub limits : _≡_ {A = List ℕ} (leastCells six ∷ cellLimit ∷ []) (4 ∷ 2048 ∷ [])
+unfolding trailerCells
+limits = refl
+
+-- 01: "edition, 1"
+pub editions : _≡_ {A = List Bool} (map validEdition (0 ∷ 1 ∷ 2 ∷ 3 ∷ [])) (false ∷ true ∷ false ∷ false ∷ [])
+unfolding validEdition
+editions = refl

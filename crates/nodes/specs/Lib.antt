@@ -1,4 +1,5 @@
 pub mod Layout
+pub mod Written
 pub mod Pointer
 pub mod Chain
 pub mod Sparse
@@ -6,4 +7,6 @@ pub mod Split
 pub mod Prefix
 pub mod Node
 pub mod Value
+pub mod Computing
 pub mod Code
+pub mod Meaning

@@ -1,18 +1,26 @@
 -- One node, read from its cells: every kind becomes one shape.
-use mathlib.Core.List.{List, [], _∷_, _++_}
+use mathlib.Core.Path.{_≡_, refl}
+use mathlib.Core.List.{List, [], _∷_, _++_, map}
 use mathlib.Core.Option.{Option, none, some, bind}
 use Prim.Native.Nat.{ℕ}
 use lib.Dec.{eqb}
-use Rattle.cells.specs.Memory.{Memory}
-use Rattle.nodes.specs.Layout.{Layout}
-use Rattle.nodes.specs.Pointer.{Pointer, pointer}
+use Rattle.cells.specs.Bytes.{zeros}
+use Rattle.cells.specs.Word.{wordAt}
+use Rattle.cells.specs.Memory.{Memory, memoryOf}
+use Rattle.cells.specs.Occurrences.{occurrences, all}
+use Rattle.order_words.specs.Digits.{digits}
+use Rattle.order_words.specs.Order.{eachOnce, place, validDigits, rising}
+use Rattle.nodes.specs.Layout.{Layout, trailerCells, usable, six}
+use Rattle.nodes.specs.Pointer.{Pointer, byKind, pointer}
 use Rattle.nodes.specs.Pointer.Pointer.{nothing, leaf, chain, split, sparse, prefix, invalid}
 use Rattle.nodes.specs.Chain.{chainCharacter, chainChild}
-use Rattle.nodes.specs.Sparse.{validSparse, sparseChild}
-use Rattle.nodes.specs.Split.{validHead, headCells, splitChild}
+use Rattle.nodes.specs.Sparse.{someWord, everyWord, sparseDigits, validSparse, childFrom, sparseChild}
+use Rattle.nodes.specs.Split.{gather, under, splitCell, endCells, midCells, validHead, headCells, wordBelow, splitChild}
 use Rattle.nodes.specs.Prefix.{prefixValue, prefixLink, prefixCells, validPrefix}
+use Rattle.nodes.specs.Written.{words, eightWords, chainBytes, sparseBytes, prefixBytes, headBytes, branchBytes}
 use mathlib.Core.Bool.{cond}
 
+-- a node of any kind in one shape
 pub record Node : Type 0 where
   pub value : Option ℕ
   pub cells : List ℕ  -- the cells that the node visits; 01: "enters"
@@ -23,6 +31,7 @@ pub record Node : Type 0 where
 abbrev pub childless : Option ℕ → Node
 childless value = record { value = value; cells = []; footprint = []; child = λ _. 0 }
 
+-- the child words of a node with one child
 abbrev pub oneChild : ℕ → ℕ → ℕ → ℕ
 oneChild character word x = cond (eqb x character) word 0
 
@@ -36,9 +45,11 @@ chainNode bytes cell place =
       child = oneChild (chainCharacter bytes place) (chainChild bytes cell place);
     }
 
+-- the node of a sparse cell
 abbrev pub sparseNode : List ℕ → ℕ → Node
 sparseNode bytes cell = record { value = none; cells = cell ∷ []; footprint = cell ∷ []; child = sparseChild bytes }
 
+-- the node of a split, with the cells of its mids and ends
 abbrev pub splitNode : Memory → ℕ → List ℕ → Node
 splitNode m cell below = record { value = none; cells = cell ∷ below; footprint = cell ∷ below; child = splitChild m cell }
 
@@ -71,3 +82,54 @@ readAt layout m invalid = none
 -- the node that a word names
 unfoldable pub read : Layout → Memory → ℕ → Option Node
 read layout m word = readAt layout m (pointer layout word)
+
+-- the cells that a node visits, then its child words of 41 and 43: read at a word of a block with these cells 1, 2 and 3
+abbrev readIn : List ℕ → List ℕ → List ℕ → ℕ → Option (List ℕ)
+readIn one two three word =
+    bind (read six (memoryOf (zeros 32 ++ one ++ two ++ three)) word) (λ node. some (node .cells ++ (node .child 0x41 ∷ node .child 0x43 ∷ [])))
+
+-- what a prefix in cell 1 with this link reads as: cell 2 is a sparse cell, cell 3 a prefix over it
+abbrev linked : ℕ → Option (List ℕ)
+linked link =
+    readIn (prefixBytes 5 0xFF000000 link) (sparseBytes 0xFFFFFFFE 0xFFFFFFFD 0 0x41430000 0x00000006) (prefixBytes 7 0xFF000000 0x0000005E) 0x0000003F
+
+-- 01: "A prefix links to a chain, sparse or split.": a sparse cell, NONE, a leaf, a prefix, kind 1D
+pub prefix-links :
+    _≡_ {A = List (Option (List ℕ))}
+    (map linked (0x0000005E ∷ 0x00000000 ∷ 0xFFFFFFFE ∷ 0x0000007F ∷ 0x0000005D ∷ []))
+    (some (1 ∷ 2 ∷ 0xFFFFFFFE ∷ 0xFFFFFFFD ∷ []) ∷ none ∷ none ∷ none ∷ none ∷ [])
+unfolding bind zeros words wordAt memoryOf trailerCells usable byKind pointer chainChild digits occurrences all eachOnce place validDigits rising sparseDigits everyWord someWord validSparse childFrom gather headCells splitChild validPrefix chainNode plain readAt read
+prefix-links = refl
+
+-- a chain of 41 and 43 in cell 1 with this word at 1C
+abbrev chained : ℕ → ℕ → Option (List ℕ)
+chained end word = readIn (chainBytes 0x00004143 end) (zeros 32) (zeros 32) word
+
+-- 01: "the child is the pointer plus one, but when the kind is 1B it is the word at 1C.", "a run inside a chain cell is one entry", "A
+-- chain's child is never NONE."
+pub chains :
+    _≡_ {A = List (Option (List ℕ))}
+    (chained 0xFFFFFFFE 0x0000003A ∷ chained 0xFFFFFFFE 0x0000003B ∷ chained 0x00000000 0x0000003B ∷ [])
+    (some (0x0000003B ∷ 0 ∷ []) ∷ some (1 ∷ 0 ∷ 0xFFFFFFFE ∷ []) ∷ none ∷ [])
+unfolding bind zeros words wordAt memoryOf trailerCells usable byKind pointer chainChild chainNode plain readAt read
+chains = refl
+
+-- a split with this word in its head for 01, in its mid for 000, and in its end for 001, which is 41, and 011, which is 43
+abbrev branched : ℕ → ℕ → ℕ → ℕ → Option (List ℕ)
+branched inHead inMid a b =
+    readIn (headBytes 0 inHead 0 0) (branchBytes inMid 0) (eightWords 0 a 0 b 0 0 0 0) 0x0000003C
+
+-- 01: "A split head, mid and end each hold at least one pointer.", "Pointers to mids and ends carry kind 1C too."
+pub splits :
+    _≡_ {A = List (Option (List ℕ))}
+    (branched 0x0000005C 0x0000007C 0xFFFFFFFE 0xFFFFFFFD
+    ∷ branched 0x00000000 0x0000007C 0xFFFFFFFE 0xFFFFFFFD
+    ∷ branched 0x0000005C 0x00000000 0xFFFFFFFE 0xFFFFFFFD
+    ∷ branched 0x0000005C 0x0000007C 0x00000000 0x00000000
+    ∷ branched 0x00000040 0x0000007C 0xFFFFFFFE 0xFFFFFFFD
+    ∷ branched 0x8000005C 0x0000007C 0xFFFFFFFE 0xFFFFFFFD
+    ∷ branched 0x0000005C 0x0000007E 0xFFFFFFFE 0xFFFFFFFD
+    ∷ [])
+    (some (1 ∷ 2 ∷ 3 ∷ 0xFFFFFFFE ∷ 0xFFFFFFFD ∷ []) ∷ none ∷ none ∷ none ∷ none ∷ none ∷ none ∷ [])
+unfolding bind zeros words wordAt memoryOf trailerCells usable byKind pointer someWord gather under splitCell endCells midCells headCells wordBelow splitChild plain readAt read
+splits = refl

@@ -24,6 +24,7 @@ branchWord bytes i = wordAt bytes (4 * i)
 abbrev pub validHead : List ℕ → Bool
 validHead bytes = someWord (headWord bytes) 4 0
 
+-- the same of a mid or an end
 abbrev pub validBranch : List ℕ → Bool
 validBranch bytes = someWord (branchWord bytes) 8 0
 

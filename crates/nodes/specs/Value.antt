@@ -7,6 +7,7 @@ use Rattle.nodes.specs.Pointer.{Pointer, pointer}
 use Rattle.nodes.specs.Pointer.Pointer.{nothing, leaf, chain, split, sparse, prefix, invalid}
 use Rattle.nodes.specs.Prefix.{prefixValue}
 
+-- 01: "end at a leaf or a prefix of that value"
 unfoldable pub pointerValue : Memory → Pointer → Option ℕ
 pointerValue m nothing = none
 pointerValue m (leaf v) = some v
@@ -16,5 +17,6 @@ pointerValue m (sparse c) = none
 pointerValue m (prefix c) = some (prefixValue (m c))
 pointerValue m invalid = none
 
+-- the same by the word
 unfoldable pub valueOf : Layout → Memory → ℕ → Option ℕ
 valueOf layout m word = pointerValue m (pointer layout word)

@@ -42,7 +42,7 @@ pub fn least_cells(layout: Layout) -> usize
 }
 
 // Whether a cell of a block is one of the trailer's.
-pub fn is_trailer(layout: Layout, cell: usize) -> bool
+fn is_trailer(layout: Layout, cell: usize) -> bool
     requires { ⌜ cell < layout .cells ⌝ }
     ensures { λ r. ⌜ r ≡ isTrailer layout cell ⌝ }
 {

@@ -19,27 +19,35 @@ use Rattle.dosing.specs.Verdict.{Verdict, verdict}
 unfoldable pub fresh : ℕ → List ℕ
 fresh n = format (replicate (n * 32) 0xA5) .block
 
+-- 01: "A: fresh 4, enter 41 value 0"
 unfoldable pub sampleA : Counted
 sampleA = insert (fresh 4) (0x41 ∷ []) 0
 
+-- 01: "B: A, mark 1, enter 41 value 1"
 unfoldable pub sampleB : Counted
 sampleB = insert (snapshot (sampleA .block) 1 .block) (0x41 ∷ []) 1
 
+-- 01: "C: B, enter 41 value 2"
 unfoldable pub sampleC : Counted
 sampleC = insert (sampleB .block) (0x41 ∷ []) 2
 
+-- 01: "D: B, back to 1, enter 41 value 2"
 unfoldable pub sampleD : Counted
 sampleD = insert (restore (sampleB .block) 1 .block) (0x41 ∷ []) 2
 
+-- 01: "E: fresh 8, enter 43 48 41 value 0"
 unfoldable pub sampleE : Counted
 sampleE = insert (fresh 8) (0x43 ∷ 0x48 ∷ 0x41 ∷ []) 0
 
+-- 01: "F: E, enter 41 value 1"
 unfoldable pub sampleF : Counted
 sampleF = insert (sampleE .block) (0x41 ∷ []) 1
 
+-- 01: "G: F, enter 35 value 2"
 unfoldable pub sampleG : Counted
 sampleG = insert (sampleF .block) (0x35 ∷ []) 2
 
+-- 01: "H: E, enter 43 value 5"
 unfoldable pub sampleH : Counted
 sampleH = insert (sampleE .block) (0x43 ∷ []) 5
 
@@ -54,5 +62,6 @@ verdictOn year month day =
     (Celsius (whole (pos 20)))
     (sheetOf Any (whole (pos 60)) (whole (pos 4000)))
 
+-- the root word of a block
 abbrev pub rootOf : List ℕ → ℕ
 rootOf b = rootWord (layoutOf b) b

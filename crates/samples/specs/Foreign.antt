@@ -30,15 +30,19 @@ foreign =
     ++ junk 256
     ++ (word 0x0000003C ++ zeros 16 ++ word 0x00000010 ++ zeros 4 ++ word 0x00000001)
 
+-- a value in place of the one at 41 41 42
 unfoldable pub added : Counted
 added = insert foreign (0x41 ∷ 0x41 ∷ 0x42 ∷ []) 4
 
+-- a cell of the block that this leaves
 abbrev cellOf : ℕ → List ℕ
 cellOf c = memoryOf (added .block) c
 
+-- the answer and the value of a look-up
 abbrev shownIn : List ℕ → List ℕ → List ℕ
 shownIn block key = get block key .answer ∷ get block key .value ∷ []
 
+-- the block is sound, what it shows before and after, and the bytes of the cells taken: nothing without a meaning is copied
 pub foreign-block :
     _≡_ {A = List (List ℕ)}
     ((validate foreign ∷ added .answer ∷ added .count ∷ rootOf (added .block) ∷ validate (added .block) ∷ [])

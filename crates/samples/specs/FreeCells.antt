@@ -11,6 +11,7 @@ use Rattle.snapshots.specs.Snapshots.{snapshot, release}
 use Rattle.snapshots.specs.Computing.{snapshotsOpen}
 use Rattle.store.specs.Computing.{callsOpen}
 
+-- a key of one letter
 abbrev letter : List ℕ
 letter = 0x41 ∷ []
 
@@ -18,18 +19,23 @@ letter = 0x41 ∷ []
 unfoldable pub snapshotted : List ℕ
 snapshotted = snapshot (insert (format (zeros 128) .block) letter 0 .block) 1 .block
 
+-- 41 with 1 beside the snapshot
 unfoldable pub replaced : List ℕ
 replaced = insert snapshotted letter 1 .block
 
+-- the snapshot released
 unfoldable pub released : List ℕ
 released = release replaced 1 .block
 
+-- the free cells of a block
 abbrev freeCells : List ℕ → List ℕ
 freeCells block = free (layoutOf block) block
 
+-- the root word of a block
 abbrev rootOf : List ℕ → ℕ
 rootOf block = rootWord (layoutOf block) block
 
+-- while the snapshot holds cell 1 no cell is free; once it is released cell 1 is
 pub free-while-held :
     _≡_ {A = List (List ℕ)}
     (freeCells snapshotted ∷ freeCells replaced ∷ freeCells released ∷ [])

@@ -5,3 +5,8 @@ pub mod Samples
 pub mod Pinned
 pub mod Foreign
 pub mod FreeCells
+pub mod Crafted
+pub mod Unsound
+pub mod UnsoundTrees
+pub mod UnsoundTrailer
+pub mod Builds

@@ -1,8 +1,9 @@
 -- One value that a bench sample of 01 gives.
 use mathlib.Core.Bool.{Bool}
-use mathlib.Core.List.{List, [], _∷_}
-use Prim.Native.Nat.{ℕ, _/_, _%_}
+use mathlib.Core.List.{List}
+use Prim.Native.Nat.{ℕ}
 use lib.Ieee.{Float}
+use Rattle.nodes.specs.Written.{word as fourBytes}
 
 -- 01: "Marked A to L for proof."
 pub data Letter : Type 0 where
@@ -19,20 +20,23 @@ pub data Says : Type 0 where
   answerOn : ℕ → ℕ → ℕ → Says  -- the verdict of a day: year, month, day
   dose degrees : Says
 
+-- a value of any kind that the samples speak of
 pub data Value : Type 0 where
   number : ℕ → Value
   bytes : List ℕ → Value
   truth : Bool → Value
   float : Float → Value
 
+-- one line of the samples: which, what of it, and the value
 pub record Line : Type 0 where
   pub sample : Letter
   pub says : Says
   pub value : Value
 
+-- a line by its three parts
 abbrev pub line : Letter → Says → Value → Line
 line sample says value = record { sample = sample; says = says; value = value }
 
 -- the four bytes of a word
 abbrev pub word : ℕ → List ℕ
-word w = w / 16777216 % 256 ∷ w / 65536 % 256 ∷ w / 256 % 256 ∷ w % 256 ∷ []
+word w = fourBytes w

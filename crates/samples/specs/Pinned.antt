@@ -25,12 +25,15 @@ entered block (x ∷ xs) value = entered (insert block (x ∷ []) value .block) 
 unfoldable pub sixth : List ℕ
 sixth = entered (fresh 16) (0x33 ∷ 0x35 ∷ 0x41 ∷ 0x42 ∷ 0x43 ∷ 0x50 ∷ []) 0
 
+-- the seventh child, 51
 unfoldable pub seventh : Counted
 seventh = insert sixth (0x51 ∷ []) 6
 
+-- a cell of the block that an insertion leaves
 abbrev cellOf : Counted → ℕ → List ℕ
 cellOf inserted c = memoryOf (inserted .block) c
 
+-- count and root, then the head, a mid and an end
 pub split-of-seven :
     _≡_ {A = List (List ℕ)}
     ((seventh .count ∷ rootOf (seventh .block) ∷ [])

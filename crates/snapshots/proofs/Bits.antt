@@ -1,9 +1,9 @@
 -- Laws of single bits of a number: bit i of v is v / 2 ^ i % 2.
 use mathlib.Core.Path.{_≡_, sym, ap, _∙_, subst}
 use mathlib.Core.Logic.{_≢_}
-use Prim.Native.Nat.{ℕ, _+_, _-_, _*_, _/_, _%_, _^_, _≤_, _<_}
+use Prim.Native.Nat.{ℕ, zero, suc, _+_, _-_, _*_, _/_, _%_, _^_, _≤_, _<_}
 use native.Mathlib.Decide.{decLt}
-use native.Mathlib.Nat.{one-mul, add-mul-div-right, div-lt-iff-lt-mul}
+use native.Mathlib.Nat.{one-mul, add-mul-div-right, div-lt-iff-lt-mul, pow-zero, pow-suc}
 use native.Mathlib.Omega.{arith}
 use lib.Pow.{pow-pos, pow-add, shr-shr}
 
@@ -79,3 +79,18 @@ bit-bound v i s inside small clear =
     let less : v / 2 ^ i < 2 ^ (s - i - 1) * 2 = div-lt-iff-lt-mul (pow-pos i) .1 (subst (λ (k : ℕ). v < k) whole small) in
     let more : (v + 2 ^ i) / 2 ^ i < 2 ^ (s - i - 1) * 2 = omega (arith, quotient-more v i, less, clear) in
     subst (λ (k : ℕ). v + 2 ^ i < k) (sym whole) (div-lt-iff-lt-mul (pow-pos i) .0 more)
+
+-- numbers of s bits with the same bits are the same
+pub bits-told : (s v w : ℕ) → v < 2 ^ s → w < 2 ^ s → ((i : ℕ) → i < s → v / 2 ^ i % 2 ≡ w / 2 ^ i % 2) → v ≡ w
+bits-told zero v w small small′ same = omega (arith, pow-zero 2)
+bits-told (suc s) v w small small′ same =
+    let more : 2 ^ suc s ≡ 2 ^ s * 2 = pow-suc 2 s in
+    let high : v / 2 ≡ w / 2 = bits-told s (v / 2) (w / 2) (omega arith) (omega arith) above in
+    omega (arith, lowest)
+  where
+    above : (i : ℕ) → i < s → v / 2 / 2 ^ i % 2 ≡ w / 2 / 2 ^ i % 2
+    above i inside =
+        ap (λ (k : ℕ). k % 2) (shr-shr v 1 i) ∙ same (1 + i) (omega arith) ∙ ap (λ (k : ℕ). k % 2) (sym (shr-shr w 1 i))
+
+    lowest : v % 2 ≡ w % 2
+    lowest = omega (arith, same 0 (omega arith))

@@ -1,14 +1,16 @@
 -- The tables of answers leave nothing free: whatever meets the table of a call on a slot equals the call, in its answer and every byte
 -- of the block. 01: "Every public call's contract determines its result and every byte of the block"
-use mathlib.Core.Path.{_≡_, refl, sym, _∙_}
+use mathlib.Core.Path.{_≡_, refl}
 use mathlib.Core.Bool.{Bool, true, false}
 use mathlib.Core.List.{List}
 use Prim.Native.Nat.{ℕ}
+use Rattle.cells.specs.Bytes.{IsBytes}
 use Rattle.blocks.specs.Trailer.{layoutOf, validSlot}
 use Rattle.blocks.specs.Refusal.{Changed}
 use Rattle.blocks.specs.Tables.{Passes}
 use Rattle.blocks.proofs.Determined.{both, passes-or, beside-told, changed-told}
 use Rattle.snapshots.specs.Snapshots.{snapshot, restore, release}
+use Rattle.snapshots.proofs.Left.{left-told}
 use Rattle.snapshots.proofs.SlotTables.{snapshot-table, restore-table, release-table}
 use Rattle.snapshots.specs.Tables.{SlotCall, snapshotCall, restoreCall, releaseCall, SlotTable}
 
@@ -25,17 +27,17 @@ module _ (b : List ℕ) (slot : ℕ) where
       valid p true e = barred p e (call .barred) refl
       valid p false e = both (t .bad-slot) (u .bad-slot) (p, e)
 
-  pub slot-told : (call : SlotCall) (q r : Changed) → SlotTable b slot call q → SlotTable b slot call r → q ≡ r
-  slot-told call q r t u =
+  pub slot-told : IsBytes b → (call : SlotCall) (q r : Changed) → SlotTable b slot call q → SlotTable b slot call r → q ≡ r
+  slot-told bytes call q r t u =
       let same : q .answer ≡ r .answer = slot-answer-told call q r t u in
       changed-told q r same
-      (beside-told (q .answer) (r .answer) (q .block) (r .block) b same (λ e f. t .left e ∙ sym (u .left f)) (t .refused) (u .refused))
+      (beside-told (q .answer) (r .answer) (q .block) (r .block) b same (λ e f. left-told b (q .block) (r .block) (call .fields) (t .left bytes e) (u .left bytes f)) (t .refused) (u .refused))
 
-  pub snapshot-told : (r : Changed) → SlotTable b slot (snapshotCall b slot) r → r ≡ snapshot b slot
-  snapshot-told r t = slot-told (snapshotCall b slot) r (snapshot b slot) t (snapshot-table b slot)
+  pub snapshot-told : (r : Changed) → IsBytes b → SlotTable b slot (snapshotCall b slot) r → r ≡ snapshot b slot
+  snapshot-told r bytes t = slot-told bytes (snapshotCall b slot) r (snapshot b slot) t (snapshot-table b slot)
 
-  pub restore-told : (r : Changed) → SlotTable b slot (restoreCall b slot) r → r ≡ restore b slot
-  restore-told r t = slot-told (restoreCall b slot) r (restore b slot) t (restore-table b slot)
+  pub restore-told : (r : Changed) → IsBytes b → SlotTable b slot (restoreCall b slot) r → r ≡ restore b slot
+  restore-told r bytes t = slot-told bytes (restoreCall b slot) r (restore b slot) t (restore-table b slot)
 
-  pub release-told : (r : Changed) → SlotTable b slot (releaseCall b slot) r → r ≡ release b slot
-  release-told r t = slot-told (releaseCall b slot) r (release b slot) t (release-table b slot)
+  pub release-told : (r : Changed) → IsBytes b → SlotTable b slot (releaseCall b slot) r → r ≡ release b slot
+  release-told r bytes t = slot-told bytes (releaseCall b slot) r (release b slot) t (release-table b slot)

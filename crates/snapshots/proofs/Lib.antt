@@ -1,8 +1,10 @@
 pub mod Bits
 pub mod SlotBits
 pub mod SlotAnswers
+pub mod SlotWrites
 pub mod SnapshotSteps
 pub mod SnapshotCalls
 pub mod SlotTables
+pub mod Left
 pub mod Determined
 pub mod Proved

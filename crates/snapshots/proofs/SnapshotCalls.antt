@@ -4,28 +4,28 @@ use mathlib.Core.Logic.{_≢_}
 use mathlib.Core.Bool.{Bool, true, false, not, cond}
 use mathlib.Core.List.{List}
 use Prim.Native.Nat.{ℕ}
-use native.Mathlib.Omega.{arith}
 use lib.Dec.{eqb}
 use borrow.Author.Tests.{not-false}
 use Rattle.cells.specs.Bytes.{IsBytes}
 use Rattle.cells.specs.Memory.{Memory, memoryOf}
-use Rattle.cells.proofs.Choice.{absurd-bool, absurd-false}
-use Rattle.cells.proofs.Words.{word-bound, withWord-bytes}
+use Rattle.cells.proofs.Choice.{absurd-false}
 use Rattle.nodes.specs.Layout.{Layout}
 use Rattle.trees.specs.Lookup.{Table, lookup}
-use Rattle.blocks.specs.Trailer.{rootAt, badSize, layoutOf, rootWord, validSlot, slotWord, inUse}
+use Rattle.blocks.specs.Trailer.{badSize, layoutOf, rootWord, validSlot, slotWord, inUse}
 use Rattle.blocks.specs.Sound.{sound}
 use Rattle.blocks.specs.Refusal.{firstRefusal}
 use Rattle.blocks.specs.Read.{shown}
 use Rattle.blocks.proofs.Refusals.{done-block, refused-block}
-use Rattle.blocks.proofs.Trailer.{sized, trailer-parts}
+use Rattle.blocks.proofs.Trailer.{sized}
 use Rattle.blocks.proofs.Roots.{sound-parts}
-use Rattle.snapshots.specs.Snapshots.{withBit, withoutBit, slotRefusals, usedSlotRefusals, snapshotBlock, restoreBlock, releaseBlock, snapshot, restore, release}
+use Rattle.snapshots.specs.Snapshots.{slotRefusals, usedSlotRefusals, snapshotBlock, restoreBlock, releaseBlock, snapshot, restore, release}
 use Rattle.snapshots.proofs.SlotAnswers.{slot-answers, used-slot-answers}
-use Rattle.blocks.proofs.TrailerWrites.{root-written, root-written-cells, slot-block-bytes, slot-block-cells, slot-written, bits-byte}
-use Rattle.snapshots.proofs.SlotBits.{with-bit-fits, with-bit-uses, without-bit-fits, without-bit-uses}
+use Rattle.snapshots.specs.Tables.{snapshotFields, restoreFields, releaseFields}
+use Rattle.snapshots.proofs.SlotWrites.{snapshot-says, snapshot-wrote, restore-says, restore-wrote, release-says, release-wrote}
 use Rattle.blocks.proofs.After.{after-same, OldRoot, present-root, slot-root, after-trailer}
+use Rattle.blocks.proofs.Left.{SaysFields}
 use Rattle.blocks.specs.After.{replacedAt, After, slotShown}
+use Rattle.blocks.specs.Left.{SlotFields, SlotLeft}
 
 -- a table by slot, where the words are replaced at one
 cond-lookup : (layout : Layout) (m : Memory) (t : Bool) (w v : ℕ) (key : List ℕ)
@@ -46,50 +46,37 @@ replaced-root b true used old w v new kept on = new on
 replaced-root b false used old w v new kept on = kept on
 
 module _ (b : List ℕ) (bytes : IsBytes b) (size : badSize b ≡ false) (valid : sound b ≡ true) (slot : ℕ) (is-slot : validSlot (layoutOf b) slot ≡ true) where
+  -- a block of which this is said, its root and the words of its slots from among the old ones
+  shows-old : (after : List ℕ) (fields : SlotFields) → SaysFields b after fields → SlotLeft b after fields → OldRoot b (fields .root)
+      → ((other : ℕ) → validSlot (layoutOf b) other ≡ true → fields .used other ≡ true → OldRoot b (fields .words other))
+      → After b after (λ key. lookup (layoutOf b) (memoryOf b) (fields .root) key) (fields .used)
+      (λ other key. lookup (layoutOf b) (memoryOf b) (fields .words other) key)
+  shows-old after fields says left =
+      after-trailer b (sound-parts (layoutOf b) b valid) size (sized b size) bytes after (left .bytes) (fields .root) (fields .words) (fields .used) says (left .cells)
+
   snapshotted : After b (snapshotBlock (layoutOf b) b slot) (shown b) (replacedAt (inUse (layoutOf b) b) slot true) (replacedAt (slotShown b) slot (shown b))
-  unfolding snapshotBlock rootWord
   snapshotted =
       let p = sound-parts (layoutOf b) b valid in
-      let s = sized b size in
-      let v : ℕ = withBit (layoutOf b) b slot in
       let w : ℕ = rootWord (layoutOf b) b in
-      let fits = with-bit-fits (layoutOf b) b slot is-slot (trailer-parts (layoutOf b) b (p .trailer) .bits) in
       after-same b _ _ _ (replacedAt (inUse (layoutOf b) b) slot true) _ _ (λ key. refl)
       (λ other on key. cond-lookup (layoutOf b) (memoryOf b) (eqb other slot) w (slotWord (layoutOf b) b other) key)
-      (after-trailer b p size s bytes _ (slot-block-bytes b s slot v w is-slot bytes (bits-byte (layoutOf b) v fits)) w
-      (replacedAt (slotWord (layoutOf b) b) slot w) (replacedAt (inUse (layoutOf b) b) slot true)
-      (slot-written b s slot v w is-slot true (p .trailer) (word-bound b _ bytes) fits (with-bit-uses (layoutOf b) b slot is-slot) (λ e. absurd-bool e))
-      (slot-block-cells b s slot v w is-slot)
-      (present-root b p)
+      (shows-old _ (snapshotFields b slot) (snapshot-says b bytes size valid slot is-slot) (snapshot-wrote b bytes size valid slot is-slot) (present-root b p)
       (λ other other-is-slot on. replaced-root b (eqb other slot) true (inUse (layoutOf b) b other) w (slotWord (layoutOf b) b other)
       (λ e. present-root b p) (slot-root b p other other-is-slot) on))
 
   module _ (on : inUse (layoutOf b) b slot ≡ true) where
     restored : After b (restoreBlock (layoutOf b) b slot) (slotShown b slot) (inUse (layoutOf b) b) (slotShown b)
-    unfolding restoreBlock
     restored =
         let p = sound-parts (layoutOf b) b valid in
-        let w : ℕ = slotWord (layoutOf b) b slot in
-        after-trailer b p size (sized b size) bytes _ (withWord-bytes b (rootAt (layoutOf b)) w bytes) w (slotWord (layoutOf b) b) (inUse (layoutOf b) b)
-        (root-written b (sized b size) w (p .trailer) (word-bound b _ bytes))
-        (root-written-cells b (sized b size) w)
-        (slot-root b p slot is-slot on)
-        (slot-root b p)
+        shows-old _ (restoreFields b slot) (restore-says b bytes size valid slot is-slot) (restore-wrote b bytes size valid slot is-slot)
+        (slot-root b p slot is-slot on) (slot-root b p)
 
     released : After b (releaseBlock (layoutOf b) b slot) (shown b) (replacedAt (inUse (layoutOf b) b) slot false) (slotShown b)
-    unfolding releaseBlock
     released =
         let p = sound-parts (layoutOf b) b valid in
-        let s = sized b size in
-        let v : ℕ = withoutBit (layoutOf b) b slot in
-        let fits = without-bit-fits (layoutOf b) b slot is-slot on (trailer-parts (layoutOf b) b (p .trailer) .bits) in
         after-same b _ _ _ (replacedAt (inUse (layoutOf b) b) slot false) _ _ (λ key. refl)
         (λ other other-on key. cond-used (layoutOf b) (memoryOf b) (eqb other slot) (inUse (layoutOf b) b other) 0 (slotWord (layoutOf b) b other) key other-on)
-        (after-trailer b p size s bytes _ (slot-block-bytes b s slot v 0 is-slot bytes (bits-byte (layoutOf b) v fits)) (rootWord (layoutOf b) b)
-        (replacedAt (slotWord (layoutOf b) b) slot 0) (replacedAt (inUse (layoutOf b) b) slot false)
-        (slot-written b s slot v 0 is-slot false (p .trailer) (omega arith) fits (without-bit-uses (layoutOf b) b slot is-slot on) (λ e. refl))
-        (slot-block-cells b s slot v 0 is-slot)
-        (present-root b p)
+        (shows-old _ (releaseFields b slot) (release-says b bytes size valid slot is-slot on) (release-wrote b bytes size valid slot is-slot on) (present-root b p)
         (λ other other-is-slot other-on. replaced-root b (eqb other slot) false (inUse (layoutOf b) b other) 0 (slotWord (layoutOf b) b other)
         (λ e. absurd-false e) (slot-root b p other other-is-slot) other-on))
 
@@ -126,6 +113,13 @@ module _ (b : List ℕ) (slot : ℕ) where
       (sym (done-block (slotRefusals b slot) b (snapshotBlock (layoutOf b) b slot) e))
       (snapshotted b bytes (a .size) (a .valid) slot (a .is-slot))
 
+  pub snapshot-left : IsBytes b → snapshot b slot .answer ≡ 0 → SlotLeft b (snapshot b slot .block) (snapshotFields b slot)
+  unfolding snapshot
+  snapshot-left bytes e =
+      let a = slot-accepted e in
+      subst (λ (b′ : List ℕ). SlotLeft b b′ (snapshotFields b slot)) (sym (done-block (slotRefusals b slot) b (snapshotBlock (layoutOf b) b slot) e))
+      (snapshot-wrote b bytes (a .size) (a .valid) slot (a .is-slot))
+
   pub snapshot-refused : snapshot b slot .answer ≢ 0 → snapshot b slot .block ≡ b
   unfolding snapshot
   snapshot-refused n = refused-block (slotRefusals b slot) b (snapshotBlock (layoutOf b) b slot) n
@@ -138,6 +132,13 @@ module _ (b : List ℕ) (slot : ℕ) where
       subst (λ (b′ : List ℕ). After b b′ (slotShown b slot) (inUse (layoutOf b) b) (slotShown b))
       (sym (done-block (usedSlotRefusals b slot) b (restoreBlock (layoutOf b) b slot) e))
       (restored b bytes (a .size) (a .valid) slot (a .is-slot) (a .on))
+
+  pub restore-left : IsBytes b → restore b slot .answer ≡ 0 → SlotLeft b (restore b slot .block) (restoreFields b slot)
+  unfolding restore
+  restore-left bytes e =
+      let a = used-slot-accepted e in
+      subst (λ (b′ : List ℕ). SlotLeft b b′ (restoreFields b slot)) (sym (done-block (usedSlotRefusals b slot) b (restoreBlock (layoutOf b) b slot) e))
+      (restore-wrote b bytes (a .size) (a .valid) slot (a .is-slot))
 
   pub restore-refused : restore b slot .answer ≢ 0 → restore b slot .block ≡ b
   unfolding restore
@@ -152,6 +153,13 @@ module _ (b : List ℕ) (slot : ℕ) where
       subst (λ (b′ : List ℕ). After b b′ (shown b) (replacedAt (inUse (layoutOf b) b) slot false) (slotShown b))
       (sym (done-block (usedSlotRefusals b slot) b (releaseBlock (layoutOf b) b slot) e))
       (released b bytes (a .size) (a .valid) slot (a .is-slot) (a .on))
+
+  pub release-left : IsBytes b → release b slot .answer ≡ 0 → SlotLeft b (release b slot .block) (releaseFields b slot)
+  unfolding release
+  release-left bytes e =
+      let a = used-slot-accepted e in
+      subst (λ (b′ : List ℕ). SlotLeft b b′ (releaseFields b slot)) (sym (done-block (usedSlotRefusals b slot) b (releaseBlock (layoutOf b) b slot) e))
+      (release-wrote b bytes (a .size) (a .valid) slot (a .is-slot) (a .on))
 
   pub release-refused : release b slot .answer ≢ 0 → release b slot .block ≡ b
   unfolding release

@@ -2,6 +2,7 @@
 -- names; its own value says nothing.
 use Rattle.snapshots.specs.Snapshots.{withBit, withoutBit, snapshotBlock, restoreBlock, releaseBlock, snapshot, restore, release}
 
+-- the calls on slots
 unfoldable pub snapshotsOpen : Unit {0}
 unfolding withBit withoutBit snapshotBlock restoreBlock releaseBlock snapshot restore release
 snapshotsOpen = tt

@@ -1,3 +1,4 @@
 pub mod Snapshots
 pub mod Tables
 pub mod Computing
+pub mod Examples

@@ -63,7 +63,7 @@ without-cell (suc count) from s h = without-cell count (from + 1) (set s (24 + f
 
 pub sparseCopy-cell : (s : List ℕ) → IsCell s → IsCell (sparseCopy s)
 unfolding sparseCopy
-sparseCopy-cell s h = without-cell (6 - sparseCount s) (sparseCount s) s h
+sparseCopy-cell s h = without-cell _ _ s h
 
 pub appended-cell : (s : List ℕ) (x word : ℕ) → x < 256 → IsCell s → IsCell (appendedCell s x word)
 unfolding appendedCell withOrder

@@ -1,4 +1,5 @@
 pub mod CellBytes
+pub mod CellZeros
 pub mod BranchWords
 pub mod StageLaws
 pub mod StageWrites

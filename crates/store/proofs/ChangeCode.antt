@@ -20,7 +20,8 @@ use Rattle.staging.specs.declared.stage.BuildState.{BuildState}
 use Rattle.staging.proofs.StageLaws.{staged-length, number-listed}
 use Rattle.updates.specs.Built.{Built}
 use Rattle.updates.specs.Commit.{buildWrites}
-use Rattle.updates.specs.Code.Staged.{builtOf, HasTree}
+use Rattle.trees.specs.Code.Coded.{Grown}
+use Rattle.updates.specs.Code.Staged.{builtOf}
 use Rattle.blocks.specs.Code.Fits.{Fits}
 use Rattle.blocks.specs.Trailer.{trailerAt, layoutOf, rootWord}
 use Rattle.blocks.specs.Sound.{soundWith}
@@ -36,9 +37,9 @@ module _ (layout : Layout) (b numbers : List ℕ) (count : ℕ) (key : List ℕ)
   pub changeable-fits : Fits layout (length b)
   changeable-fits = layout-fits b layout (p .size) (p .stated)
 
-  -- what a build asks for: a numbering, a block of the layout's size, a key that is not over long and a tree for it
+  -- what a build asks for: a numbering, a block of the layout's size, a key that is not over long and a tree
   pub build-ready : (root : ℕ) → root ≡ rootWord layout b
-      → Numbered layout count × (layout .cells * 32 ≤ length b) × (length key ≤ keyLimit) × HasTree layout (memoryOf b) root (length key)
+      → Numbered layout count × (layout .cells * 32 ≤ length b) × (length key ≤ keyLimit) × Grown layout (memoryOf b) keyLimit root
   build-ready root root-is =
       let f = changeable-fits in
       let valid : soundWith layout b ≡ true = ap (λ (l : Layout). soundWith l b) (p .stated) ∙ p .valid in
@@ -46,11 +47,7 @@ module _ (layout : Layout) (b numbers : List ℕ) (count : ℕ) (key : List ℕ)
         record { some = omega (arith, f .least); most = f .most; listed = omega (arith, p .listed .many, length-take stageCells (free layout b)) },
         omega (arith, f .whole),
         p .short,
-        record {
-          depth = keyLimit;
-          deep = p .short;
-          found = (parts .cells, ap (tree layout (memoryOf b) keyLimit) root-is ∙ parts .found);
-        },
+        (parts .cells, ap (tree layout (memoryOf b) keyLimit) root-is ∙ parts .found),
       )
 
   -- the numbers listed are those of the free cells

@@ -10,19 +10,31 @@ use lib.ListN.{length, getD}
 use lib.Seq.{ext-getD}
 use Rattle.cells.specs.Bytes.{IsBytes}
 use Rattle.cells.specs.Memory.{memoryOf}
+use Rattle.blocks.specs.Trailer.{cellsAt, editionAt}
 use Rattle.blocks.specs.Refusal.{Changed, badNewKey, badValue, Counted}
 use Rattle.blocks.specs.Tables.{PassesKey, Passes}
 use Rattle.blocks.proofs.Trailer.{byte-in-cell}
+use Rattle.blocks.proofs.Left.{word-or, word-told}
 use Rattle.blocks.proofs.Determined.{both, passes-or, beside-told, changed-told}
-use Rattle.store.specs.Format.{badNewSize, format}
+use Rattle.store.specs.Format.{newLayout, badNewSize, format}
 use Rattle.store.specs.Insert.{cellsFree, cellsToInsert, insert}
 use Rattle.store.proofs.WriteCalls.{format-table, insert-table}
-use Rattle.store.specs.Tables.{FormatTable, InsertTable}
+use Rattle.store.specs.Tables.{FreshLeft, FormatTable, InsertTable}
 
 -- blocks of one length are the same where their cells are
 block-told : (b b′ : List ℕ) → length b ≡ length b′ → ((c : ℕ) → memoryOf b c ≡ memoryOf b′ c) → b ≡ b′
 block-told b b′ same cells =
     ext-getD 0 b b′ same (λ k inside. byte-in-cell b k ∙ ap (λ (l : List ℕ). getD l (k % 32) 0) (cells (k / 32)) ∙ sym (byte-in-cell b′ k))
+
+-- fresh blocks of one length are the same: all zero but for two words
+pub fresh-told : (edition : ℕ) (b q r : List ℕ) → FreshLeft edition b q → FreshLeft edition b r → q ≡ r
+fresh-told edition b q r x y =
+    let cells : ℕ = cellsAt (newLayout edition b) in
+    let stated : ℕ = editionAt (newLayout edition b) in
+    ext-getD 0 q r (x .same-length ∙ sym (y .same-length)) (λ i inside.
+    word-or cells i (word-told q r cells (x .bytes) (y .bytes) (x .cells-word ∙ sym (y .cells-word)) i)
+    (λ no-cells. word-or stated i (word-told q r stated (x .bytes) (y .bytes) (x .edition-word ∙ sym (y .edition-word)) i)
+    (λ no-edition. x .zero i no-cells no-edition ∙ sym (y .zero i no-cells no-edition))))
 
 module _ (b : List ℕ) where
   -- a fresh block
@@ -31,7 +43,7 @@ module _ (b : List ℕ) where
       let u = format-table b in
       let same : r .answer ≡ format b .answer = go (badNewSize 1 b) refl in
       changed-told r (format b) same
-      (beside-told (r .answer) (format b .answer) (r .block) (format b .block) b same (λ e f. t .left e ∙ sym (u .left f)) (t .refused) (u .refused))
+      (beside-told (r .answer) (format b .answer) (r .block) (format b .block) b same (λ e f. fresh-told 1 b _ _ (t .left e) (u .left f)) (t .refused) (u .refused))
     where
       go : (s : Bool) → badNewSize 1 b ≡ s → r .answer ≡ format b .answer
       go true e = both (t .bad-size) (format-table b .bad-size) e

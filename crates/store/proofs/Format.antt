@@ -32,7 +32,7 @@ use Rattle.store.specs.Free.{allocationOrder}
 use Rattle.store.specs.Format.{formatted, newLayout, freshOf, badNewSize, formatRefusals, format}
 use Rattle.store.proofs.CallAnswers.{format-answers}
 use Rattle.store.proofs.Free.{free-every, free-all}
-use Rattle.store.specs.Tables.{Fresh}
+use Rattle.store.specs.Tables.{Fresh, FreshLeft}
 
 zeros-word : (n at : ℕ) → wordAt (zeros n) at ≡ 0
 unfolding wordAt
@@ -161,6 +161,19 @@ module _ (edition : ℕ) (b : List ℕ) where
             ∙ ap (allocationOrder (layoutOf (freshOf edition b))) root;
       }
 
+  -- every byte of it
+  pub formatted-left : validEdition edition ≡ true → badNewSize edition b ≡ false → FreshLeft edition b (freshOf edition b)
+  formatted-left known good =
+      let layout : Layout = newLayout edition b in
+      let fits : Fits layout (length b) = new-fits good in
+      record {
+        same-length = formatted-length layout (length b) fits;
+        bytes = formatted-bytes layout (length b) fits;
+        cells-word = formatted-size layout (length b) fits;
+        edition-word = formatted-edition layout (length b) fits (edition-small edition known);
+        zero = formatted-byte layout (length b) fits;
+      }
+
 -- the call
 first-edition : validEdition 1 ≡ true
 unfolding validEdition
@@ -175,6 +188,11 @@ module _ (b : List ℕ) where
   unfolding format
   format-law e =
       subst (Fresh 1 b) (sym (done-block (formatRefusals 1 b) b (freshOf 1 b) e)) (formatted-fresh 1 b first-edition (format-answers b .1 .only e .0))
+
+  pub format-left : format b .answer ≡ 0 → FreshLeft 1 b (format b .block)
+  unfolding format
+  format-left e =
+      subst (FreshLeft 1 b) (sym (done-block (formatRefusals 1 b) b (freshOf 1 b) e)) (formatted-left 1 b first-edition (format-answers b .1 .only e .0))
 
   pub format-refused : format b .answer ≢ 0 → format b .block ≡ b
   unfolding format

@@ -54,7 +54,7 @@ value-fits value good = omega (arith, ltb-false 2147483647 value good)
 
 module _ (b key : List ℕ) (value : ℕ) where
   -- an insertion that finds room is one change of its key
-  inserted-change : IsBytes b → IsBytes key → Finds b (MayInsert key value) (cellsToInsert b key) → Change b key (blockBuild b key value) (some value)
+  pub inserted-change : IsBytes b → IsBytes key → Finds b (MayInsert key value) (cellsToInsert b key) → Change b key (blockBuild b key value) (some value)
   unfolding blockBuild
   inserted-change bytes is-bytes a =
       let s = sized b (a .size) in

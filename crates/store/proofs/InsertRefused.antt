@@ -7,7 +7,7 @@ use Prim.Native.Nat.{ℕ, _≤_, _<_}
 use native.Mathlib.Omega.{arith}
 use borrow.Author.Tests.{lt-ltb, le-ltb}
 use Rattle.nodes.specs.Layout.{Layout}
-use Rattle.blocks.specs.Trailer.{badSize, layoutOf}
+use Rattle.blocks.specs.Trailer.{badSize, layoutOf, rootWord}
 use Rattle.blocks.specs.Sound.{soundWith, sound}
 use Rattle.blocks.specs.Refusal.{badKey, badNewKey, badValue, Counted}
 use Rattle.store.specs.Insert.{insert}
@@ -49,10 +49,12 @@ module _ (b key : List ℕ) (value : ℕ) where
           insert-value over = refused-as 4 (insert-answer b key value size (told ∙ t) ∙ rw (good, lt-ltb 2147483647 value over)) (λ e. omega arith)
 
           -- none of these applies
-          pub insert-asks : value ≤ 2147483647 → Changeable layout b numbers count key × (badNewKey key ≡ false) × (badValue value ≡ false)
+          pub insert-asks : value ≤ 2147483647 → (root : ℕ) → root ≡ rootWord layout b
+              → Changeable layout b numbers count key × (root ≡ rootWord layout b) × (badNewKey key ≡ false) × (badValue value ≡ false)
           unfolding badNewKey badValue
-          insert-asks within = (
+          insert-asks within root root-is = (
             record { stated = stated; size = size; valid = told ∙ t; listed = judged .listed t; short = key-fits key good },
+            root-is,
             good,
             le-ltb 2147483647 value within,
           )

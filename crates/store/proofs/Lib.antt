@@ -1,3 +1,4 @@
+pub mod Computed
 pub mod CallAnswers
 pub mod Free
 pub mod Format
@@ -14,4 +15,5 @@ pub mod FreeWrites
 pub mod WriteCalls
 pub mod Determined
 pub mod MeantBlock
+pub mod InsertZeros
 pub mod Proved

@@ -12,14 +12,20 @@ use Rattle.store.specs.Free.{free}
 use Rattle.store.specs.Format.{format}
 use Rattle.store.specs.Committed.{numbering}
 use Rattle.store.specs.Insert.{insert}
-use Rattle.store.specs.Tables.{FormatTable, InsertTable}
+use Rattle.store.specs.TakenCells.{CleanTaken}
+use Rattle.store.specs.Tables.{FreshLeft, FormatTable, InsertTable}
 use Rattle.store.proofs.WriteCalls.{format-table, insert-table}
 use Rattle.store.proofs.Determined as determined
 use Rattle.store.proofs.FreeWrites.{WritesInto}
 use Rattle.store.proofs.FreeWrites as free-writes
+use Rattle.store.proofs.InsertZeros as zeros
 
 pub format-meets : (b : List ℕ) → FormatTable b (format b)
 format-meets = format-table
+
+-- the fields of a fresh block tell every byte of it
+pub fresh-told : (edition : ℕ) (b q r : List ℕ) → FreshLeft edition b q → FreshLeft edition b r → q ≡ r
+fresh-told = determined.fresh-told
 
 pub format-told : (b : List ℕ) (r : Changed) → FormatTable b r → r ≡ format b
 format-told = determined.format-told
@@ -34,3 +40,8 @@ insert-told = determined.insert-told
 pub writes-free : (b : List ℕ) (cells : List (List ℕ)) → length cells ≤ length (free (layoutOf b) b)
     → WritesInto (free (layoutOf b) b) (buildWrites (numbering b) cells)
 writes-free = free-writes.writes-free
+
+-- 01: "A taken cell's meaningless bytes are zero", in the block that an accepted insertion leaves
+pub insert-clean : (b key : List ℕ) (value : ℕ) → IsBytes b → IsBytes key → insert b key value .answer ≡ 0
+    → CleanTaken b (insert b key value .block) (insert b key value .count)
+insert-clean = zeros.insert-clean

@@ -5,12 +5,12 @@ use mathlib.Core.Bool.{not}
 use mathlib.Core.List.{List}
 use Prim.Native.Nat.{ℕ}
 use borrow.Author.Tests.{not-true, not-false}
-use Rattle.blocks.proofs.Refusals.{done-block, refused-block}
+use Rattle.blocks.proofs.Refusals.{refused-block}
 use Rattle.blocks.proofs.ReadCalls.{asked, refusals-none, exactly}
 use Rattle.store.specs.Format.{freshOf, formatRefusals, format}
 use Rattle.store.specs.Insert.{insert}
 use Rattle.store.proofs.CallAnswers.{format-answers, insert-answers}
-use Rattle.store.proofs.Format.{format-law}
+use Rattle.store.proofs.Format.{format-law, format-left}
 use Rattle.store.proofs.InsertCall.{insert-number, insert-zero, insert-seven, insert-refused, insert-refused-count, insert-after, insert-laid}
 use Rattle.store.specs.Tables.{FormatTable, InsertTable}
 
@@ -21,7 +21,7 @@ format-table b =
       bad-size = exactly refl (format-answers b .0) (λ c. c .1) (λ d. (tt, d));
       done = exactly refl (format-answers b .1) (λ c. c .0) (λ d. (d, tt));
       refused = refused-block (formatRefusals 1 b) b (freshOf 1 b);
-      left = done-block (formatRefusals 1 b) b (freshOf 1 b);
+      left = format-left b;
       fresh = format-law b;
     }
 

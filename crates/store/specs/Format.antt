@@ -9,6 +9,7 @@ use Rattle.blocks.specs.Trailer.{badLength}
 use Rattle.blocks.specs.TrailerWrites.{withCells, withEdition}
 use Rattle.blocks.specs.Refusal.{Refusal, refusal, Changed, changedBy}
 
+-- all zero, then n and the edition written
 unfoldable pub formatted : Layout → ℕ → List ℕ
 formatted layout size = withEdition layout (withCells layout (zeros size))
 
@@ -16,6 +17,7 @@ formatted layout size = withEdition layout (withCells layout (zeros size))
 abbrev pub newLayout : ℕ → List ℕ → Layout
 newLayout edition block = record { edition = edition; cells = length block / 32 }
 
+-- the fresh block of an edition, as long as the old one
 abbrev pub freshOf : ℕ → List ℕ → List ℕ
 freshOf edition block = formatted (newLayout edition block) (length block)
 
@@ -23,6 +25,7 @@ freshOf edition block = formatted (newLayout edition block) (length block)
 abbrev pub badNewSize : ℕ → List ℕ → Bool
 badNewSize edition block = badLength (leastCells (newLayout edition block)) (length block)
 
+-- no other answer than 1 is asked for
 abbrev pub formatRefusals : ℕ → List ℕ → List Refusal
 formatRefusals edition block = refusal 1 (badNewSize edition block) ∷ []
 

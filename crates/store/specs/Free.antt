@@ -16,6 +16,7 @@ countUp (suc count) from = from ∷ countUp count (from + 1)
 unfoldable pub allocationOrder : Layout → ℕ → List ℕ
 allocationOrder layout root = countUp (layout .cells - 1 - trailerCells layout) 1
 
+-- the usable cells that nothing reaches, in that order
 unfoldable pub free : Layout → List ℕ → List ℕ
 free layout block =
     let reached = reachable layout block in

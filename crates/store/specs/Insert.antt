@@ -17,6 +17,7 @@ use Rattle.store.specs.Committed.{numbering, committed}
 abbrev pub cellsFree : List ℕ → ℕ
 cellsFree block = length (free (layoutOf block) block)
 
+-- how many cells an insertion into a block takes
 abbrev pub cellsToInsert : List ℕ → List ℕ → ℕ
 cellsToInsert block key = cellsNeeded (layoutOf block) (memoryOf block) (rootWord (layoutOf block) block) key
 
@@ -24,6 +25,7 @@ cellsToInsert block key = cellsNeeded (layoutOf block) (memoryOf block) (rootWor
 abbrev pub noRoom : List ℕ → List ℕ → Bool
 noRoom block key = ltb (cellsFree block) (cellsToInsert block key)
 
+-- 01's table for an insertion, from answer 1 to answer 7
 abbrev pub insertRefusals : List ℕ → List ℕ → ℕ → List Refusal
 insertRefusals block key value =
     blockRefusals block ++ (refusal 3 (badNewKey key) ∷ refusal 4 (badValue value) ∷ refusal 7 (noRoom block key) ∷ [])

@@ -5,4 +5,5 @@ pub mod Laid
 pub mod Tables
 pub mod Computing
 pub mod Committed
+pub mod TakenCells
 pub mod Code

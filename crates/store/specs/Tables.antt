@@ -4,20 +4,22 @@ use mathlib.Core.Path.{_≡_}
 use mathlib.Core.Logic.{_≢_}
 use mathlib.Core.Bool.{true, false}
 use mathlib.Core.List.{List}
-use Prim.Native.Nat.{ℕ, _≤_, _<_}
-use lib.ListN.{length}
+use Prim.Native.Nat.{ℕ, _/_, _≤_, _<_}
+use lib.ListN.{length, getD}
 use Rattle.cells.specs.Bytes.{IsBytes}
+use Rattle.cells.specs.Word.{wordAt}
 use Rattle.cells.specs.Occurrences.{occurrences}
 use Rattle.nodes.specs.Layout.{usable}
 use Rattle.trees.specs.Lookup.{emptyTable, update}
-use Rattle.blocks.specs.Trailer.{badSize, layoutOf, inUse}
+use Rattle.blocks.specs.Trailer.{cellsAt, editionAt, badSize, layoutOf, inUse}
 use Rattle.blocks.specs.Sound.{sound, reachable}
 use Rattle.blocks.specs.Refusal.{Changed, Counted, badNewKey, badValue}
 use Rattle.blocks.specs.Read.{shown}
 use Rattle.blocks.specs.Tables.{Exactly, PassesKey, Passes}
 use Rattle.blocks.specs.After.{slotShown, After}
+use Rattle.blocks.specs.Left.{OutsideWord}
 use Rattle.store.specs.Free.{allocationOrder, free}
-use Rattle.store.specs.Format.{newLayout, freshOf, badNewSize}
+use Rattle.store.specs.Format.{newLayout, badNewSize}
 use Rattle.store.specs.Insert.{cellsFree, cellsToInsert, blockBuild}
 use Rattle.store.specs.Laid.{Laid}
 
@@ -34,13 +36,23 @@ pub record Fresh (edition : ℕ) (b fresh : List ℕ) : Type 0 where
   pub all-free : (c : ℕ) → usable (layoutOf fresh) c ≡ true → occurrences c (free (layoutOf fresh) fresh) ≡ 1
   pub free-is : free (layoutOf fresh) fresh ≡ allocationOrder (layoutOf fresh) 0
 
+-- 01: "A fresh book is all zero but for n and the edition": every byte of it
+pub record FreshLeft (edition : ℕ) (b fresh : List ℕ) : Type 0 where
+  pub same-length : length fresh ≡ length b
+  pub bytes : IsBytes fresh
+  -- 01: "14-17 n"
+  pub cells-word : wordAt fresh (cellsAt (newLayout edition b)) ≡ length b / 32
+  -- 01: "1C-1F edition"
+  pub edition-word : wordAt fresh (editionAt (newLayout edition b)) ≡ edition
+  pub zero : (i : ℕ) → OutsideWord (cellsAt (newLayout edition b)) i → OutsideWord (editionAt (newLayout edition b)) i → getD fresh i 0 ≡ 0
+
 -- 01's table for a fresh block: the old one is not asked, neither what it says nor whether it is sound
 pub record FormatTable (b : List ℕ) (r : Changed) : Type 0 where
   pub bad-size : Exactly (r .answer) 1 (badNewSize 1 b ≡ true)
   pub done : Exactly (r .answer) 0 (badNewSize 1 b ≡ false)
   pub refused : r .answer ≢ 0 → r .block ≡ b
-  -- all zero but for n and the edition
-  pub left : r .answer ≡ 0 → r .block ≡ freshOf 1 b
+  -- all zero but for n and the edition, 1
+  pub left : r .answer ≡ 0 → FreshLeft 1 b (r .block)
   -- which is sound, shows nothing and has no slot in use
   pub fresh : r .answer ≡ 0 → Fresh 1 b (r .block)
 

@@ -3,6 +3,7 @@ ghost use mathlib.Core.Path.{_≡_};
 ghost use mathlib.Core.Bool.{false};
 ghost use Rattle.blocks.specs.Answers.{countedOutcome};
 ghost use Rattle.blocks.specs.Refusal.{badNewKey, badValue};
+ghost use Rattle.blocks.specs.Trailer.{rootWord};
 ghost use Rattle.store.specs.Insert.{blockBuild, insert};
 ghost use Rattle.store.specs.Code.Changeable.{Changeable, InStage};
 use crate::committing::commit;
@@ -26,19 +27,19 @@ pub struct Staged {
 }
 
 // Builds an insertion in the stage; the block is only read.
-pub fn stage_insertion(
+fn stage_insertion(
     layout: Layout,
     block: &[u8],
     numbers: &[u16; STAGE_CELLS],
     free: usize,
     stage: &mut [u8; STAGE_SIZE],
     key: &[u8],
+    root: u32,
     value: u32,
 ) -> Staged
-    requires { ⌜ Changeable layout (now block) (now numbers) free (now key) ⌝ }
+    requires { ⌜ Changeable layout (now block) (now numbers) free (now key) × (root ≡ rootWord layout (now block)) ⌝ }
     ensures { λ r. ⌜ InStage layout (now (block .entry)) (blockBuild (now (block .entry)) (now (key .entry)) value) (r .made) (now (stage .exit)) (r .fits) ⌝ }
 {
-    let root = root_word(layout, block);
     let made = build(layout, block, numbers, free, stage, key, root, value);
     let fits = made.count <= free;
     Staged { made, fits }
@@ -51,13 +52,14 @@ fn insert_valid(
     numbers: &[u16; STAGE_CELLS],
     free: usize,
     key: &[u8],
+    root: u32,
     value: u32,
 ) -> CountAnswer
-    requires { ⌜ Changeable layout (now block) (now numbers) free (now key) × (badNewKey (now key) ≡ false) × (badValue value ≡ false) ⌝ }
+    requires { ⌜ Changeable layout (now block) (now numbers) free (now key) × (root ≡ rootWord layout (now block)) × (badNewKey (now key) ≡ false) × (badValue value ≡ false) ⌝ }
     ensures { λ r. ⌜ insert (now (block .entry)) (now (key .entry)) value ≡ countedOutcome r (now (block .exit)) ⌝ }
 {
     let mut stage = [0u8; STAGE_SIZE];
-    let staged = stage_insertion(layout, block, numbers, free, &mut stage, key, value);
+    let staged = stage_insertion(layout, block, numbers, free, &mut stage, key, root, value);
     if !staged.fits {
         return CountAnswer::Refused(Refusal::NoRoom);
     }
@@ -87,5 +89,10 @@ pub fn insert(block: &mut [u8], key: &[u8], value: u32) -> CountAnswer
         return CountAnswer::Refused(Refusal::BadValue);
     }
     let count = free.count;
-    insert_valid(layout, block, &numbers, count, key, value)
+    let root = root_word(layout, block);
+    // Called at two places, so that the compiler keeps the stage out of this frame, which lies below the validation.
+    if root == 0 {
+        return insert_valid(layout, block, &numbers, count, key, 0, value);
+    }
+    insert_valid(layout, block, &numbers, count, key, root, value)
 }

@@ -9,6 +9,7 @@ use Rattle.cells.specs.Occurrences.{select}
 use Rattle.nodes.specs.Layout.{Layout}
 use Rattle.nodes.specs.Node.{Node, read}
 
+-- a key with its value
 pub record Entry : Type 0 where
   pub key : List ℕ
   pub value : ℕ
@@ -55,6 +56,7 @@ keyBefore (x ∷ j) (y ∷ k) =
 abbrev pub entriesAfter : List ℕ → List Entry → List Entry
 entriesAfter key list = select (λ entry. keyBefore key (entry .key)) list
 
+-- the first pair of a list, if there is one
 unfoldable pub first : List Entry → Option Entry
 first [] = none
 first (entry ∷ rest) = some entry

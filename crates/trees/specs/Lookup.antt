@@ -12,6 +12,7 @@ use Rattle.nodes.specs.Node.{read}
 abbrev pub Table : Type 0
 Table = List ℕ → Option ℕ
 
+-- a table with no pair
 abbrev pub emptyTable : Table
 emptyTable key = none
 

@@ -24,7 +24,7 @@ use Rattle.staging.specs.NewCells.{replacedCell, appendedCell}
 use Rattle.updates.specs.Built.{Built, allocate, roomOf, characterBefore, chainWith, chainOver}
 use Rattle.updates.specs.SplitBuild.{splitOf, splitCopied}
 use Rattle.updates.specs.SetChild.{withChild, chainSet, sparseSet, setChild}
-use Rattle.updates.specs.Build.{wordAside, putBack, childOf, pathCopy, valueAt, build}
+use Rattle.updates.specs.Build.{wordAside, putBack, childOf, nodeCopy, pathCopy, valueAt, build}
 use Rattle.updates.proofs.SplitNodes.SplitBound.{split-sparse-most}
 
 -- a character at none of so many positions has no child there
@@ -161,24 +161,24 @@ module _ (number : ℕ → ℕ) where
 
     -- a path copied, where the rule at its end allocates at most one cell, and none at NONE
     module _ (atEnd : ℕ → Built) (one : (word : ℕ) → length (atEnd word .cells) ≤ 1) (empty : length (atEnd 0 .cells) ≤ 0) where
-      from-none : (key : List ℕ) → length (pathCopy layout number m atEnd 0 key .cells) ≤ length key
+      from-none : (key : List ℕ) → length (pathCopy layout m (nodeCopy layout number m) atEnd 0 key .cells) ≤ length key
       unfolding pathCopy pointerValue wordAside putBack setChild childOf
       from-none [] = empty
       from-none (x ∷ key) =
           rw (pointer-zero layout, read-zero layout m, pointer-zero layout)
-          (let later = from-none key in omega (arith, later, chainOver-sized x (pathCopy layout number m atEnd 0 key) .high))
+          (let later = from-none key in omega (arith, later, chainOver-sized x (pathCopy layout m (nodeCopy layout number m) atEnd 0 key) .high))
 
-      pub pathCopy-bound : (word : ℕ) (key : List ℕ) → length (pathCopy layout number m atEnd word key .cells) ≤ 4 * length key + 10
+      pub pathCopy-bound : (word : ℕ) (key : List ℕ) → length (pathCopy layout m (nodeCopy layout number m) atEnd word key .cells) ≤ 4 * length key + 10
       unfolding pathCopy
       pathCopy-bound word [] = omega (arith, one word)
       pathCopy-bound word (x ∷ key) =
           let beside : Pointer = pointer layout (wordAside layout m (pointer layout word) word) in
-          let below : Built = pathCopy layout number m atEnd (childOf (read layout m word) x) key in
+          let below : Built = pathCopy layout m (nodeCopy layout number m) atEnd (childOf (read layout m word) x) key in
           joined below (setChild layout number m beside x below)
           (pathCopy-bound (childOf (read layout m word) x) key)
           (putBack-most (pointerValue m (pointer layout word)) (setChild layout number m beside x below))
           (setChild-sized beside x below)
-          (λ c e h. subst (λ (w : ℕ). length (pathCopy layout number m atEnd w key .cells) ≤ length key) (sym (word-lacks word c x e h)) (from-none key))
+          (λ c e h. subst (λ (w : ℕ). length (pathCopy layout m (nodeCopy layout number m) atEnd w key .cells) ≤ length key) (sym (word-lacks word c x e h)) (from-none key))
         where
           joined : (below after : Built) → length (below .cells) ≤ 4 * length key + 10
               → length (putBack layout number (pointerValue m (pointer layout word)) after .cells) ≤ 1 + length (after .cells)
@@ -224,7 +224,7 @@ module _ (number : ℕ → ℕ) where
     step-least word x b invalid is named = absurd (named refl)
 
     pub pathCopy-least : (atEnd : ℕ → Built) (word x : ℕ) (key : List ℕ) → pointer layout word ≢ invalid
-        → 1 ≤ length (pathCopy layout number m atEnd word (x ∷ key) .cells)
+        → 1 ≤ length (pathCopy layout m (nodeCopy layout number m) atEnd word (x ∷ key) .cells)
     unfolding pathCopy
     pathCopy-least atEnd word x key named = step-least word x _ (pointer layout word) refl named
 

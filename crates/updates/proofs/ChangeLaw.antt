@@ -1,6 +1,5 @@
 -- A change of a key put into a memory at the numbers of free cells: the new root's tree and table, and that nothing else changes.
 use mathlib.Core.Path.{_≡_, refl, sym, _∙_, subst}
-use mathlib.Core.Logic.{_≢_}
 use mathlib.Core.Bool.{true}
 use mathlib.Core.List.{List}
 use mathlib.Core.Option.{Option, none, some}
@@ -13,7 +12,6 @@ use borrow.Author.Tests.{le-leb, lt-leb}
 use Rattle.cells.specs.Bytes.{IsBytes}
 use Rattle.cells.specs.Memory.{Memory}
 use Rattle.cells.specs.Occurrences.{occurrences, select}
-use Rattle.cells.proofs.Choice.{never}
 use Rattle.cells.proofs.Occurrences.{Agree}
 use Rattle.nodes.specs.Layout.{Layout, usable, cellLimit}
 use Rattle.nodes.specs.Pointer.{pointer}
@@ -24,13 +22,14 @@ use Rattle.trees.specs.Root.{isRoot}
 use Rattle.trees.proofs.Frame.{tree-frame, lookup-frame, entries-frame}
 use Rattle.trees.proofs.Usable.{tree-usable}
 use Rattle.updates.specs.Built.{Built, firstUsedOf}
-use Rattle.updates.specs.Build.{pathCopy, valueAt, build}
+use Rattle.updates.specs.Build.{nodeCopy, pathCopy, insertedAt, build}
 use Rattle.staging.specs.Numbering.{numberFrom}
 use Rattle.updates.specs.Commit.{memoryWith}
-use Rattle.updates.proofs.Claims.{numbers, BuildStands, cells-stand-from, TreeChanged, EndLaw}
+use Rattle.updates.proofs.Claims.{numbers, BuildStands, cells-stand-from, TreeChanged, Rooted, NodeLaw, EndLaw}
 use Rattle.updates.proofs.Commit.{memoryWith-other, cells-stand, numbers-free}
 use Rattle.updates.proofs.PrefixNodes.KeyEnd.{value-at-end}
-use Rattle.updates.proofs.PathLaw.{Rooted, path-law}
+use Rattle.updates.proofs.PrefixNodes.NodeCopy.{set-law}
+use Rattle.updates.proofs.PathLaw.{path-law}
 use Rattle.updates.proofs.Taken.{taken-count}
 
 -- the cells that a build takes of a list of free ones
@@ -105,11 +104,11 @@ module _ (layout : Layout) (small : layout .cells ≤ cellLimit) (free : List �
         }
 
   -- the law of a change of a key at a word whose tree has none of the free cells, from that of its path copy
-  module _ (atEnd : ℕ → Built) (assigned : Option ℕ) (a-value : assigned ≢ none)
-      (ends : EndLaw layout (numberFrom layout free) m m′ atEnd assigned) where
+  module _ (copy : ℕ → ℕ → Built → Built) (atEnd : ℕ → Built) (assigned : Option ℕ)
+      (nodes : NodeLaw layout (numberFrom layout free) m m′ copy assigned) (ends : EndLaw layout (numberFrom layout free) m m′ atEnd assigned) where
     pub change-law : (key : List ℕ) → IsBytes key → (d w : ℕ) (cs : List ℕ) → length key ≤ d
         → tree layout m d w ≡ some cs → ((c : ℕ) → 1 ≤ occurrences c cs → occurrences c free ≡ 0)
-        → (b : Built) → pathCopy layout (numberFrom layout free) m atEnd w key ≡ b → length (b .cells) ≤ length free
+        → (b : Built) → pathCopy layout m copy atEnd w key ≡ b → length (b .cells) ≤ length free
         → ((c : ℕ) → usable layout c ≡ true → m′ c ≡ memoryWith (numberFrom layout free) m (b .cells) c)
         → KeyChanged layout free m m′ d w cs key assigned b
     change-law key is-bytes d w cs fits found apart b is enough same =
@@ -118,9 +117,9 @@ module _ (layout : Layout) (small : layout .cells ≤ cellLimit) (free : List �
         let avoids : (c : ℕ) → 1 ≤ occurrences c cs → occurrences c (taken layout free b) ≡ 0 = λ c h. omega (arith, apart c h, less c) in
         let agree : Agree m m′ cs = alike b enough same d w cs found avoids in
         let standing : BuildStands layout (numberFrom layout free) m′ b = stand b enough same in
-        let standing-copy : BuildStands layout (numberFrom layout free) m′ (pathCopy layout (numberFrom layout free) m atEnd w key) =
+        let standing-copy : BuildStands layout (numberFrom layout free) m′ (pathCopy layout m copy atEnd w key) =
         subst (λ (c : Built). BuildStands layout (numberFrom layout free) m′ c) (sym is) standing in
-        let copied = path-law layout small number m m′ bytes whole atEnd assigned a-value ends key is-bytes d w cs fits found agree standing-copy in
+        let copied = path-law layout small number m m′ bytes copy atEnd assigned nodes ends key is-bytes d w cs fits found agree standing-copy in
         let tree-changed = subst (λ (c : Built). TreeChanged layout (numberFrom layout free) m m′ d w cs key assigned c) is (copied .0) in
         let newly : (c : ℕ) → 1 ≤ occurrences c free → 1 ≤ occurrences c (tree-changed .cells) → 1 ≤ occurrences c (taken layout free b) =
         λ c is-free visited. elim (decLe 1 (occurrences c cs)) [
@@ -155,6 +154,7 @@ module _ (layout : Layout) (small : layout .cells ≤ cellLimit) (free : List �
       → KeyChanged layout free m m′ d w cs key (some value) (build layout (numberFrom layout free) m w key value)
   unfolding build
   insert-law value clear key is-bytes d w cs fits found apart enough same =
-      change-law (λ word. valueAt layout (numberFrom layout free) m value (pointer layout word) word) (some value) (λ e. never (sym e))
+      change-law (nodeCopy layout (numberFrom layout free) m) (insertedAt layout (numberFrom layout free) m value) (some value)
+      (set-law layout small (numberFrom layout free) m m′ bytes whole value)
       (λ d w cs found agree standing. value-at-end layout small (numberFrom layout free) m m′ bytes d w cs found agree value clear standing)
       key is-bytes d w cs fits found apart _ refl enough same

@@ -1,5 +1,6 @@
 -- What is said of a build: where its cells stand in a memory, and what its word then names and shows.
 use mathlib.Core.Path.{_≡_, ap}
+use mathlib.Core.Logic.{_≢_}
 use mathlib.Core.Bool.{true}
 use mathlib.Core.List.{List, [], _∷_}
 use mathlib.Core.Option.{Option, none, some}
@@ -14,6 +15,7 @@ use Rattle.nodes.specs.Pointer.{pointer, wordTo}
 use Rattle.nodes.specs.Node.{Node, read, plain}
 use Rattle.trees.specs.Tree.{tree}
 use Rattle.trees.specs.Lookup.{lookup, assign}
+use Rattle.trees.specs.Root.{isRoot}
 use Rattle.updates.specs.Built.{Built, roomOf, firstUsedOf}
 use Rattle.updates.specs.SetChild.{withChild}
 
@@ -44,6 +46,10 @@ numbers-more number c newest rest = omega arith
 pub record CellStands (layout : Layout) (m : Memory) (k c : ℕ) (s : List ℕ) : Type 0 where
   pub free : usable layout c ≡ true
   pub bytes : From k (m c) s
+
+-- the word of a build is that of a root
+abbrev pub Rooted : Layout → Built → Type 0
+Rooted layout b = isRoot (pointer layout (b .word)) ≡ true
 
 module _ (layout : Layout) (number : ℕ → ℕ) where
   -- the allocated cells stand at their numbers
@@ -103,6 +109,14 @@ module _ (layout : Layout) (number : ℕ → ℕ) where
     pub least : (c : ℕ) → occurrences c (numbers number (b .cells)) ≤ occurrences c cells
     pub table : (k : List ℕ) → lookup layout m′ (b .word) k ≡ assign (lookup layout m w) key given k
     pub consistent : Consistent b
+
+  -- the law of a rule at a node of the path, where the key is given a value or none: over what is built below it, the node
+  -- with its child changed, and a root where it was one
+  pub record NodeLaw (m m′ : Memory) (copy : ℕ → ℕ → Built → Built) (given : Option ℕ) : Type 0 where
+    pub below-stands : (w x : ℕ) (b : Built) → BuildStands m′ (copy w x b) → BuildStands m′ b
+    pub changed : (w : ℕ) (X : Node) → read layout m w ≡ some X → Agree m m′ (X .cells) → (x : ℕ) → x < 256 → (b : Built) → Consistent b
+        → (given ≢ none → b .word ≢ 0) → BuildStands m′ (copy w x b)
+        → NodeChanged m′ X x b (copy w x b) × (isRoot (pointer layout w) ≡ true → Rooted layout (copy w x b))
 
   -- the law of a rule at the key's end, which gives the key a value or none
   abbrev pub EndLaw : Memory → Memory → (ℕ → Built) → Option ℕ → Type 0

@@ -15,7 +15,7 @@ use Rattle.nodes.specs.Pointer.{leafWord, wordTo}
 use Rattle.staging.specs.NewCells.{prefixCell}
 use Rattle.updates.specs.Built.{Built, room, firstUsed}
 use Rattle.updates.specs.Build.{build, cellsNeeded}
-use Rattle.updates.proofs.Related.{Contents, Characters, Relation, EachCell, Related, related-count, build-related}
+use Rattle.updates.proofs.Related.{Contents, Characters, Relation, Related, related-count, same-built, build-related}
 
 -- a numbering: no cell has the number 0, and a pointer into any has its top bit clear
 pub record Numbering (number : ℕ → ℕ) : Type 0 where
@@ -107,22 +107,6 @@ module _ (number number′ : ℕ → ℕ) (n : Numbering number) (n′ : Numberi
         ofCell = λ i s s′ f _ h within. ap f (h within);
       }
 
-  cells-same : (cells cells′ : List (List ℕ)) → EachCell (WordsAlike Within) (CellsAlike Within) cells cells′ → Within (length cells) → cells ≡ cells′
-  cells-same [] [] h within = refl
-  cells-same [] (s′ ∷ rest′) h within = absurd h
-  cells-same (s ∷ rest) [] h within = absurd h
-  cells-same (s ∷ rest) (s′ ∷ rest′) h within =
-      let first : s ≡ s′ = h .0 within in
-      let older : rest ≡ rest′ = cells-same rest rest′ (h .1) (fewer _ _ (omega arith) within) in
-      ap (λ z. z ∷ rest) first ∙ ap (λ z. s′ ∷ z) older
-
-  same-built : (b b′ : Built) → Related (WordsAlike Within) (CellsAlike Within) b b′ → Within (length (b .cells)) → b ≡ b′
-  same-built b b′ r within =
-      let word : b .word ≡ b′ .word = r .word .same within in
-      let own : b .own ≡ b′ .own = r .own in
-      let cells : b .cells ≡ b′ .cells = cells-same (b .cells) (b′ .cells) (r .cells) within in
-      λ t. record { word = word t; own = own t; cells = cells t }
-
   module _ (layout : Layout) (m : Memory) (root : ℕ) (key : List ℕ) where
     build-alike : (value value′ : ℕ) → WordsAlike Within 0 (leafWord value) (leafWord value′) → (Within 1 → value ≡ value′)
         → Related (WordsAlike Within) (CellsAlike Within) (build layout number m root key value) (build layout number′ m root key value′)
@@ -138,7 +122,7 @@ build-numbers number number′ n n′ limit agree layout m root key value fits =
     let Within : ℕ → Type 0 = λ count. count ≤ limit in
     let fewer : (i k : ℕ) → i ≤ k → k ≤ limit → i ≤ limit = λ i k less h. omega arith in
     let agree′ : (i : ℕ) → suc i ≤ limit → number i ≡ number′ i = λ i h. agree i (omega arith) in
-    same-built number number′ n n′ Within fewer agree′ _ _
+    same-built (WordsAlike Within) (CellsAlike Within) Within fewer (λ i w w′ h. h .same) (λ i s s′ h. h) _ _
     (build-alike number number′ n n′ Within fewer agree′ layout m root key value value
     (alike number number′ n n′ Within fewer agree′ .old 0 (leafWord value)) (λ _. refl)) fits
 

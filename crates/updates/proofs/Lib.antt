@@ -2,6 +2,8 @@ pub mod Claims
 pub mod Related
 pub mod Count
 pub mod BuildBytes
+pub mod Zeros
+pub mod BuildZeros
 pub mod Bound
 pub mod Commit
 pub mod SetChild

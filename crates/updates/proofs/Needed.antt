@@ -1,4 +1,5 @@
--- The build, and so the number of cells that it needs, are the same in memories that are alike on the root's tree.
+-- The build, and so the number of cells that it needs, are the same in memories that are alike on the root's tree: the relational
+-- law of a path in two memories.
 use mathlib.Core.Path.{_≡_, refl, sym, ap, _∙_, subst}
 use mathlib.Core.Logic.{_≢_}
 use mathlib.Core.List.{List, [], _∷_}
@@ -31,8 +32,8 @@ use Rattle.staging.specs.NewCells.{blank, branchCopy, headCopy, prefixCell}
 use Rattle.updates.specs.Built.{Built, allocate}
 use Rattle.updates.specs.SplitBuild.{splitCopied}
 use Rattle.updates.specs.SetChild.{chainSet, sparseSet, setChild}
-use Rattle.updates.specs.Build.{wordAside, putBack, childOf, pathCopy, valueAt, build, cellsNeeded}
-use Rattle.updates.specs.Code.Staged.{nodeCopy}
+use Rattle.updates.specs.Build.{wordAside, putBack, childOf, nodeCopy, valueAt, insertedAt, build, cellsNeeded}
+use Rattle.updates.proofs.Related.{EachCell, Related, same-built, Along, paths-related}
 use Rattle.updates.proofs.PrefixNodes.Aside.{child-of}
 use mathlib.Core.Bool.{cond}
 
@@ -144,32 +145,55 @@ module _ (layout : Layout) (m m′ : Memory) where
       ap (λ s. allocate number 31 (prefixCell value (prefixLink c s)) []) (sym (agree-head m m′ c (q .0 .footprint) agree′))
   valueAt-frame number value w invalid X e agree = refl
 
+-- what related builds are here: the same
+abbrev SameWord : ℕ → ℕ → ℕ → Type 0
+SameWord count word word′ = word ≡ word′
+
+abbrev SameCell : ℕ → List ℕ → List ℕ → Type 0
+SameCell place s s′ = s ≡ s′
+
+each-same : (cells : List (List ℕ)) → EachCell SameWord SameCell cells cells
+each-same [] = tt
+each-same (s ∷ rest) = (refl, each-same rest)
+
+as-related : {b b′ : Built} → b ≡ b′ → Related SameWord SameCell b b′
+as-related {b} same = subst (Related SameWord SameCell b) same (record { own = refl; word = refl; cells = each-same (b .cells) })
+
+as-same : {b b′ : Built} → Related SameWord SameCell b b′ → b ≡ b′
+as-same {b} {b′} r =
+    same-built SameWord SameCell (λ _. Unit {0}) (λ i k less h. tt) (λ n w w′ e h. e) (λ n s s′ e h. e) b b′ r tt
+
 module _ (layout : Layout) (small : layout .cells ≤ cellLimit) (m : Memory) (bytes : (c : ℕ) → IsBytes (m c)) (m′ : Memory) where
-  -- the build framing law
-  pub build-frame : (number : ℕ → ℕ) (value : ℕ) (key : List ℕ) → IsBytes key → (d w : ℕ) (cs : List ℕ) → length key ≤ d
-      → tree layout m d w ≡ some cs → Agree m m′ cs → build layout number m′ w key value ≡ build layout number m w key value
-  unfolding build pathCopy
-  build-frame number value [] is-bytes d w cs fits found agree =
+  -- memories that are alike on a tree copy its paths alike
+  along-memories : (number : ℕ → ℕ) (value : ℕ) (key : List ℕ) → IsBytes key → (d w : ℕ) (cs : List ℕ) → length key ≤ d
+      → tree layout m d w ≡ some cs → Agree m m′ cs
+      → Along SameWord SameCell layout m m′ (nodeCopy layout number m) (nodeCopy layout number m′) (insertedAt layout number m value) (insertedAt layout number m′ value) w key
+  along-memories number value [] is-bytes d w cs fits found agree =
       let q = tree-cut layout m d w cs found in
       let here = agree-less m m′ cs (q .0 .footprint) (footprint-in layout small m bytes d w cs (q .0) found (q .2)) agree in
-      valueAt-frame layout m m′ number value w (pointer layout w) (q .0) (sym (read-is layout m w _ refl) ∙ q .2) here
-  build-frame number value (x ∷ key) is-bytes zero w cs fits found agree = absurd (omega arith)
-  build-frame number value (x ∷ key) is-bytes (suc d) w cs fits found agree =
+      as-related (sym (valueAt-frame layout m m′ number value w (pointer layout w) (q .0) (sym (read-is layout m w _ refl) ∙ q .2) here))
+  along-memories number value (x ∷ key) is-bytes zero w cs fits found agree = absurd (omega arith)
+  along-memories number value (x ∷ key) is-bytes (suc d) w cs fits found agree =
       let near : x < 256 = is-bytes .below 0 in
       let q = tree-cut layout m (suc d) w cs found in
       let here = agree-less m m′ cs (q .0 .footprint) (footprint-in layout small m bytes (suc d) w cs (q .0) found (q .2)) agree in
       let f = node-frame layout small m bytes m′ (suc d) w cs (q .0) found agree (q .2) in
       let l = tree-below layout m d w x cs (q .0) near found (q .2) in
-      let u : ℕ = childOf (read layout m w) x in
-      let old : u ≡ q .0 .child x = child-of (read layout m w) (q .0) x (q .2) in
-      let child : childOf (read layout m′ w) x ≡ u =
-      child-of (read layout m′ w) (f .0) x (f .1) ∙ sym (f .2 .child x near) ∙ sym old in
-      let later =
-      build-frame number value key (bytes-tail x key is-bytes) d u (l .0) (omega arith) (ap (tree layout m d) old ∙ l .1)
-      (agree-less m m′ cs (l .0) (λ c h. omega (arith, l .2 c)) agree) in
-      ap (λ v. nodeCopy layout number m′ w x (build layout number m′ v key value)) child
-      ∙ ap (nodeCopy layout number m′ w x) later
-      ∙ nodeCopy-frame layout m m′ number x near (build layout number m u key value) w (q .0) (q .2) here
+      let old : childOf (read layout m w) x ≡ q .0 .child x = child-of (read layout m w) (q .0) x (q .2) in (
+        old ∙ f .2 .child x near ∙ sym (child-of (read layout m′ w) (f .0) x (f .1)),
+        λ b b′ r.
+            as-related (sym (nodeCopy-frame layout m m′ number x near b w (q .0) (q .2) here)
+            ∙ ap (nodeCopy layout number m′ w x) (as-same r)),
+        along-memories number value key (bytes-tail x key is-bytes) d (childOf (read layout m w) x) (l .0) (omega arith) (ap (tree layout m d) old ∙ l .1)
+            (agree-less m m′ cs (l .0) (λ c h. omega (arith, l .2 c)) agree),
+      )
+
+  -- the build framing law
+  pub build-frame : (number : ℕ → ℕ) (value : ℕ) (key : List ℕ) → IsBytes key → (d w : ℕ) (cs : List ℕ) → length key ≤ d
+      → tree layout m d w ≡ some cs → Agree m m′ cs → build layout number m′ w key value ≡ build layout number m w key value
+  unfolding build
+  build-frame number value key is-bytes d w cs fits found agree =
+      sym (as-same (paths-related SameWord SameCell layout m m′ _ _ _ _ w key (along-memories number value key is-bytes d w cs fits found agree)))
 
   -- the cells needed are as many
   pub needed-frame : (key : List ℕ) → IsBytes key → (d w : ℕ) (cs : List ℕ) → length key ≤ d → tree layout m d w ≡ some cs → Agree m m′ cs

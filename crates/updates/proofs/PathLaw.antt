@@ -1,6 +1,6 @@
--- The law of the build: in any memory where its cells stand, and that is alike on the cells of the old tree, its word has
--- a tree of old cells and of each allocated one, and the old table with the key assigned.
-use mathlib.Core.Path.{_≡_, refl, sym, ap, _∙_, subst}
+-- The law of a path copied: in any memory where its cells stand, and that is alike on the cells of the old tree, its word has
+-- a tree of old cells and of each allocated one, and the old table with the key assigned. It says nothing about any kind of node.
+use mathlib.Core.Path.{_≡_, sym, ap, _∙_, subst}
 use mathlib.Core.Logic.{_≢_}
 use mathlib.Core.Bool.{true}
 use mathlib.Core.List.{List, [], _∷_}
@@ -10,60 +10,21 @@ use native.Mathlib.Omega.{arith}
 use lib.ListN.{length}
 use Rattle.cells.specs.Bytes.{IsBytes}
 use Rattle.cells.specs.Memory.{Memory}
-use Rattle.cells.proofs.Choice.{never, absurd-false}
 use Rattle.cells.proofs.Words.{bytes-tail}
 use Rattle.cells.proofs.Occurrences.{Agree, agree-less}
 use Rattle.nodes.specs.Layout.{Layout, cellLimit}
-use Rattle.nodes.specs.Pointer.{Pointer, pointer}
-use Rattle.nodes.specs.Pointer.Pointer.{nothing, leaf, chain, split, sparse, prefix, invalid}
-use Rattle.nodes.specs.Node.{Node, plain, read}
-use Rattle.nodes.specs.Value.{pointerValue}
+use Rattle.nodes.specs.Pointer.{pointer}
+use Rattle.nodes.specs.Node.{Node, read}
 use Rattle.trees.specs.Tree.{tree}
 use Rattle.trees.specs.Lookup.{lookup}
 use Rattle.trees.specs.Root.{isRoot}
 use Rattle.trees.proofs.Tree.{tree-cut, tree-below, lookup-zero}
 use Rattle.trees.proofs.Assign.{assign-own}
 use Rattle.updates.specs.Built.{Built}
-use Rattle.updates.specs.SetChild.{setChild}
-use Rattle.updates.specs.Build.{wordAside, putBack, childOf, pathCopy}
-use Rattle.updates.specs.Code.Staged.{nodeCopy}
-use Rattle.updates.proofs.Claims.{BuildStands, Placed, TreeChanged, EndLaw}
-use Rattle.updates.proofs.PrefixNodes.Aside.{child-of, aside, node-below-stands, bare-placed, node-changed}
+use Rattle.updates.specs.Build.{childOf, pathCopy}
+use Rattle.updates.proofs.Claims.{BuildStands, TreeChanged, Rooted, NodeLaw, EndLaw}
+use Rattle.updates.proofs.PrefixNodes.Aside.{child-of}
 use Rattle.updates.proofs.TreeChange.{change-tree}
-
--- a root has no value, and a chain, sparse or split is one
-root-value : (layout : Layout) (m : Memory) (p : Pointer) → isRoot p ≡ true → pointerValue m p ≡ none
-unfolding isRoot pointerValue
-root-value layout m nothing root = refl
-root-value layout m (leaf v) root = absurd-false root
-root-value layout m (chain c k) root = refl
-root-value layout m (split c) root = refl
-root-value layout m (sparse c) root = refl
-root-value layout m (prefix c) root = absurd-false root
-root-value layout m invalid root = refl
-
-plain-root : (layout : Layout) (m : Memory) (p : Pointer) (Z : Node) → plain layout m p ≡ some Z → isRoot p ≡ true
-unfolding plain isRoot
-plain-root layout m nothing Z e = never e
-plain-root layout m (leaf v) Z e = never e
-plain-root layout m (chain c k) Z e = refl
-plain-root layout m (split c) Z e = refl
-plain-root layout m (sparse c) Z e = refl
-plain-root layout m (prefix c) Z e = never e
-plain-root layout m invalid Z e = never e
-
--- the word of a build is that of a root
-abbrev pub Rooted : Layout → Built → Type 0
-Rooted layout b = isRoot (pointer layout (b .word)) ≡ true
-
--- a placed node is a root where no value is put back over it
-bare-root : (layout : Layout) (number : ℕ → ℕ) (m′ : Memory) (value : Option ℕ) → value ≡ none → (Y : Node) (x : ℕ) (b r : Built)
-    → BuildStands layout number m′ (putBack layout number value r) → (BuildStands layout number m′ r → Placed layout number m′ Y x b r)
-    → Rooted layout (putBack layout number value r)
-unfolding putBack
-bare-root layout number m′ none bare Y x b r standing placed =
-    let p = placed standing in plain-root layout m′ (pointer layout (r .word)) (p .node) (p .reads)
-bare-root layout number m′ (some v) bare Y x b r standing placed = never (sym bare)
 
 -- where a value is assigned, the word of a build is not NONE
 assigned-nonzero : (layout : Layout) (number : ℕ → ℕ) (m m′ : Memory) (d w : ℕ) (cs key : List ℕ) (given : Option ℕ) (b : Built)
@@ -97,34 +58,29 @@ descend layout m m′ d w x cs near found agree =
       agree-below = agree-less m m′ cs (l .0) (λ c h. omega (arith, l .2 c)) agree;
     }
 
-module _ (layout : Layout) (small : layout .cells ≤ cellLimit) (number : ℕ → ℕ) (m m′ : Memory)
-    (bytes : (c : ℕ) → IsBytes (m c)) (whole : (c : ℕ) → length (m c) ≡ 32) where
-  -- the path of a key copied, by the law of the rule at its end: what the rule assigns to the key, a value or none
-  module _ (atEnd : ℕ → Built) (assigned : Option ℕ) (a-value : assigned ≢ none)
-      (ends : EndLaw layout number m m′ atEnd assigned) where
+module _ (layout : Layout) (small : layout .cells ≤ cellLimit) (number : ℕ → ℕ) (m m′ : Memory) (bytes : (c : ℕ) → IsBytes (m c)) where
+  -- the path of a key copied, by the laws of the rules at its nodes and at its end: what they assign to the key, a value or none
+  module _ (copy : ℕ → ℕ → Built → Built) (atEnd : ℕ → Built) (assigned : Option ℕ)
+      (nodes : NodeLaw layout number m m′ copy assigned) (ends : EndLaw layout number m m′ atEnd assigned) where
     -- a key that is not empty, changed at a root, gives a root too
     pub path-law : (key : List ℕ) → IsBytes key → (d w : ℕ) (cs : List ℕ) → length key ≤ d → tree layout m d w ≡ some cs → Agree m m′ cs
-        → BuildStands layout number m′ (pathCopy layout number m atEnd w key)
-        → TreeChanged layout number m m′ d w cs key assigned (pathCopy layout number m atEnd w key)
-        × (1 ≤ length key → isRoot (pointer layout w) ≡ true → Rooted layout (pathCopy layout number m atEnd w key))
+        → BuildStands layout number m′ (pathCopy layout m copy atEnd w key)
+        → TreeChanged layout number m m′ d w cs key assigned (pathCopy layout m copy atEnd w key)
+        × (1 ≤ length key → isRoot (pointer layout w) ≡ true → Rooted layout (pathCopy layout m copy atEnd w key))
     unfolding pathCopy
     path-law [] is-bytes d w cs fits found agree standing = (ends d w cs found agree standing, λ some-key root. absurd (omega arith))
     path-law (x ∷ key) is-bytes zero w cs fits found agree standing = absurd (omega arith)
     path-law (x ∷ key) is-bytes (suc d) w cs fits found agree standing =
         let near : x < 256 = is-bytes .below 0 in
         let u : ℕ = childOf (read layout m w) x in
-        let b : Built = pathCopy layout number m atEnd u key in
+        let b : Built = pathCopy layout m copy atEnd u key in
         let s = descend layout m m′ d w x cs near found agree in
         let below : TreeChanged layout number m m′ d u (s .cells) key assigned b =
-        path-law key (bytes-tail x key is-bytes) d u (s .cells) (omega arith) (s .found) (s .agree-below)
-        (node-below-stands layout small number m m′ bytes whole w x b standing) .0 in
-        let nonzero : b .word ≢ 0 = assigned-nonzero layout number m m′ d u (s .cells) key assigned b below a-value in (
+        path-law key (bytes-tail x key is-bytes) d u (s .cells) (omega arith) (s .found) (s .agree-below) (nodes .below-stands w x b standing) .0 in
+        let node = nodes .changed w (s .node) (s .reads) (s .agree) x near b (below .consistent)
+        (assigned-nonzero layout number m m′ d u (s .cells) key assigned b below) standing in (
           change-tree layout small number m m′ bytes d w cs found agree (s .node) (s .reads) x near (s .cells)
-              (ap (tree layout m d) (sym (s .child)) ∙ s .found) key assigned b (nodeCopy layout number m w x b)
-              (node-changed layout small number m m′ bytes whole w (s .node) (s .reads) (s .agree) x near b nonzero (below .consistent) standing)
+              (ap (tree layout m d) (sym (s .child)) ∙ s .found) key assigned b (copy w x b) (node .0)
               (subst (λ v. TreeChanged layout number m m′ d v (s .cells) key assigned b) (s .child) below),
-          λ some-key root.
-              bare-root layout number m′ (pointerValue m (pointer layout w)) (root-value layout m (pointer layout w) root)
-              (aside layout m w (s .node) (s .reads) .bare) x b (setChild layout number m (pointer layout (wordAside layout m (pointer layout w) w)) x b) standing
-              (bare-placed layout small number m m′ bytes whole w (s .node) (s .reads) (s .agree) x near b nonzero (below .consistent)),
+          λ some-key root. node .1 root,
         )

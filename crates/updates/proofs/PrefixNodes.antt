@@ -2,3 +2,4 @@
 pub mod Prefixes
 pub mod Aside
 pub mod KeyEnd
+pub mod NodeCopy

@@ -14,11 +14,13 @@ use Rattle.trees.specs.Tree.{tree}
 use Rattle.staging.specs.Numbering.{numberFrom}
 use Rattle.updates.specs.Build.{build, cellsNeeded}
 use Rattle.updates.specs.Commit.{memoryWith}
+use Rattle.updates.specs.Zeros.{CleanBuild}
 use Rattle.updates.proofs.ChangeLaw.{KeyChanged}
 use Rattle.updates.proofs.ChangeLaw as change
 use Rattle.updates.proofs.Count.{Numbering}
 use Rattle.updates.proofs.Count as count
 use Rattle.updates.proofs.Bound as bound
+use Rattle.updates.proofs.BuildZeros as zeros
 
 -- free cells are usable and none is listed twice; the memories differ in usable cells by the allocated ones at their numbers
 module _ (layout : Layout) (small : layout .cells ≤ cellLimit) (free : List ℕ) (each : (c : ℕ) → 1 ≤ occurrences c free → usable layout c ≡ true)
@@ -38,3 +40,8 @@ module _ (layout : Layout) (number : ℕ → ℕ) (m : Memory) (root : ℕ) (key
   -- the count has no value, numbering or snapshot among its arguments
   pub count-needed : Numbering number → value < 2147483648 → length (build layout number m root key value .cells) ≡ cellsNeeded layout m root key
   count-needed n = count.count-needed layout number n m root key value
+
+  -- 01: "A taken cell's meaningless bytes are zero"
+  pub build-clean : Numbering number → ((c : ℕ) → length (m c) ≡ 32) → value < 2147483648 → IsBytes key → (d : ℕ) (cs : List ℕ) → length key ≤ d
+      → tree layout m d root ≡ some cs → CleanBuild number (build layout number m root key value)
+  build-clean n whole clear is-bytes d cs fits found = zeros.build-clean number n layout m whole value clear key is-bytes d root cs fits found

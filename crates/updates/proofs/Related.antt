@@ -1,4 +1,5 @@
--- Two builds of one change under two numberings: one law over every step, of which counts, bytes and numbers are instances.
+-- Two builds of one change, under two numberings or in two memories: one law over every step, of which counts, bytes, numbers
+-- and the cells needed are instances.
 use mathlib.Core.Path.{_≡_, refl, ap, _∙_, subst}
 use mathlib.Core.Bool.{Bool, true, false, cond}
 use mathlib.Core.List.{List, [], _∷_}
@@ -21,7 +22,7 @@ use Rattle.staging.specs.NewCells.{blank, chainCell, prefixCell, sparsePair, re
 use Rattle.updates.specs.Built.{Built, unowned, allocate, room, roomOf, firstUsed, firstUsedOf, characterBefore, chainWith, chainOver}
 use Rattle.updates.specs.SplitBuild.{Row, branchRow, rows, endRow, midRow, splitOf, splitCopied}
 use Rattle.updates.specs.SetChild.{chainSet, sparseSet, setChild}
-use Rattle.updates.specs.Build.{wordAside, putBack, childOf, pathCopy, valueAt, build}
+use Rattle.updates.specs.Build.{wordAside, putBack, childOf, nodeCopy, pathCopy, valueAt, build}
 use Rattle.updates.proofs.ChainNodes.Rooms.{room-most}
 
 -- what holds of every cell that a build writes, by the ways to write one; the characters of its key are `Character`
@@ -88,6 +89,44 @@ module _ (Words : ℕ → ℕ → ℕ → Type 0) (Cells : ℕ → List ℕ → 
 
   pub related-count : (b b′ : Built) → Related b b′ → length (b .cells) ≡ length (b′ .cells)
   related-count b b′ r = each-count (b .cells) (b′ .cells) (r .cells)
+
+  -- related builds are the same where related words and cells are, as they may be up to so many cells only
+  module _ (Within : ℕ → Type 0) (fewer : (i k : ℕ) → i ≤ k → Within k → Within i)
+      (same-word : (n w w′ : ℕ) → Words n w w′ → Within n → w ≡ w′) (same-cell : (n : ℕ) (s s′ : List ℕ) → Cells n s s′ → Within (suc n) → s ≡ s′) where
+    cells-same : (cells cells′ : List (List ℕ)) → EachCell cells cells′ → Within (length cells) → cells ≡ cells′
+    cells-same [] [] h within = refl
+    cells-same [] (s′ ∷ rest′) h within = absurd h
+    cells-same (s ∷ rest) [] h within = absurd h
+    cells-same (s ∷ rest) (s′ ∷ rest′) h within =
+        let first : s ≡ s′ = same-cell (length rest) s s′ (h .0) within in
+        let older : rest ≡ rest′ = cells-same rest rest′ (h .1) (fewer _ _ (omega arith) within) in
+        ap (λ z. z ∷ rest) first ∙ ap (λ z. s′ ∷ z) older
+
+    pub same-built : (b b′ : Built) → Related b b′ → Within (length (b .cells)) → b ≡ b′
+    same-built b b′ r within =
+        let word : b .word ≡ b′ .word = same-word _ _ _ (r .word) within in
+        let own : b .own ≡ b′ .own = r .own in
+        let cells : b .cells ≡ b′ .cells = cells-same (b .cells) (b′ .cells) (r .cells) within in
+        λ t. record { word = word t; own = own t; cells = cells t }
+
+  -- two path copies, each in its memory and by its rules: they go down by the same words, and each node and the end are copied alike
+  module _ (layout : Layout) (m m′ : Memory) (copy copy′ : ℕ → ℕ → Built → Built) (atEnd atEnd′ : ℕ → Built) where
+    abbrev pub Along : ℕ → List ℕ → Type 0
+    Along word [] = Related (atEnd word) (atEnd′ word)
+    Along word (x ∷ key) =
+        (childOf (read layout m word) x ≡ childOf (read layout m′ word) x)
+        × ((b b′ : Built) → Related b b′ → Related (copy word x b) (copy′ word x b′))
+        × Along (childOf (read layout m word) x) key
+
+    -- the relational law of a path
+    pub paths-related : (word : ℕ) (key : List ℕ) → Along word key
+        → Related (pathCopy layout m copy atEnd word key) (pathCopy layout m′ copy′ atEnd′ word key)
+    unfolding pathCopy
+    paths-related word [] along = along
+    paths-related word (x ∷ key) along =
+        along .1 _ _
+        (subst (λ (u : ℕ). Related (pathCopy layout m copy atEnd (childOf (read layout m word) x) key) (pathCopy layout m′ copy′ atEnd′ u key)) (along .0)
+        (paths-related (childOf (read layout m word) x) key (along .2)))
 
   module _ (number number′ : ℕ → ℕ) (m : Memory) (Character : ℕ → Type 0) (Content : List ℕ → Type 0)
       (contents : Contents m Character Content) (relation : Relation number number′ Content Words Cells) where
@@ -260,15 +299,17 @@ module _ (Words : ℕ → ℕ → ℕ → Type 0) (Cells : ℕ → List ℕ → 
       putBack-related none b b′ r = r
       putBack-related (some v) b b′ r = over-related 31 (prefixCell v) b b′ (omega arith) (λ w. contents .prefixed v w) r
 
-      -- a path copied, where the rules at its end are related
-      pub pathCopy-related : (atEnd atEnd′ : ℕ → Built) → ((word : ℕ) → Related (atEnd word) (atEnd′ word)) → (word : ℕ) (key : List ℕ) → Characters Character key
-          → Related (pathCopy layout number m atEnd word key) (pathCopy layout number′ m atEnd′ word key)
-      unfolding pathCopy
-      pathCopy-related atEnd atEnd′ h word [] is = h word
-      pathCopy-related atEnd atEnd′ h word (x ∷ key) is =
-          putBack-related (pointerValue m (pointer layout word)) _ _
-          (setChild-related (pointer layout (wordAside layout m (pointer layout word) word)) x _ _ (is .0)
-          (pathCopy-related atEnd atEnd′ h (childOf (read layout m word) x) key (is .1)))
+      -- in one memory under two numberings a path is copied alike, where the rules at its end are related
+      along-numbers : (atEnd atEnd′ : ℕ → Built) → ((word : ℕ) → Related (atEnd word) (atEnd′ word)) → (word : ℕ) (key : List ℕ) → Characters Character key
+          → Along layout m m (nodeCopy layout number m) (nodeCopy layout number′ m) atEnd atEnd′ word key
+      along-numbers atEnd atEnd′ h word [] is = h word
+      along-numbers atEnd atEnd′ h word (x ∷ key) is = (
+        refl,
+        λ b b′ r.
+            putBack-related (pointerValue m (pointer layout word)) _ _
+            (setChild-related (pointer layout (wordAside layout m (pointer layout word) word)) x b b′ (is .0) r),
+        along-numbers atEnd atEnd′ h (childOf (read layout m word) x) key (is .1),
+      )
 
       -- the build of one insertion, where the leaf and the prefix of its value are related
       module _ (value value′ : ℕ) (leaves : Words 0 (leafWord value) (leafWord value′))
@@ -292,4 +333,5 @@ module _ (Words : ℕ → ℕ → ℕ → Type 0) (Cells : ℕ → List ℕ → 
         pub build-related : (root : ℕ) (key : List ℕ) → Characters Character key
             → Related (build layout number m root key value) (build layout number′ m root key value′)
         unfolding build
-        build-related root key is = pathCopy-related _ _ (λ word. valueAt-related (pointer layout word) word) root key is
+        build-related root key is =
+            paths-related layout m m _ _ _ _ root key (along-numbers _ _ (λ word. valueAt-related (pointer layout word) word) root key is)

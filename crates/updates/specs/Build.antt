@@ -29,17 +29,24 @@ unfoldable pub putBack : Layout → (ℕ → ℕ) → Option ℕ → Built → B
 putBack layout number none b = b
 putBack layout number (some value) b = allocate number 0x1F (prefixCell value (b .word)) (b .cells)
 
+-- the child word of a node that was read, NONE where there is no node
 unfoldable pub childOf : Option Node → ℕ → ℕ
 childOf none x = 0
 childOf (some node) x = node .child x
 
--- the path of a key copied up to its root; what becomes of the node at the key's end is the caller's rule
-unfoldable pub pathCopy : Layout → (ℕ → ℕ) → Memory → (ℕ → Built) → ℕ → List ℕ → Built
-pathCopy layout number m atEnd word [] = atEnd word
-pathCopy layout number m atEnd word (x ∷ key) =
+-- one node of a path copied, over what is built below it. 01: "Above it, set aside the node's value (a leaf counts as a value
+-- over NONE), set the child, then put the value back with a new prefix cell."
+abbrev pub nodeCopy : Layout → (ℕ → ℕ) → Memory → ℕ → ℕ → Built → Built
+nodeCopy layout number m word x below =
     let here = pointer layout word in
-    let below = pathCopy layout number m atEnd (childOf (read layout m word) x) key in
     putBack layout number (pointerValue m here) (setChild layout number m (pointer layout (wordAside layout m here word)) x below)
+
+-- the path of a key copied up to its root; what becomes of a node on the way and of the one at the key's end are the caller's rules
+unfoldable pub pathCopy : Layout → Memory → (ℕ → ℕ → Built → Built) → (ℕ → Built) → ℕ → List ℕ → Built
+pathCopy layout m copy atEnd word [] = atEnd word
+pathCopy layout m copy atEnd word (x ∷ key) =
+    let below = pathCopy layout m copy atEnd (childOf (read layout m word) x) key in
+    copy word x below
 
 -- 01: "At the label's end: NONE or leaf becomes a leaf. A prefix is replaced by a new prefix cell to the same linked node;
 -- any other node gets a new prefix cell."
@@ -52,9 +59,13 @@ valueAt layout number m value (sparse c) word = allocate number 0x1F (prefixCell
 valueAt layout number m value (prefix c) word = allocate number 0x1F (prefixCell value (prefixLink c (m c))) []
 valueAt layout number m value invalid word = unowned (leafWord value) []
 
+-- what an insertion makes of the word at the key's end
+abbrev pub insertedAt : Layout → (ℕ → ℕ) → Memory → ℕ → ℕ → Built
+insertedAt layout number m value word = valueAt layout number m value (pointer layout word) word
+
 -- the build of one insertion
 unfoldable pub build : Layout → (ℕ → ℕ) → Memory → ℕ → List ℕ → ℕ → Built
-build layout number m root key value = pathCopy layout number m (λ word. valueAt layout number m value (pointer layout word) word) root key
+build layout number m root key value = pathCopy layout m (nodeCopy layout number m) (insertedAt layout number m value) root key
 
 -- 01: "The cells that an entry takes are counted from the root's tree as the call begins, the edition and the label, as if
 -- one more free cell could always be had."

@@ -7,6 +7,7 @@ use lib.ListN.{length, set}
 use Rattle.nodes.specs.Pointer.{wordTo}
 use Rattle.staging.specs.NewCells.{chainCell}
 
+-- the word of the new node, and the cells allocated so far
 pub record Built : Type 0 where
   pub word : ℕ  -- of the new node
   pub own : Bool  -- its cell is the newest that this call allocated
@@ -24,6 +25,7 @@ allocate number kind bytes cells = record { word = wordTo (number (length cells)
 unfoldable pub room : Bool → ℕ → ℕ
 room own word = cond (own && ltb word 0x80000000 && ltb (word % 32) 0x1C) (word % 32) 0
 
+-- the same of a build
 abbrev pub roomOf : Built → ℕ
 roomOf b = room (b .own) (b .word)
 
@@ -31,6 +33,7 @@ roomOf b = room (b .own) (b .word)
 unfoldable pub firstUsed : Bool → ℕ → ℕ
 firstUsed own word = cond (own && ltb word 0x80000000 && eqb (word % 32) 0x1C) 0x10 (room own word)
 
+-- the same of a build
 abbrev pub firstUsedOf : Built → ℕ
 firstUsedOf b = firstUsed (b .own) (b .word)
 
@@ -40,6 +43,7 @@ characterBefore number x word place [] = allocate number 0x1B (chainCell x word)
 characterBefore number x word place (newest ∷ rest) =
     record { word = wordTo (number (length rest)) place; own = true; cells = set newest place x ∷ rest }
 
+-- a character before a child, by the room that there is
 unfoldable pub chainWith : (ℕ → ℕ) → ℕ → ℕ → ℕ → List (List ℕ) → Built
 chainWith number x word zero cells = allocate number 0x1B (chainCell x word) cells
 chainWith number x word (suc place) cells = characterBefore number x word place cells

@@ -34,6 +34,7 @@ sparseSet number bytes x b =
     (cond (ltb k 6) (allocate number 0x1E (appendedCell bytes x (b .word)) (b .cells))
     (splitOf number (withChild (sparseChild bytes) x (b .word)) (b .cells)))
 
+-- a child set, by the node's kind; a leaf and a prefix have their value set aside before
 unfoldable pub setChild : Layout → (ℕ → ℕ) → Memory → Pointer → ℕ → Built → Built
 setChild layout number m nothing x b = chainOver number x b
 setChild layout number m (leaf v) x b = chainOver number x b

@@ -8,9 +8,10 @@ ghost use Rattle.nodes.specs.Layout.{keyLimit};
 ghost use Rattle.nodes.specs.Pointer.{pointer};
 ghost use Rattle.nodes.specs.Node.{Node, read};
 ghost use Rattle.updates.specs.SetChild.{setChild};
-ghost use Rattle.updates.specs.Build.{wordAside, childOf, build};
+ghost use Rattle.updates.specs.Build.{wordAside, childOf, nodeCopy, build};
 ghost use Rattle.staging.specs.Numbering.{numberFrom};
-ghost use Rattle.updates.specs.Code.Staged.{builtOf, Fitting, HasTree, nodeCopy, reached, Path};
+ghost use Rattle.trees.specs.Code.Coded.{Grown};
+ghost use Rattle.updates.specs.Code.Staged.{builtOf, Fitting, reached, Path};
 ghost use Rattle.staging.specs.Code.Stage.{Numbered};
 ghost use Rattle.nodes.specs.Code.Covered.{Covered};
 use crate::chain::chain_over;
@@ -62,7 +63,7 @@ fn word_aside(layout: Layout, block: &[u8], word: u32) -> u32
 }
 
 // A child of a node with no value set, by the node's kind.
-pub fn set_child(
+fn set_child(
     layout: Layout,
     block: &[u8],
     numbers: &[u16; STAGE_CELLS],
@@ -117,7 +118,7 @@ fn put_word_of(path: &mut [u32; KEY_LIMIT], at: usize, word: u32)
 
 // Down by a key: the word of the node before each character, and the word at the key's end.
 fn descend(layout: Layout, block: &[u8], key: &[u8], word: u32, path: &mut [u32; KEY_LIMIT]) -> u32
-    requires { ⌜ Covered layout (now block) × (length (now key) ≤ keyLimit) × HasTree layout (memoryOf (now block)) word (length (now key)) ⌝ }
+    requires { ⌜ Covered layout (now block) × (length (now key) ≤ keyLimit) × Grown layout (memoryOf (now block)) keyLimit word ⌝ }
     ensures { λ r. ⌜ (r ≡ reached layout (memoryOf (now (block .entry))) word (now (key .entry)) (length (now (key .entry)))) × Path layout (memoryOf (now (block .entry))) word (now (key .entry)) (length (now (key .entry))) (now (path .exit)) ⌝ }
 {
     let mut at = word;
@@ -141,7 +142,7 @@ pub fn build(
     word: u32,
     value: u32,
 ) -> BuildState
-    requires { ⌜ Numbered layout free × (layout .cells * 32 ≤ length (now block)) × (length (now key) ≤ keyLimit) × HasTree layout (memoryOf (now block)) word (length (now key)) ⌝ }
+    requires { ⌜ Numbered layout free × (layout .cells * 32 ≤ length (now block)) × (length (now key) ≤ keyLimit) × Grown layout (memoryOf (now block)) keyLimit word ⌝ }
     ensures { λ r. ⌜ builtOf r (now (stage .exit)) ≡ build layout (numberFrom layout (take free (now (numbers .entry)))) (memoryOf (now (block .entry))) word (now (key .entry)) value ⌝ }
 {
     let mut path = [0u32; KEY_LIMIT];

@@ -2,6 +2,7 @@
 
 use crate::coverage::Coverage;
 use crate::encode::{entered, fresh_cells, Cases, Layer};
+use crate::limits::{held_limits, limits_met};
 use crate::model::{put_word, word_at, Store, CELL, LONGEST_KEY};
 use crate::verdict::{verdict, Question};
 use std::ops::Bound;
@@ -62,6 +63,7 @@ impl Call {
 pub fn perform(block: &mut [u8], call: &Call, coverage: &mut Coverage) -> Outcome {
     let outcome = answer(block, call, coverage);
     coverage.call(call.number(), outcome.answer, block.len());
+    limits_met(block.len(), call, outcome.answer).into_iter().for_each(|limit| coverage.limit(limit));
     outcome
 }
 
@@ -89,7 +91,13 @@ fn answer(block: &mut [u8], call: &Call, coverage: &mut Coverage) -> Outcome {
         Call::Snapshot { slot } => snapshot(block, *slot),
         Call::Restore { slot } => restore(block, *slot),
         Call::Release { slot } => release(block, *slot),
-        Call::Verdict(question) => verdict(&store, question),
+        Call::Verdict(question) => {
+            let held = store.root.table().get(&question.label).copied();
+            let outcome = verdict(held, question);
+            let limits = held.map(|held| held_limits(question, held, outcome.answer));
+            limits.into_iter().flatten().for_each(|limit| coverage.limit(limit));
+            outcome
+        }
     }
 }
 

@@ -1,12 +1,18 @@
-//! One call on both programs: answer, values and every byte of the block are compared.
+//! One call, or one list of them, on both programs: answers, values and every byte of the block are compared.
 
 use crate::calls::{perform, Call, Outcome};
 use crate::coverage::Coverage;
 use crate::ledger::Ledger;
+use crate::lists::{run, Ended, List, BAD_SIZE};
 use crate::model::{Store, CELL};
+use std::fmt::Debug;
 
-/// The other program's way to make a call.
-pub type Other = fn(&mut [u8], &Call) -> Outcome;
+/// The other program's way to make a call, and a list of calls.
+#[derive(Clone, Copy)]
+pub struct Other {
+    pub call: fn(&mut [u8], &Call) -> Outcome,
+    pub list: fn(&mut List) -> Ended,
+}
 
 /// The most differences that are printed in full.
 const PRINTED: u64 = 5;
@@ -14,6 +20,8 @@ const PRINTED: u64 = 5;
 /// The counts of a run, its differences, and the other program where there is one.
 pub struct Comparison {
     pub coverage: Coverage,
+    /// What the lists and the calls in them met.
+    pub listed: Coverage,
     pub differences: u64,
     pub seed: u64,
     other: Option<Other>,
@@ -23,7 +31,7 @@ pub struct Comparison {
 impl Comparison {
     /// Nothing compared yet; a traced run prints each call before it is made, to find one that never comes back.
     pub fn new(other: Option<Other>, traced: bool) -> Comparison {
-        Comparison { coverage: Coverage::new(), differences: 0, seed: 0, other, traced }
+        Comparison { coverage: Coverage::new(), listed: Coverage::new(), differences: 0, seed: 0, other, traced }
     }
 
     /// Makes a call on the block, compares, and leaves the model's bytes in the block.
@@ -35,7 +43,7 @@ impl Comparison {
         let own = perform(block, call, &mut self.coverage);
         if let Some(other) = self.other {
             let mut their_block = before.clone();
-            let their = other(&mut their_block, call);
+            let their = (other.call)(&mut their_block, call);
             if own != their || *block != their_block {
                 let (own, their) = (describe(&own), describe(&their));
                 self.note(call, &before, &format!("the model answers   {own}\nthe library answers {their}"));
@@ -66,8 +74,35 @@ impl Comparison {
         outcome
     }
 
+    /// Runs a list of calls, compares its end, its count, every answer byte and every byte of the block, and holds the
+    /// answers and the last block against the ledger.
+    pub fn list(&mut self, list: List) {
+        let mut own = list.clone();
+        if self.traced {
+            eprintln!("{} on {} bytes", hexadecimal(&list.bytes), list.block.len());
+        }
+        let (ended, made) = run(&mut own, &mut self.listed);
+        if let Some(other) = self.other {
+            let mut their = list.clone();
+            let their_end = (other.list)(&mut their);
+            if ended != their_end || own != their {
+                let (answers, their_answers) = (hexadecimal(&own.answers), hexadecimal(&their.answers));
+                let ends = format!("the model   {ended:?} {answers}\nthe library {their_end:?} {their_answers}");
+                self.note(&format_args!("a list, {}", hexadecimal(&list.bytes)), &list.block, &ends);
+                self.print_cells(&own.block, &their.block);
+            }
+        }
+        let mut ledger = Ledger::default();
+        let fed = made.iter().zip(&own.answers).all(|(call, answer)| ledger.feed(call, *answer == 7) == Some(*answer));
+        let shown = ended.number == BAD_SIZE || Store::decode(&own.block).is_ok_and(|store| ledger.shown_by(&store));
+        if !fed || !shown {
+            let what = "a list's answers or its last block are not the ledger's";
+            self.note(&format_args!("a list, {}", hexadecimal(&list.bytes)), &list.block, what);
+        }
+    }
+
     /// Counts a difference, and prints the first few with the call and the block as it was before.
-    pub fn note(&mut self, call: &Call, before: &[u8], what: &str) {
+    pub fn note(&mut self, call: &dyn Debug, before: &[u8], what: &str) {
         self.differences += 1;
         if self.differences <= PRINTED {
             println!("DIFFERENCE in the scene of seed {}", self.seed);

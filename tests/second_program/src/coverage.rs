@@ -1,5 +1,6 @@
 //! What the calls have met: answers by call, shapes of nodes, build cases, broken rules.
 
+use crate::limits::{all_limits, Limit};
 use std::collections::BTreeMap;
 
 /// The calls, in the order of `Call::number`.
@@ -18,6 +19,10 @@ const REACHABLE: [&[usize]; 9] = [
     &[0, 1, 2, 5, 6],
     &[0, 1, 2, 3, 8, 9, 10, 11, 12, 13, 14],
 ];
+
+/// The answers that the calls of a list can give: its block is fresh, so none of its own calls gets 1 or 2.
+const LISTED: [(usize, &[usize]); 5] =
+    [(0, &[0, 1]), (2, &[0, 3, 4, 7]), (5, &[0, 5]), (6, &[0, 5, 6]), (7, &[0, 5, 6])];
 
 /// Declares an enum of things to be counted, with its number of cases and their names.
 macro_rules! counted {
@@ -59,6 +64,13 @@ counted! {
     Room: TookLastFree, OneShort,
 }
 
+counted! {
+    /// How a list of calls ends, what is left over there, and what stands in it.
+    ListCase: AtEnd, BadSize, NoCall, Full, EndAsAnswersFill, NothingAtAll, AnswersLeftOver, NoAnswerByte,
+    FullBeforeNoCall, OtherTag, InsertCut, SlotCut, OneByteShort, KeyOf0, KeyOf48, KeyOf49, KeyOf255, LongList,
+    LargeBlock,
+}
+
 /// The shapes and order words of one block.
 #[derive(Default)]
 pub struct Met {
@@ -84,13 +96,15 @@ impl Met {
 /// All counts of a run.
 pub struct Coverage {
     pub calls: u64,
-    pub small_calls: u64,
+    pub large_calls: u64,
     answers: [[u64; 15]; 9],
     shapes: [u64; Shape::NAMES.len()],
     cases: [u64; BuildCase::NAMES.len()],
     flaws: [u64; Flaw::NAMES.len()],
     rooms: [u64; Room::NAMES.len()],
     orders: BTreeMap<u16, u64>,
+    limits: BTreeMap<Limit, u64>,
+    lists: [u64; ListCase::NAMES.len()],
 }
 
 impl Coverage {
@@ -98,20 +112,22 @@ impl Coverage {
     pub fn new() -> Coverage {
         Coverage {
             calls: 0,
-            small_calls: 0,
+            large_calls: 0,
             answers: [[0; 15]; 9],
             shapes: [0; Shape::NAMES.len()],
             cases: [0; BuildCase::NAMES.len()],
             flaws: [0; Flaw::NAMES.len()],
             rooms: [0; Room::NAMES.len()],
             orders: BTreeMap::new(),
+            limits: all_limits().into_iter().map(|limit| (limit, 0)).collect(),
+            lists: [0; ListCase::NAMES.len()],
         }
     }
 
     /// Counts a call by its answer and by the size of its block.
     pub fn call(&mut self, call: usize, answer: u8, block_length: usize) {
         self.calls += 1;
-        self.small_calls += u64::from(block_length < 64 * 32);
+        self.large_calls += u64::from(block_length >= 64 * 32);
         self.answers[call][answer as usize] += 1;
     }
 
@@ -143,32 +159,79 @@ impl Coverage {
         self.rooms[Room::OneShort as usize] += u64::from(count == free + 1);
     }
 
-    /// The least count that is asked for: 1,000 in a million calls or more, none in a shorter trial.
-    fn demanded(&self) -> u64 {
-        if self.calls < 1_000_000 { 0 } else { 1000 }
+    /// Counts a limit that a call met, if it is one of those that are asked for.
+    pub fn limit(&mut self, limit: Limit) {
+        if let Some(count) = self.limits.get_mut(&limit) {
+            *count += 1;
+        }
+    }
+
+    /// Counts a case of a list where it holds.
+    pub fn list(&mut self, case: ListCase, holds: bool) {
+        self.lists[case as usize] += u64::from(holds);
+    }
+
+    /// How many lists were run.
+    pub fn lists(&self) -> u64 {
+        let ends = [ListCase::AtEnd, ListCase::BadSize, ListCase::NoCall, ListCase::Full];
+        ends.iter().map(|case| self.lists[*case as usize]).sum()
+    }
+
+    /// The least count that is asked for: this much in a million calls or more, none in a shorter trial.
+    fn demanded(&self, least: u64) -> u64 {
+        if self.calls < 1_000_000 { 0 } else { least }
     }
 
     /// Prints every count and gives the number of those that fall short.
     pub fn report(&self) -> usize {
-        let least = self.demanded();
+        let least = self.demanded(1000);
         let mut short = 0;
-        for (call, answers) in self.answers.iter().enumerate() {
-            let reachable = REACHABLE[call].iter().map(|answer| (*answer, answers[*answer]));
-            let counts: Vec<String> = reachable.clone().map(|(answer, count)| format!("{answer}: {count}")).collect();
-            println!("{:<10} {}", CALLS[call], counts.join("  "));
-            let inside: u64 = reachable.clone().map(|(_, count)| count).sum();
-            short += reachable.filter(|(_, count)| *count < least).count();
-            short += usize::from(inside != answers.iter().sum());
+        for (call, reachable) in REACHABLE.iter().enumerate() {
+            short += self.report_answers(call, reachable, least);
         }
         short += print_counts("shapes", Shape::NAMES, &self.shapes, least);
         short += print_counts("build cases", BuildCase::NAMES, &self.cases, least);
         short += print_counts("room", Room::NAMES, &self.rooms, least);
         short += print_counts("broken rules", Flaw::NAMES, &self.flaws, least);
+        short += self.report_limits();
         let words = self.orders.len();
         println!("order words met: {words} of 436");
-        println!("calls on blocks under 64 cells: {} of {}", self.small_calls, self.calls);
-        let enough_small = self.small_calls * 10 >= self.calls * 9;
-        short + usize::from(words != 436) + usize::from(!enough_small)
+        short + usize::from(words != 436) + self.report_large(least)
+    }
+
+    /// Prints what the lists met, with the answers of their calls, and gives the number of counts that fall short.
+    pub fn report_lists(&self, least: u64) -> usize {
+        let mut short = print_counts("lists of calls", ListCase::NAMES, &self.lists, least);
+        for (call, reachable) in LISTED {
+            short += self.report_answers(call, reachable, least);
+        }
+        short + self.report_large(least)
+    }
+
+    /// Prints a call's answers and gives the number of those that fall short; an answer that it cannot give is one too.
+    fn report_answers(&self, call: usize, reachable: &[usize], least: u64) -> usize {
+        let answers = &self.answers[call];
+        let counts: Vec<String> = reachable.iter().map(|answer| format!("{answer}: {}", answers[*answer])).collect();
+        println!("{:<10} {}", CALLS[call], counts.join("  "));
+        let inside: u64 = reachable.iter().map(|answer| answers[*answer]).sum();
+        let few = reachable.iter().filter(|answer| answers[**answer] < least).count();
+        few + usize::from(inside != answers.iter().sum())
+    }
+
+    /// Prints how often the rarest limit was met and gives the number of those that fall short.
+    fn report_limits(&self) -> usize {
+        let least = self.demanded(20);
+        let rarest = self.limits.values().min().copied().unwrap_or(0);
+        println!("limits met: {}, each at least {rarest} times", self.limits.len());
+        let few = self.limits.iter().filter(|(_, count)| **count < least);
+        few.clone().for_each(|(limit, count)| println!("    too few: {limit:?} {count}, {least} asked for"));
+        few.count()
+    }
+
+    /// Prints the share of the larger blocks, which must be a fifth of the calls where any count is asked for.
+    fn report_large(&self, least: u64) -> usize {
+        println!("calls on blocks of 64 cells or more: {} of {}, a fifth asked for", self.large_calls, self.calls);
+        usize::from(least > 0 && self.large_calls * 5 < self.calls)
     }
 }
 

@@ -13,6 +13,8 @@ pub const HISTORY: Weights = [1, 3, 36, 10, 12, 9, 7, 5, 17];
 pub const FOREIGN: Weights = [0, 6, 36, 11, 15, 6, 6, 4, 16];
 /// Calls on a block that may be unsound.
 pub const HOSTILE: Weights = [1, 20, 16, 10, 10, 9, 9, 9, 16];
+/// Calls of a list.
+pub const LISTED: Weights = [0, 0, 62, 0, 0, 14, 13, 11, 0];
 /// Calls on a block of a bad length.
 pub const BAD_LENGTH: Weights = [1, 1, 1, 1, 1, 1, 1, 1, 1];
 

@@ -12,6 +12,8 @@ mod hostile;
 #[cfg(alone)]
 mod invariants;
 mod ledger;
+mod limits;
+mod lists;
 mod model;
 #[cfg(not(alone))]
 mod proved;
@@ -28,9 +30,12 @@ use std::process::ExitCode;
 /// The calls of a run that names no other number.
 const CALLS: u64 = 1_200_000;
 
+/// One list of calls for so many calls that are made one by one.
+const CALLS_FOR_A_LIST: u64 = 50;
+
 /// The other program is the proved library.
 #[cfg(not(alone))]
-const OTHER: (Option<Other>, &str) = (Some(proved::perform), "second_program");
+const OTHER: (Option<Other>, &str) = (Some(Other { call: proved::perform, list: proved::run_list }), "second_program");
 
 /// The self-test has no other program; invariants and the ledger judge the model.
 #[cfg(alone)]
@@ -46,12 +51,16 @@ fn main() -> ExitCode {
     self_test::run();
     let mut comparison = Comparison::new(OTHER.0, traced);
     sweeps::run(&mut comparison);
+    limits::run(&mut comparison);
     schedule::run(&mut comparison, target);
-    let short = comparison.coverage.report();
+    schedule::lists(&mut comparison, target / CALLS_FOR_A_LIST);
+    let (calls, lists) = (comparison.coverage.calls, comparison.listed.lists());
+    let least = if lists < 20_000 { 0 } else { 50 };
+    let short = comparison.coverage.report() + comparison.listed.report_lists(least);
     if short > 0 {
         println!("{short} counts fall short");
     }
-    println!("{}: {} calls, {} differences", OTHER.1, comparison.coverage.calls, comparison.differences);
+    println!("{}: {calls} calls and {lists} lists of calls, {} differences", OTHER.1, comparison.differences);
     match short == 0 && comparison.differences == 0 {
         true => ExitCode::SUCCESS,
         false => ExitCode::FAILURE,

@@ -1,6 +1,7 @@
 //! The proved library behind its C functions; all use of them stands in this file.
 
 use crate::calls::{Call, Outcome};
+use crate::lists::{Ended, List};
 use crate::verdict::Question;
 
 extern "C" {
@@ -43,6 +44,15 @@ extern "C" {
         length: f32,
         dose: *mut f32,
     ) -> u8;
+    fn exports_run_calls(
+        block: *mut u8,
+        block_len: usize,
+        calls: *const u8,
+        calls_len: usize,
+        answers: *mut u8,
+        answers_len: usize,
+        count: *mut usize,
+    ) -> u8;
 }
 
 /// Bytes set before and after the block; an odd number, so that the block stands at an odd address.
@@ -51,15 +61,48 @@ const MARGIN: usize = 37;
 /// What stands in the margins and in values that are still to be given.
 const FILLER: u8 = 0xA5;
 
+/// Bytes with a margin on either side, to be lent.
+fn with_margins(bytes: &[u8]) -> Vec<u8> {
+    let mut lent = vec![FILLER; bytes.len() + 2 * MARGIN];
+    lent[MARGIN..][..bytes.len()].copy_from_slice(bytes);
+    lent
+}
+
+/// Takes lent bytes back; their margins must be as they were.
+fn take_back(bytes: &mut [u8], lent: &[u8]) {
+    let outside = lent[..MARGIN].iter().chain(&lent[MARGIN + bytes.len()..]);
+    assert!(outside.into_iter().all(|byte| *byte == FILLER), "the library wrote outside of what it was lent");
+    bytes.copy_from_slice(&lent[MARGIN..][..bytes.len()]);
+}
+
 /// Makes a call on the library, on a copy of the block whose margins must stay as they are.
 pub fn perform(block: &mut [u8], call: &Call) -> Outcome {
-    let mut lent = vec![FILLER; block.len() + 2 * MARGIN];
-    lent[MARGIN..][..block.len()].copy_from_slice(block);
+    let mut lent = with_margins(block);
     let outcome = perform_lent(&mut lent[MARGIN..][..block.len()], call);
-    let outside = lent[..MARGIN].iter().chain(&lent[MARGIN + block.len()..]);
-    assert!(outside.into_iter().all(|byte| *byte == FILLER), "the library wrote outside the block in {call:?}");
-    block.copy_from_slice(&lent[MARGIN..][..block.len()]);
+    take_back(block, &lent);
     outcome
+}
+
+/// Runs a list of calls on the library, on copies of the block, the calls and the answers.
+pub fn run_list(list: &mut List) -> Ended {
+    let (mut block, calls, mut answers) = (with_margins(&list.block), list.bytes.clone(), with_margins(&list.answers));
+    let mut count = usize::MAX;
+    // Each pointer comes with the length of its own slice, and no slice overlaps another.
+    let number = unsafe {
+        exports_run_calls(
+            block[MARGIN..].as_mut_ptr(),
+            list.block.len(),
+            calls.as_ptr(),
+            calls.len(),
+            answers[MARGIN..].as_mut_ptr(),
+            list.answers.len(),
+            &mut count,
+        )
+    };
+    take_back(&mut list.block, &block);
+    take_back(&mut list.answers, &answers);
+    list.bytes = calls;
+    Ended { number, count }
 }
 
 /// Makes a call on the library; each value starts with a filler, so that a refusal must set it to zero.

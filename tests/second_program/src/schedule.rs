@@ -7,6 +7,7 @@ use crate::foreign::{foreign_block, junk};
 use crate::generate::{Scene, Weights, BAD_LENGTH, FOREIGN, HISTORY, HOSTILE};
 use crate::hostile::{bad_length_block, damage, noise_block};
 use crate::ledger::Ledger;
+use crate::lists::drawn_list;
 use crate::model::{Store, LONGEST_KEY};
 use crate::random::Random;
 
@@ -27,8 +28,7 @@ pub fn run(comparison: &mut Comparison, target: u64) {
 
 /// The number of cells of the next block: under 64 unless the larger ones lag behind their share.
 fn draw_cells(comparison: &Comparison, random: &mut Random) -> usize {
-    let calls = comparison.coverage.calls;
-    let large = (calls - comparison.coverage.small_calls) * 100 < calls * 9;
+    let large = comparison.coverage.large_calls * 100 < comparison.coverage.calls * 22;
     match (large, random.below(30)) {
         (false, 0..=5) => random.between(4, 8),
         (false, 6..=14) => random.between(9, 20),
@@ -36,6 +36,15 @@ fn draw_cells(comparison: &Comparison, random: &mut Random) -> usize {
         (true, 0..=20) => random.between(64, 128),
         (true, 21..=28) => random.between(129, 512),
         (true, _) => random.pick(&[513, 1024, 2047, 2048]),
+    }
+}
+
+/// Lists of calls, each with its own seed.
+pub fn lists(comparison: &mut Comparison, count: u64) {
+    for number in 0..count {
+        comparison.seed = number;
+        let mut random = Random::seeded(number + 0x2_0000_0000);
+        comparison.list(drawn_list(number, &mut random));
     }
 }
 

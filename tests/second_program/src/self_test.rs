@@ -4,6 +4,7 @@ use crate::calls::{perform, Call, Outcome};
 use crate::coverage::Coverage;
 use crate::foreign::order_word_block;
 use crate::generate::Scene;
+use crate::lists::{decode, encode, run as run_list, Ended, List, AT_END, BAD_SIZE, FULL, NO_CALL};
 use crate::model::{put_word, word_at, Store, CELL};
 use crate::random::Random;
 use crate::verdict::{
@@ -23,6 +24,7 @@ pub fn run() {
     a_cell_entered_twice();
     arithmetic();
     foreign_tables_rebuilt();
+    lists_of_calls();
     println!("second_program alone: samples A to L and the further cases hold");
 }
 
@@ -254,5 +256,35 @@ fn foreign_tables_rebuilt() {
             assert_eq!(insert(&mut rebuilt, key, *value).0, 0);
         }
         assert_eq!(Store::decode(&rebuilt).expect("sound").root.table(), table);
+    }
+}
+
+/// Lists whose bytes, answers and ends are written out, and the encoding of calls undone.
+fn lists_of_calls() {
+    let encoded = bytes("01 01 41 00000000  02 00000001  01 00 00000000  03 00000002  04 00000001");
+    let with = |past: &str, room: usize| {
+        let mut list = List { block: vec![0xAA; 4 * CELL], bytes: encoded.clone(), answers: vec![0xEE; room] };
+        list.bytes.extend(bytes(past));
+        let (ended, _) = run_list(&mut list, &mut Coverage::new());
+        (ended.number, ended.count, list.answers)
+    };
+    assert_eq!(with("", 7), (AT_END, 5, vec![0, 0, 3, 6, 0, 0xEE, 0xEE]));
+    assert_eq!(with("", 5), (AT_END, 5, vec![0, 0, 3, 6, 0]));
+    assert_eq!(with("", 4), (FULL, 4, vec![0, 0, 3, 6]));
+    assert_eq!(with("09", 5), (FULL, 5, vec![0, 0, 3, 6, 0]));
+    assert_eq!(with("09", 6), (NO_CALL, 5, vec![0, 0, 3, 6, 0, 0xEE]));
+    assert_eq!(with("02 000000", 6), (NO_CALL, 5, vec![0, 0, 3, 6, 0, 0xEE]));
+    assert_eq!(with("01 02 41 42 000000", 6), (NO_CALL, 5, vec![0, 0, 3, 6, 0, 0xEE]));
+    assert_eq!(with("01 02 41 42 00000000", 6), (AT_END, 6, vec![0, 0, 3, 6, 0, 7]));
+    let mut small = List { block: vec![0xAA; 3 * CELL], bytes: encoded, answers: vec![0xEE] };
+    assert_eq!(run_list(&mut small, &mut Coverage::new()).0, Ended { number: BAD_SIZE, count: 0 });
+    assert_eq!((small.block, small.answers), (vec![0xAA; 3 * CELL], vec![0xEE]));
+    let keys = [0, 1, 48, 49, 255].map(|size| Call::Insert { key: vec![0x41; size], value: 0x8765_4321 });
+    let slots = [Call::Snapshot { slot: 1 }, Call::Restore { slot: 0x0102_0304 }, Call::Release { slot: u32::MAX }];
+    for call in keys.iter().chain(&slots) {
+        let mut encoded = Vec::new();
+        encode(call, &mut encoded);
+        let (decoded, past) = decode(&encoded).expect("an encoded call");
+        assert_eq!((format!("{decoded:?}"), past.len()), (format!("{call:?}"), 0));
     }
 }

@@ -20,10 +20,6 @@ pub fn run(comparison: &mut Comparison) {
             comparison.step_with_ledger(&mut block, &call, &mut ledger);
         }
     }
-    for cells in [3, 2049] {
-        let mut block = vec![0xAA; cells * CELL];
-        comparison.step(&mut block, &Call::Format);
-    }
     for order in 0..=u16::MAX {
         try_order_word(comparison, order);
     }
@@ -32,7 +28,7 @@ pub fn run(comparison: &mut Comparison) {
 }
 
 /// An insertion of a value under a key.
-fn insert(key: &[u8], value: u32) -> Call {
+pub fn insert(key: &[u8], value: u32) -> Call {
     Call::Insert { key: key.to_vec(), value }
 }
 
@@ -69,7 +65,7 @@ fn try_order_word(comparison: &mut Comparison, order: u16) {
 }
 
 /// A block that shows label 41 with a value.
-fn block_of_value(value: u32) -> Vec<u8> {
+pub fn block_of_value(value: u32) -> Vec<u8> {
     let mut block = junk(4, &mut Random::seeded(u64::from(value)));
     block[CELL + 0x1B] = 0x41;
     put_word(&mut block, CELL + 0x1C, !value);
@@ -78,7 +74,7 @@ fn block_of_value(value: u32) -> Vec<u8> {
 }
 
 /// A question about label 41 on a day; reading, gate, section and length are those of samples J and K.
-fn question(year: u32, month: u32, day: u32) -> Question {
+pub fn question(year: u32, month: u32, day: u32) -> Question {
     let (low, high, section, length) = (f32::NAN, f32::NAN, 60.0, 4000.0);
     let label = vec![0x41];
     Question { label, year, month, day, unit: CELSIUS, degrees: 20.0, kind: GATE_ANY, low, high, section, length }

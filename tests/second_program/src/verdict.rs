@@ -1,7 +1,6 @@
 //! The verdict: calendar, reading, sheet and gate, and whether a cartridge may be dosed now.
 
 use crate::calls::{valid_key, Outcome};
-use crate::model::Store;
 
 /// What a verdict is asked on, in the numbers of the call for firmware.
 #[derive(Clone, Debug)]
@@ -28,8 +27,8 @@ pub const GATE_ANY: u32 = 1;
 pub const GATE_AT_LEAST: u32 = 2;
 pub const GATE_BETWEEN: u32 = 3;
 
-/// The verdict of a sound block; a dose goes with answer 0 alone.
-pub fn verdict(store: &Store, question: &Question) -> Outcome {
+/// The verdict on the value that a sound block holds for the label; a dose goes with answer 0 alone.
+pub fn verdict(held: Option<u32>, question: &Question) -> Outcome {
     if !valid_key(&question.label) {
         return Outcome::bare(3);
     }
@@ -42,7 +41,7 @@ pub fn verdict(store: &Store, question: &Question) -> Outcome {
     let Some(today) = day_number(question.year, question.month, question.day) else {
         return Outcome::bare(10);
     };
-    let Some(value) = store.root.table().get(&question.label).copied() else {
+    let Some(value) = held else {
         return Outcome::bare(11);
     };
     let Some(expiry) = day_number(value / 512, value / 32 % 16, value % 32) else {

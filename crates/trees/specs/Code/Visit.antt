@@ -1,5 +1,5 @@
 -- Cells visited one after the other over an array of stamps: a cell that is visited gets the stamp.
-use mathlib.Core.Path.{_≡_}
+use mathlib.Core.Path.{_≡_, refl}
 use mathlib.Core.Bool.{Bool, true, false, cond}
 use mathlib.Core.List.{List, [], _∷_}
 use mathlib.Core.Option.{Option, none, some, bind}
@@ -26,3 +26,11 @@ visit stamp cells stamps = bind cells (λ cs. stampEach stamp cs stamps)
 pub record VisitAnswer (cells : Option (List ℕ)) (stamp : ℕ) (before after : List ℕ) (passed : Bool) : Type 0 where
   pub accepted : passed ≡ true → visit stamp cells before ≡ some after
   pub refused : passed ≡ false → visit stamp cells before ≡ none
+
+-- cells 2 and 3 visited, cell 2 twice, and cell 2 with the stamp of another root
+pub stamped-cells :
+    _≡_ {A = List (Option (List ℕ))}
+    (stampEach 1 (2 ∷ 3 ∷ []) (0 ∷ 0 ∷ 0 ∷ 0 ∷ []) ∷ stampEach 1 (2 ∷ 2 ∷ []) (0 ∷ 0 ∷ 0 ∷ 0 ∷ []) ∷ stampEach 2 (2 ∷ []) (0 ∷ 0 ∷ 1 ∷ 0 ∷ []) ∷ [])
+    (some (0 ∷ 0 ∷ 1 ∷ 1 ∷ []) ∷ none ∷ some (0 ∷ 0 ∷ 2 ∷ 0 ∷ []) ∷ [])
+unfolding stampEach
+stamped-cells = refl

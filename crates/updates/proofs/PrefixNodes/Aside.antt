@@ -25,8 +25,7 @@ use Rattle.nodes.proofs.Frame.{prefix-cut, read-is, read-zero}
 use Rattle.nodes.proofs.Read.{plain-value, read-plain}
 use Rattle.updates.specs.Built.{Built}
 use Rattle.updates.specs.SetChild.{setChild}
-use Rattle.updates.specs.Build.{wordAside, childOf}
-use Rattle.updates.specs.Code.Staged.{nodeCopy}
+use Rattle.updates.specs.Build.{wordAside, childOf, nodeCopy}
 use Rattle.updates.proofs.Claims.{BuildStands, Consistent, Placed, NodeChanged}
 use Rattle.updates.proofs.PrefixNodes.Prefixes.{putBack-changed, putBack-below-stands}
 use Rattle.updates.proofs.SetChild.{set-placed, set-below-stands}

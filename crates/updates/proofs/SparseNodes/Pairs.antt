@@ -28,15 +28,15 @@ use Rattle.updates.proofs.Claims.{CellStands, BuildStands, Consistent, 
 use Rattle.updates.proofs.ChainNodes.Rooms.{allocate-numbers, allocate-names, allocate-consistent, allocate-whole}
 
 -- the parts of a cell of two children
-pair-digits : (a u b v : ℕ) → sparseDigits (pairCell a u b v) ≡ 0 ∷ 1 ∷ []
+pub pair-digits : (a u b v : ℕ) → sparseDigits (pairCell a u b v) ≡ 0 ∷ 1 ∷ []
 unfolding sparseDigits digits pairCell withWord blank zeros
 pair-digits a u b v = refl
 
-pair-first : (a u b v : ℕ) → u < 4294967296 → wordAt (pairCell a u b v) 0 ≡ u
+pub pair-first : (a u b v : ℕ) → u < 4294967296 → wordAt (pairCell a u b v) 0 ≡ u
 unfolding wordAt pairCell withWord blank zeros
 pair-first a u b v small = recombine u small
 
-pair-second : (a u b v : ℕ) → v < 4294967296 → wordAt (pairCell a u b v) 4 ≡ v
+pub pair-second : (a u b v : ℕ) → v < 4294967296 → wordAt (pairCell a u b v) 4 ≡ v
 unfolding wordAt pairCell withWord blank zeros
 pair-second a u b v small = recombine v small
 

@@ -105,7 +105,7 @@ module _ (bytes : List ℕ) (whole : length bytes ≡ 32) (cell : Sparse bytes (
     within : p < 6
     within = omega (arith, most)
 
-    word-there : (q : ℕ) → q < 6 → q ≡ p → sparseWord (replacedCell bytes p w) q ≡ w
+    pub word-there : (q : ℕ) → q < 6 → q ≡ p → sparseWord (replacedCell bytes p w) q ≡ w
     word-there q near same = replaced-word bytes whole most p w within small q near ∙ chosen-here (sparseWord bytes) w p q same
 
     word-elsewhere : (q : ℕ) → q < 6 → q ≢ p → sparseWord (replacedCell bytes p w) q ≡ sparseWord bytes q
@@ -180,16 +180,16 @@ module _ (bytes : List ℕ) (whole : length bytes ≡ 32) (cell : Sparse bytes (
         (λ r inside. appended-byte (4 * q + r) (omega arith) (omega arith))
         ∙ replaced-word bytes whole most (sparseCount bytes) w room small q near
 
-    word-new : (q : ℕ) → q < 6 → q ≡ sparseCount bytes → sparseWord (appendedCell bytes x w) q ≡ w
+    pub word-new : (q : ℕ) → q < 6 → q ≡ sparseCount bytes → sparseWord (appendedCell bytes x w) q ≡ w
     word-new q near same = appended-word q near ∙ chosen-here (sparseWord bytes) w (sparseCount bytes) q same
 
     word-old : (q : ℕ) → q < 6 → q ≢ sparseCount bytes → sparseWord (appendedCell bytes x w) q ≡ sparseWord bytes q
     word-old q near other = appended-word q near ∙ chosen-other (sparseWord bytes) w (sparseCount bytes) q other
 
-    abbrev ds′ : List ℕ
+    abbrev pub ds′ : List ℕ
     ds′ = extendedDigits (sparseCharacter bytes) x (sparseDigits bytes)
 
-    appended-count : length ds′ ≡ suc (sparseCount bytes)
+    pub appended-count : length ds′ ≡ suc (sparseCount bytes)
     appended-count = omega (arith, length-withDigit (sparseCharacter bytes) x (sparseCount bytes) (sparseDigits bytes))
 
     pub appended-digits : sparseDigits (appendedCell bytes x w) ≡ extendedDigits (sparseCharacter bytes) x (sparseDigits bytes)

@@ -18,26 +18,24 @@ use Rattle.trees.specs.Tree.{tree}
 use Rattle.trees.proofs.Tree.{tree-cut, tree-below}
 use Rattle.updates.specs.Built.{Built, allocate}
 use Rattle.updates.specs.SetChild.{setChild}
-use Rattle.updates.specs.Build.{wordAside, putBack, childOf, pathCopy}
-use Rattle.updates.specs.Code.Staged.{Fitting, HasTree, nodeCopy, reached, Path}
+use Rattle.updates.specs.Build.{wordAside, putBack, childOf, nodeCopy, pathCopy}
+use Rattle.trees.specs.Code.Coded.{Grown}
+use Rattle.updates.specs.Code.Staged.{Fitting, reached, Path}
 use Rattle.updates.proofs.PrefixNodes.Aside.{aside, child-of}
 
 -- a word that has a tree names a node, and so does the word without its value
-module _ (layout : Layout) (m : Memory) (word left : ℕ) (has : HasTree layout m word left) where
+module _ (layout : Layout) (m : Memory) (word depth : ℕ) (has : Grown layout m depth word) where
   pub tree-read : (node : Node) × (read layout m word ≡ some node)
-  tree-read = let q = tree-cut layout m (has .depth) word (has .found .0) (has .found .1) in (q .0, q .2)
+  tree-read = let q = tree-cut layout m depth word (has .0) (has .1) in (q .0, q .2)
 
   -- its child has one that is one character less deep
-  pub child-has : (less x child : ℕ) → child ≡ childOf (read layout m word) x → x < 256 → left ≡ less + 1 → HasTree layout m child less
-  child-has less x child is near one = go (has .depth) (has .deep) (has .found .1)
-    where
-      go : (d : ℕ) → left ≤ d → tree layout m d word ≡ some (has .found .0) → HasTree layout m child less
-      go zero deep valid = absurd (omega arith)
-      go (suc d) deep valid =
-          let q = tree-cut layout m (suc d) word (has .found .0) valid in
-          let t = tree-below layout m d word x (has .found .0) (q .0) near valid (q .2) in
-          let same : child ≡ q .0 .child x = is ∙ child-of (read layout m word) (q .0) x (q .2) in
-          record { depth = d; deep = omega arith; found = (t .0, ap (tree layout m d) same ∙ t .1) }
+  pub child-has : (less x child : ℕ) → child ≡ childOf (read layout m word) x → x < 256 → depth ≡ suc less → Grown layout m less child
+  child-has less x child is near one =
+      let valid : tree layout m (suc less) word ≡ some (has .0) = ap (λ (d : ℕ). tree layout m d word) (sym one) ∙ has .1 in
+      let q = tree-cut layout m (suc less) word (has .0) valid in
+      let t = tree-below layout m less word x (has .0) (q .0) near valid (q .2) in
+      let same : child ≡ q .0 .child x = is ∙ child-of (read layout m word) (q .0) x (q .2) in
+      (t .0, ap (tree layout m less) same ∙ t .1)
 
 -- the word without its value names a node too
 pub bare-read : (layout : Layout) (m : Memory) (word : ℕ) → ((node : Node) × (read layout m word ≡ some node)) → (bare : ℕ)
@@ -54,15 +52,15 @@ reached-more layout m word key i = ap (reached layout m word key) (add-one i)
 
 -- the descent so far: the words passed, the word reached, and its tree
 abbrev pub Down : Layout → Memory → ℕ → List ℕ → ℕ → List ℕ → ℕ → Type 0
-Down layout m word key i array at = Path layout m word key i array × (at ≡ reached layout m word key i) × HasTree layout m at (length key - i)
+Down layout m word key i array at = Path layout m word key i array × (at ≡ reached layout m word key i) × Grown layout m (keyLimit - i) at
 
 module _ (layout : Layout) (m : Memory) (word : ℕ) (key : List ℕ) where
-  pub down-none : (array : List ℕ) → HasTree layout m word (length key) → Down layout m word key 0 array word
+  pub down-none : (array : List ℕ) → Grown layout m keyLimit word → Down layout m word key 0 array word
   unfolding reached
   down-none array has = (
     record { each = λ i below. absurd (omega arith); trees = λ i below. absurd (omega arith) },
     refl,
-    subst (HasTree layout m word) (sym (sub-zero (length key))) has,
+    subst (λ (d : ℕ). Grown layout m d word) (sym (sub-zero keyLimit)) has,
   )
 
   module _ (array : List ℕ) (i at : ℕ) (down : Down layout m word key i array at) (inside : i < length array) where
@@ -74,19 +72,19 @@ module _ (layout : Layout) (m : Memory) (word : ℕ) (key : List ℕ) where
         ]
 
     pub down-more : (after : List ℕ) (child : ℕ) → after ≡ set array i at → child ≡ childOf (read layout m at) (getD key i 0) → getD key i 0 < 256
-        → i < length key → Down layout m word key (i + 1) after child
+        → i < keyLimit → Down layout m word key (i + 1) after child
     down-more after child put told near more = (
       subst (Path layout m word key (i + 1)) (sym put)
           record {
             each = kept (λ (j w : ℕ). w ≡ reached layout m word key j) (down .0 .each) (down .1);
-            trees = kept (λ (j w : ℕ). HasTree layout m w (length key - j)) (down .0 .trees) (down .2);
+            trees = kept (λ (j w : ℕ). Grown layout m (keyLimit - j) w) (down .0 .trees) (down .2);
           },
       told ∙ ap (λ (w : ℕ). childOf (read layout m w) (getD key i 0)) (down .1) ∙ sym (reached-more layout m word key i),
-      child-has layout m at (length key - i) (down .2) (length key - (i + 1)) (getD key i 0) child told near (omega arith),
+      child-has layout m at (keyLimit - i) (down .2) (keyLimit - (i + 1)) (getD key i 0) child told near (omega arith),
     )
 
   pub path-read : (array : List ℕ) (i : ℕ) → Path layout m word key (length key) array → i < length key → (node : Node) × (read layout m (getD array i 0) ≡ some node)
-  path-read array i path inside = tree-read layout m (getD array i 0) (length key - i) (path .trees i inside)
+  path-read array i path inside = tree-read layout m (getD array i 0) (keyLimit - i) (path .trees i inside)
 
   -- at the key's end
   pub down-all : (array : List ℕ) (i at : ℕ) → Down layout m word key i array at → i ≤ length key → length key ≤ i
@@ -122,39 +120,39 @@ module _ (layout : Layout) (number : ℕ → ℕ) (m : Memory) where
         → Fitting (nodeCopy layout number m word x below) → Fitting (putBack layout number held placed)
     back-fits placed held is aside-is fits = subst Fitting (sym (copy-is placed held is aside-is)) fits
 
-  -- a path copied, whatever the rule at its end: the key's end, its beginning, and one character
-  module _ (atEnd : ℕ → Built) (word : ℕ) (key : List ℕ) where
-    pub copied-end : (end : ℕ) (all : Built) → end ≡ reached layout m word key (length key) → all ≡ atEnd end
-        → all ≡ pathCopy layout number m atEnd (reached layout m word key (length key)) (drop (length key) key)
+-- a path copied, whatever the rules at its nodes and at its end: the key's end, its beginning, and one character
+module _ (layout : Layout) (m : Memory) (copy : ℕ → ℕ → Built → Built) (atEnd : ℕ → Built) (word : ℕ) (key : List ℕ) where
+  pub copied-end : (end : ℕ) (all : Built) → end ≡ reached layout m word key (length key) → all ≡ atEnd end
+      → all ≡ pathCopy layout m copy atEnd (reached layout m word key (length key)) (drop (length key) key)
+  unfolding pathCopy
+  copied-end end all ends is =
+      is ∙ ap atEnd ends
+      ∙ sym (ap (pathCopy layout m copy atEnd (reached layout m word key (length key))) (drop-of-length-le key {i = length key} (omega arith)))
+
+  pub copied-whole : (i : ℕ) (all : Built) → i ≤ 0 → all ≡ pathCopy layout m copy atEnd (reached layout m word key i) (drop i key)
+      → all ≡ pathCopy layout m copy atEnd word key
+  unfolding reached
+  copied-whole i all none-left is =
+      let first : i ≡ 0 = omega (arith, none-left) in
+      is ∙ ap (λ (j : ℕ). pathCopy layout m copy atEnd (reached layout m word key j) (drop j key)) first
+
+  module _ (array : List ℕ) (path : Path layout m word key (length key) array) (next i : ℕ) (one : next ≡ i + 1) (most : next ≤ length key)
+      (below : Built) (below-is : below ≡ pathCopy layout m copy atEnd (reached layout m word key next) (drop next key)) where
+    copied-node : copy (getD array i 0) (getD key i 0) below ≡ pathCopy layout m copy atEnd (reached layout m word key i) (drop i key)
     unfolding pathCopy
-    copied-end end all ends is =
-        is ∙ ap atEnd ends
-        ∙ sym (ap (pathCopy layout number m atEnd (reached layout m word key (length key))) (drop-of-length-le key {i = length key} (omega arith)))
+    copied-node =
+        ap (λ (w : ℕ). copy w (getD key i 0) below) (path .each i (omega arith))
+        ∙ ap (copy (reached layout m word key i) (getD key i 0))
+        (below-is ∙ ap (λ (j : ℕ). pathCopy layout m copy atEnd (reached layout m word key j) (drop j key)) one
+        ∙ ap (λ (w : ℕ). pathCopy layout m copy atEnd w (drop (i + 1) key)) (reached-more layout m word key i))
+        ∙ sym (ap (pathCopy layout m copy atEnd (reached layout m word key i))
+        (drop-cons key i 0 (omega arith) ∙ ap (λ (n : ℕ). getD key i 0 ∷ drop n key) (sym (add-one i))))
 
-    pub copied-whole : (i : ℕ) (all : Built) → i ≤ 0 → all ≡ pathCopy layout number m atEnd (reached layout m word key i) (drop i key)
-        → all ≡ pathCopy layout number m atEnd word key
-    unfolding reached
-    copied-whole i all none-left is =
-        let first : i ≡ 0 = omega (arith, none-left) in
-        is ∙ ap (λ (j : ℕ). pathCopy layout number m atEnd (reached layout m word key j) (drop j key)) first
+    pub node-fits : length key ≤ keyLimit → ((w : ℕ) (k : List ℕ) → length (pathCopy layout m copy atEnd w k .cells) ≤ 4 * length k + 10)
+        → Fitting (copy (getD array i 0) (getD key i 0) below)
+    node-fits few bound =
+        subst Fitting (sym copied-node) (omega (arith, few, bound (reached layout m word key i) (drop i key), length-drop i key))
 
-    module _ (array : List ℕ) (path : Path layout m word key (length key) array) (next i : ℕ) (one : next ≡ i + 1) (most : next ≤ length key)
-        (below : Built) (below-is : below ≡ pathCopy layout number m atEnd (reached layout m word key next) (drop next key)) where
-      copied-node : nodeCopy layout number m (getD array i 0) (getD key i 0) below ≡ pathCopy layout number m atEnd (reached layout m word key i) (drop i key)
-      unfolding pathCopy
-      copied-node =
-          ap (λ (w : ℕ). nodeCopy layout number m w (getD key i 0) below) (path .each i (omega arith))
-          ∙ ap (nodeCopy layout number m (reached layout m word key i) (getD key i 0))
-          (below-is ∙ ap (λ (j : ℕ). pathCopy layout number m atEnd (reached layout m word key j) (drop j key)) one
-          ∙ ap (λ (w : ℕ). pathCopy layout number m atEnd w (drop (i + 1) key)) (reached-more layout m word key i))
-          ∙ sym (ap (pathCopy layout number m atEnd (reached layout m word key i))
-          (drop-cons key i 0 (omega arith) ∙ ap (λ (n : ℕ). getD key i 0 ∷ drop n key) (sym (add-one i))))
-
-      pub node-fits : length key ≤ keyLimit → ((w : ℕ) (k : List ℕ) → length (pathCopy layout number m atEnd w k .cells) ≤ 4 * length k + 10)
-          → Fitting (nodeCopy layout number m (getD array i 0) (getD key i 0) below)
-      node-fits few bound =
-          subst Fitting (sym copied-node) (omega (arith, few, bound (reached layout m word key i) (drop i key), length-drop i key))
-
-      pub copied-more : (all : Built) → all ≡ nodeCopy layout number m (getD array i 0) (getD key i 0) below
-          → all ≡ pathCopy layout number m atEnd (reached layout m word key i) (drop i key)
-      copied-more all is = is ∙ copied-node
+    pub copied-more : (all : Built) → all ≡ copy (getD array i 0) (getD key i 0) below
+        → all ≡ pathCopy layout m copy atEnd (reached layout m word key i) (drop i key)
+    copied-more all is = is ∙ copied-node

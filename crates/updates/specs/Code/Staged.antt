@@ -5,15 +5,13 @@ use mathlib.Core.List.{List}
 use Prim.Native.Nat.{ℕ, zero, suc, _+_, _-_, _≤_, _<_}
 use lib.ListN.{length, getD}
 use Rattle.cells.specs.Memory.{Memory}
-use Rattle.nodes.specs.Layout.{Layout}
-use Rattle.nodes.specs.Pointer.{pointer, leafWord}
+use Rattle.nodes.specs.Layout.{Layout, keyLimit}
+use Rattle.nodes.specs.Pointer.{leafWord}
 use Rattle.nodes.specs.Node.{read}
-use Rattle.nodes.specs.Value.{pointerValue}
 use Rattle.trees.specs.Code.Coded.{Grown}
 use Rattle.updates.specs.Built.{Built}
 use Rattle.updates.specs.SplitBuild.{Row}
-use Rattle.updates.specs.SetChild.{setChild}
-use Rattle.updates.specs.Build.{wordAside, putBack, childOf, valueAt}
+use Rattle.updates.specs.Build.{childOf}
 use Rattle.staging.specs.Code.Stage.{stageCells, staged}
 use Rattle.staging.specs.declared.stage.BuildState.{BuildState}
 
@@ -42,27 +40,12 @@ RowFitting row = length (row .cells) ≤ stageCells
 pub record Words (array : List ℕ) (child : ℕ → ℕ) (from : ℕ) : Type 0 where
   pub each : (k : ℕ) → k < 8 → getD array k 0 ≡ child (from + k)
 
--- a word has a tree, as deep as so many characters at least
-pub record HasTree (layout : Layout) (m : Memory) (word left : ℕ) : Type 0 where
-  pub depth : ℕ
-  pub deep : left ≤ depth
-  pub found : Grown layout m depth word
-
--- what an insertion makes of the word at the key's end
-abbrev pub insertedAt : Layout → (ℕ → ℕ) → Memory → ℕ → ℕ → Built
-insertedAt layout number m value word = valueAt layout number m value (pointer layout word) word
-
--- one node of a path copied, over what is built below it
-abbrev pub nodeCopy : Layout → (ℕ → ℕ) → Memory → ℕ → ℕ → Built → Built
-nodeCopy layout number m word x below =
-    putBack layout number (pointerValue m (pointer layout word)) (setChild layout number m (pointer layout (wordAside layout m (pointer layout word) word)) x below)
-
 -- the word that a descent by a key reaches after so many of its characters
 unfoldable pub reached : Layout → Memory → ℕ → List ℕ → ℕ → ℕ
 reached layout m word key zero = word
 reached layout m word key (suc i) = childOf (read layout m (reached layout m word key i)) (getD key i 0)
 
--- an array that holds the first so many words reached, each with a tree for the rest of the key
+-- an array that holds the first so many words reached, each with the tree that is left below it
 pub record Path (layout : Layout) (m : Memory) (word : ℕ) (key : List ℕ) (size : ℕ) (array : List ℕ) : Type 0 where
   pub each : (i : ℕ) → i < size → getD array i 0 ≡ reached layout m word key i
-  pub trees : (i : ℕ) → i < size → HasTree layout m (getD array i 0) (length key - i)
+  pub trees : (i : ℕ) → i < size → Grown layout m (keyLimit - i) (getD array i 0)

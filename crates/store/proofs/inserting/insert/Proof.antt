@@ -58,18 +58,40 @@ returns-4 c =
     insert-value _ _ _ (sym (sized .before .is-bad-size .ensures) ∙ sized .if1 .left) _ _ _ _ (judged .before .before .before .layout-of .ensures)
     (judged .free-list .ensures) (not-false _ (c .before .before .before .if2 .left)) (sym (c .before .before .is-bad-key .ensures) ∙ c .before .if3 .left) (c .if4 .taken)
 
+root-word-requires : tie.Need-root-word-requires
+root-word-requires c κs =
+    let stated = c .before .before .before .before .before .before .before .before .before in
+    layout-fits _ _ (sym (stated .before .before .before .is-bad-size .ensures) ∙ stated .before .before .if1 .left) (stated .layout-of .ensures)
+
 insert-valid-requires : tie.Need-insert-valid-requires
 insert-valid-requires c κs =
-    let judged = c .before .before .before .before .before .before .before in
+    let judged = c .before .before .before .before .before .before .before .before .before .before in
     let sized = judged .before .before .before .before .before in
+    let small = c .before .before .before .before .before in
     insert-asks _ _ _ (sym (sized .before .is-bad-size .ensures) ∙ sized .if1 .left) _ _ _ _ (judged .before .before .before .layout-of .ensures)
-    (judged .free-list .ensures) (not-false _ (c .before .before .before .before .before .if2 .left)) (sym (c .before .before .before .before .is-bad-key .ensures) ∙ c .before .before .before .if3 .left) (c .before .before .if4 .left)
+    (judged .free-list .ensures) (not-false _ (small .before .before .before .if2 .left)) (sym (small .before .before .is-bad-key .ensures) ∙ small .before .if3 .left) (small .if4 .left)
+    _ (sym (c .before .before .if5 .taken) ∙ c .before .before .before .root-word .ensures)
 
 same-length-5 : tie.Need-same-length-5
 same-length-5 c = search needs
 
 returns-5 : tie.Need-returns-5
 returns-5 c = search needs
+
+insert-valid-requires-2 : tie.Need-insert-valid-requires-2
+insert-valid-requires-2 c κs =
+    let judged = c .before .before .before .before .before .before .before .before .before .before in
+    let sized = judged .before .before .before .before .before in
+    let small = c .before .before .before .before .before in
+    insert-asks _ _ _ (sym (sized .before .is-bad-size .ensures) ∙ sized .if1 .left) _ _ _ _ (judged .before .before .before .layout-of .ensures)
+    (judged .free-list .ensures) (not-false _ (small .before .before .before .if2 .left)) (sym (small .before .before .is-bad-key .ensures) ∙ small .before .if3 .left) (small .if4 .left)
+    _ (c .before .before .before .root-word .ensures)
+
+same-length-6 : tie.Need-same-length-6
+same-length-6 c = search needs
+
+returns-6 : tie.Need-returns-6
+returns-6 c = search needs
 
 pub insert-spec : {M : Type 1} → statement M
 insert-spec =
@@ -87,6 +109,10 @@ insert-spec =
     returns-3
     same-length-4
     returns-4
+    root-word-requires
     insert-valid-requires
     same-length-5
-    returns-5)
+    returns-5
+    insert-valid-requires-2
+    same-length-6
+    returns-6)

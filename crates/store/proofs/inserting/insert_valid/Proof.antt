@@ -16,7 +16,7 @@ same-length c = search needs
 returns : tie.Need-returns
 returns c =
     let given = c .before .before .before .before .before .before .before .pre in
-    insert-lacks _ _ _ _ _ (given .0) _ _ _ _ (c .before .before .stage-insertion .ensures) (given .1) (given .2) (not-true _ (c .if1 .taken))
+    insert-lacks _ _ _ _ _ (given .0) _ _ _ _ (c .before .before .stage-insertion .ensures) (given .2) (given .3) (not-true _ (c .if1 .taken))
 
 commit-requires : tie.Need-commit-requires
 commit-requires c κs =
@@ -25,8 +25,8 @@ commit-requires c κs =
     let most = made-most _ _ _ _ _ (given .0) _ _ _ _ built in
     (changeable-fits _ _ _ _ _ (given .0), most, taken-inside _ _ _ _ _ (given .0) _ _ _ _ built most (not-false _ (c .before .before .before .if1 .left)))
 
-cast-t20 : tie.Need-cast-t20
-cast-t20 c = omega (arith, made-most _ _ _ _ _ (c .before .before .before .before .before .before .before .before .before .before .before .before .before .pre .0) _ _ _ _ (c .before .before .before .before .before .before .before .before .stage-insertion .ensures))
+cast-t21 : tie.Need-cast-t21
+cast-t21 c = omega (arith, made-most _ _ _ _ _ (c .before .before .before .before .before .before .before .before .before .before .before .before .before .pre .0) _ _ _ _ (c .before .before .before .before .before .before .before .before .stage-insertion .ensures))
 
 same-length-2 : tie.Need-same-length-2
 same-length-2 c = search needs
@@ -34,7 +34,7 @@ same-length-2 c = search needs
 returns-2 : tie.Need-returns-2
 returns-2 c =
     let given = c .before .before .before .before .before .before .before .before .before .before .before .before .before .pre in
-    insert-takes _ _ _ _ _ (given .0) _ _ _ _ (c .before .before .before .before .before .before .before .before .stage-insertion .ensures) (given .1) (given .2) (not-false _ (c .before .before .before .before .before .before .if1 .left)) _ (c .before .before .commit .ensures)
+    insert-takes _ _ _ _ _ (given .0) _ _ _ _ (c .before .before .before .before .before .before .before .before .stage-insertion .ensures) (given .2) (given .3) (not-false _ (c .before .before .before .before .before .before .if1 .left)) _ (c .before .before .commit .ensures)
 
 pub insert-valid-spec : {M : Type 1} → statement M
 insert-valid-spec =
@@ -44,6 +44,6 @@ insert-valid-spec =
     same-length
     returns
     commit-requires
-    cast-t20
+    cast-t21
     same-length-2
     returns-2)

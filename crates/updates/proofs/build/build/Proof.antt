@@ -5,9 +5,9 @@ use Prim.Native.Nat.{_-_, _≤_}
 use lib.ListN.{length, take, drop}
 use borrow.Author.Needs.{needs}
 use Rattle.cells.specs.Memory.{memoryOf}
-use Rattle.updates.specs.Build.{pathCopy, build}
+use Rattle.updates.specs.Build.{nodeCopy, insertedAt, pathCopy, build}
 use Rattle.staging.specs.Numbering.{numberFrom}
-use Rattle.updates.specs.Code.Staged.{builtOf, insertedAt, reached}
+use Rattle.updates.specs.Code.Staged.{builtOf, reached}
 use Rattle.updates.proofs.Stage.StagedDescent.{path-read, copied-end, copied-whole, node-fits, copied-more}
 use Rattle.updates.proofs.Bound.{build-bound}
 use Rattle.updates.proofs.build.build.Statement.{statement}
@@ -17,7 +17,7 @@ abbrev Inv-loop : tie.InvT-loop
 Inv-loop layout block numbers free stage₀ key word value path end made₀ i₀ stage made i =
     (i ≤ length key)
     × (builtOf made stage
-    ≡ pathCopy layout (numberFrom layout (take free numbers)) (memoryOf block) (insertedAt layout (numberFrom layout (take free numbers)) (memoryOf block) value)
+    ≡ pathCopy layout (memoryOf block) (nodeCopy layout (numberFrom layout (take free numbers)) (memoryOf block)) (insertedAt layout (numberFrom layout (take free numbers)) (memoryOf block) value)
     (reached layout (memoryOf block) word key i) (drop i key))
 
 abbrev μ-loop : tie.MeasureT-loop

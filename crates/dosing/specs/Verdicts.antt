@@ -1,0 +1,119 @@
+-- Every answer of the verdict computed on blocks of literal bytes. 01: "each no has its exact condition"
+use mathlib.Core.Path.{_≡_, refl}
+use mathlib.Core.Bool.{false}
+use mathlib.Core.List.{List, [], _∷_, _++_}
+use Prim.Native.Nat.{ℕ}
+use lib.IntN.{pos}
+use lib.Ieee as Ieee
+use lib.Ieee.{Float, nan, fin}
+use Rattle.cells.specs.Bytes.{zeros}
+use Rattle.calendar.specs.declared.Date.{Date}
+use Rattle.calendar.specs.Date.{yearOf, monthOf, dayOf, dateOf, februaryDays, daysOfMonth, isDate, isAfter}
+use Rattle.blocks.specs.Computing.{readsOpen}
+use Rattle.dosing.specs.declared.temperature.Reading.the-variants.{Celsius, Fahrenheit}
+use Rattle.dosing.specs.declared.temperature.TemperatureGate.{TemperatureGate}
+use Rattle.dosing.specs.declared.temperature.TemperatureGate.the-variants.{Any, AtLeast, Between}
+use Rattle.dosing.specs.declared.sheet.ProductSheet.{ProductSheet}
+use Rattle.dosing.specs.Temperature.{onScale, toCelsius, celsius, validReading, validGate, inGate}
+use Rattle.dosing.specs.Sheet.{sheetOf, validSection, validLength, validSheet, doseOf}
+use Rattle.dosing.specs.Verdict.{Verdict, verdictOf, verdict}
+
+-- sample A's block with another leaf word under 41, and n in its trailer
+unfoldable pub shelf : List ℕ → ℕ → List ℕ
+shelf leaf n = zeros 59 ++ (0x41 ∷ leaf) ++ zeros 35 ++ (0x3B ∷ zeros 19) ++ (n ∷ zeros 7) ++ (1 ∷ [])
+
+-- 7 March 2025 under 41, which sample J has as 1,036,903
+abbrev pub dated : List ℕ
+dated = shelf (0xFF ∷ 0xF0 ∷ 0x2D ∷ 0x98 ∷ []) 4
+
+-- sample A itself: the value 0 is no date
+abbrev pub undated : List ℕ
+undated = shelf (0xFF ∷ 0xFF ∷ 0xFF ∷ 0xFF ∷ []) 4
+
+-- sample K's section 60 and length 4,000, and its 240 ml
+abbrev pub sheet : TemperatureGate → ProductSheet
+sheet gate = sheetOf gate (fin false 15 (pos 2)) (fin false 125 (pos 5))
+
+-- answer 0 with the 240 ml
+abbrev pub dosed : Verdict
+dosed = record { answer = 0; dose = fin false 15 (pos 4) }
+
+-- 01: "A no returns zeros beside its number"
+abbrev pub refused : ℕ → Verdict
+refused number = record { answer = number; dose = fin false 0 (pos 0) }
+
+-- sheets for 5 degrees Celsius or more and for 5 to 200, which is sample L's 392 Fahrenheit, and one with a limit that is not a number
+abbrev pub warm : ProductSheet
+warm = sheet (AtLeast (fin false 5 (pos 0)))
+
+-- 5 to 200
+abbrev mild : ProductSheet
+mild = sheet (Between (fin false 5 (pos 0)) (fin false 25 (pos 3)))
+
+-- a limit that is not a number
+abbrev unknown : ProductSheet
+unknown = sheet (AtLeast nan)
+
+-- a day by its three numbers
+abbrev pub on : ℕ → ℕ → ℕ → Date
+on day month year = dateOf (yearOf year) (monthOf month) (dayOf day)
+
+-- the degrees in question: 4, 5, 392 and 393 of a unit
+abbrev pub four : Float
+four = fin false 1 (pos 2)
+
+-- 5
+abbrev pub five : Float
+five = fin false 5 (pos 0)
+
+-- 392
+abbrev pub hot : Float
+hot = fin false 49 (pos 3)
+
+-- 393
+abbrev pub hotter : Float
+hotter = fin false 393 (pos 0)
+
+-- what an equation about verdicts on such a block unfolds
+unfoldable pub verdictOpen : Unit {0}
+unfolding readsOpen februaryDays daysOfMonth isDate isAfter onScale toCelsius celsius validReading validGate inGate validSection validLength validSheet doseOf verdictOf verdict Ieee.ofInt Ieee.sub Ieee.mul Ieee.div Ieee.le shelf
+verdictOpen = tt
+
+-- each answer where nothing before it applies and all that comes after it does; then sample J's days and the gates
+pub verdicts :
+    (verdict (zeros 96) [] (on 32 3 2025) (Celsius nan) unknown
+    ∷ verdict (shelf (0xFF ∷ 0xFF ∷ 0xFF ∷ 0xFF ∷ []) 5) [] (on 32 3 2025) (Celsius nan) unknown
+    ∷ verdict undated [] (on 32 3 2025) (Celsius nan) unknown
+    ∷ verdict undated (zeros 49) (on 32 3 2025) (Celsius nan) unknown
+    ∷ verdict undated (0x42 ∷ []) (on 32 3 2025) (Celsius nan) unknown
+    ∷ verdict undated (0x42 ∷ []) (on 32 3 2025) (Celsius nan) warm
+    ∷ verdict undated (0x42 ∷ []) (on 32 3 2025) (Celsius four) warm
+    ∷ verdict undated (0x42 ∷ []) (on 8 3 2025) (Celsius four) warm
+    ∷ verdict undated (0x41 ∷ []) (on 8 3 2025) (Celsius four) warm
+    ∷ verdict dated (0x41 ∷ []) (on 8 3 2025) (Celsius four) warm
+    ∷ verdict dated (0x41 ∷ []) (on 7 3 2025) (Celsius four) warm
+    ∷ verdict dated (0x41 ∷ []) (on 7 3 2025) (Celsius five) warm
+    ∷ verdict dated (0x41 ∷ []) (on 7 3 2025) (Celsius four) (sheet Any)
+    ∷ verdict dated (0x41 ∷ []) (on 3 7 2025) (Celsius five) warm
+    ∷ verdict dated (0x41 ∷ []) (on 7 3 2025) (Fahrenheit hot) mild
+    ∷ verdict dated (0x41 ∷ []) (on 7 3 2025) (Fahrenheit hotter) mild
+    ∷ [])
+    ≡ (refused 1
+    ∷ refused 2
+    ∷ refused 3
+    ∷ refused 3
+    ∷ refused 8
+    ∷ refused 9
+    ∷ refused 10
+    ∷ refused 11
+    ∷ refused 12
+    ∷ refused 13
+    ∷ refused 14
+    ∷ dosed
+    ∷ dosed
+    ∷ refused 13
+    ∷ dosed
+    ∷ refused 14
+    ∷ [])
+unfolding verdictOpen
+verdicts = refl
