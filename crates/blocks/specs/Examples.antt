@@ -4,11 +4,9 @@ use mathlib.Core.List.{List, [], _∷_, _++_, map}
 use Prim.Native.Nat.{ℕ}
 use lib.ListN.{take, set}
 use Rattle.cells.specs.Bytes.{zeros}
-use Rattle.cells.specs.Occurrences.{select}
 use Rattle.nodes.specs.Written.{words, eightWords, chainBytes, sparseBytes, prefixBytes}
-use Rattle.trees.specs.Entries.{ownEntry, childEntries, entriesUnder, nodeEntries, entries, keyBefore, first}
-use Rattle.blocks.specs.Computing.{readsOpen}
-use Rattle.blocks.specs.Read.{Found, get, padded, keyOr, Next, nextKey}
+use Rattle.blocks.specs.Computing.{readsOpen, nextOpen}
+use Rattle.blocks.specs.Read.{Found, get, Next, nextKey}
 
 -- a sparse (3) of 7F with 6, FF with 7 and 41, where a prefix (2) of 5 links to a chain (1) of 42 with 3
 abbrev listed : List ℕ
@@ -19,11 +17,11 @@ listed =
     ++ sparseBytes 0xFFFFFFF9 0xFFFFFFF8 0x0000005F 0x7FFF4100 0x00000026
     ++ eightWords 0x0000007E 0 0 0 0 0x00000005 0x00000000 0x00000001
 
--- the same of edition 2, which is not sound, and with no last byte, which is no block
+-- the same of edition 2, which is not sound
 abbrev unsound : List ℕ
 unsound = set listed 159 2
 
--- with no last byte
+-- the same without its last byte, which is no size
 abbrev cut : List ℕ
 cut = take 159 listed
 
@@ -97,5 +95,5 @@ pub next-keys :
     ∷ (11 ∷ 0 ∷ 0 ∷ 0 ∷ 0 ∷ [])
     ∷ (11 ∷ 0 ∷ 0 ∷ 0 ∷ 0 ∷ [])
     ∷ [])
-unfolding readsOpen select ownEntry childEntries entriesUnder nodeEntries entries keyBefore first padded keyOr nextKey
+unfolding nextOpen
 next-keys = refl
