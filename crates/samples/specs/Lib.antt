@@ -10,3 +10,4 @@ pub mod Unsound
 pub mod UnsoundTrees
 pub mod UnsoundTrailer
 pub mod Builds
+pub mod KeyLimit
