@@ -1,10 +1,11 @@
 -- Demand 3 of 00, proved of the calls as 01 defines them: from every fresh block and for every list of calls.
-use mathlib.Core.Path.{_≡_, refl}
+use mathlib.Core.Path.{_≡_}
 use mathlib.Core.List.{List, _∷_, _++_}
 use Prim.Native.Nat.{ℕ}
 use Rattle.blocks.specs.Trailer.{layoutOf, slots}
 use Rattle.store.specs.Format.{format}
 use Rattle.store.proofs.Format.{format-law}
+use Rattle.store.proofs.WriteCalls.{format-table}
 use Rattle.history.specs.Calls.{Call, ours, run, KeysAreBytes}
 use Rattle.history.specs.Ledger.{emptyLedger}
 use Rattle.history.specs.Demand3.{AfterList, AtCall, Demand3}
@@ -27,4 +28,4 @@ module _ (start : List ℕ) (done : format start .answer ≡ 0) where
 
 pub demand3 : Demand3 ours
 unfolding ours
-demand3 = record { formats = λ start. refl; afterList = after-list; atCall = at-call }
+demand3 = record { formats = format-table; afterList = after-list; atCall = at-call }

@@ -10,3 +10,5 @@ pub mod Unsound
 pub mod UnsoundTrees
 pub mod UnsoundTrailer
 pub mod Builds
+pub mod ChainBuilds
+pub mod SplitBuilds
