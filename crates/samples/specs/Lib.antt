@@ -12,3 +12,4 @@ pub mod UnsoundTrailer
 pub mod Builds
 pub mod ChainBuilds
 pub mod SplitBuilds
+pub mod RefusalOrder

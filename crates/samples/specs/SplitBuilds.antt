@@ -53,7 +53,7 @@ pub one-cell-too-few :
 unfolding callsOpen
 one-cell-too-few = refl
 
--- the split that this leaves, and a replaced child in its fourth quarter
+-- the split that this leaves, in a block of 15 cells: 4, 12 and 13 are free
 unfoldable pub splitOfAll : List ℕ
 splitOfAll =
     unused
@@ -72,8 +72,8 @@ splitOfAll =
     ++ unused
     ++ eightWords 0x0000017C 0 0 0 0x00000000 0x0000000F 0x00000000 0x00000001
 
--- 01: "Split: new end, mid and head, copied from the old where there are any.": another value of FF; then "A step" below a leaf: FE 41,
--- whose chain is taken before the end, lacks one cell
+-- 01: "Split: new end, mid and head, copied from the old where there are any.": another value of FF; then FE 41, which
+-- takes a chain cell too and lacks it
 pub split-copied :
     _≡_ {A = List (List ℕ)}
     ((insert splitOfAll (0xFF ∷ []) 9 .answer
