@@ -148,3 +148,21 @@ pub appended-anywhere :
     ∷ [])
 unfolding callsOpen told cellsIn
 appended-anywhere = refl
+
+-- bytes that nothing gave a meaning
+abbrev stray : ℕ → List ℕ
+stray byte = replicate 32 byte
+
+-- 43 48 41 with 0, and other bytes in every cell that nothing leads to
+abbrev strayed : List ℕ → List ℕ → ℕ → List ℕ
+strayed one two root =
+    stray 0xE0 ++ one ++ two ++ stray 0xE3 ++ stray 0xE4 ++ eightWords root 0 0 0 0x00000000 0x00000006 0x00000000 0x00000001
+
+-- 01: "A taken cell's meaningless bytes are zero; cells not taken keep theirs.", "The root word is then set.": the whole block that another
+-- value of 43 48 41 leaves
+pub strays-kept :
+    _≡_ {A = List ℕ}
+    (insert (strayed (chainBytes 0x00434841 0xFFFFFFFF) (stray 0xE2) 0x00000039) (0x43 ∷ 0x48 ∷ 0x41 ∷ []) 1 .block)
+    (strayed (chainBytes 0x00434841 0xFFFFFFFF) (chainBytes 0x00434841 0xFFFFFFFE) 0x00000059)
+unfolding callsOpen
+strays-kept = refl

@@ -3,11 +3,13 @@
 use mathlib.Core.Path.{_≡_, refl}
 use mathlib.Core.List.{List, [], _∷_, _++_, map}
 use Prim.Native.Nat.{ℕ}
-use lib.ListN.{replicate}
+use lib.ListN.{length, replicate}
 use Rattle.cells.specs.Bytes.{zeros}
 use Rattle.nodes.specs.Written.{words, eightWords, chainBytes}
+use Rattle.nodes.specs.Layout.{trailerCells}
+use Rattle.blocks.specs.Trailer.{badLength, badSize}
 use Rattle.blocks.specs.Refusal.{Changed, Counted}
-use Rattle.store.specs.Format.{format}
+use Rattle.store.specs.Format.{badNewSize, format}
 use Rattle.store.specs.Insert.{insert}
 use Rattle.store.specs.Computing.{callsOpen}
 use Rattle.snapshots.specs.Snapshots.{snapshot, restore, release}
@@ -124,3 +126,13 @@ pub formats :
     ∷ [])
 unfolding callsOpen
 formats = refl
+
+-- 01, answer 1: "length no multiple of 32, or n outside 4 to 2,048", for every block, whatever it says of itself: of a fresh block
+pub new-sizes : (block : List ℕ) → badNewSize 1 block ≡ badLength 4 (length block)
+unfolding trailerCells
+new-sizes block = refl
+
+-- of every other call
+pub any-sizes : (block : List ℕ) → badSize block ≡ badLength 4 (length block)
+unfolding trailerCells badSize
+any-sizes block = refl

@@ -43,6 +43,24 @@ pub split-of-unordered :
 unfolding callsOpen
 split-of-unordered = refl
 
+-- 01: "a copy with the child word replaced": of six children too; FF, at position 3, with 9
+pub sixth-replaced :
+    _≡_ {A = List (List ℕ)}
+    ((insert (sixIn 32 0x00000007) (0xFF ∷ []) 9 .answer ∷ insert (sixIn 32 0x00000007) (0xFF ∷ []) 9 .count ∷ [])
+    ∷ insert (sixIn 32 0x00000007) (0xFF ∷ []) 9 .block
+    ∷ [])
+    ((0 ∷ 1 ∷ [])
+    ∷ (unused
+    ++ eightWords 0xFFFFFFFF 0xFFFFFFFE 0xFFFFFFFD 0xFFFFFFF6 0xFFFFFFFB 0xFFFFFFFA 0x88C905FF 0x460760E0
+    ++ unused
+    ++ unused
+    ++ sixChildren
+    ++ unused
+    ++ eightWords 0x0000003E 0 0 0 0x00000000 0x00000007 0x00000000 0x00000001)
+    ∷ [])
+unfolding callsOpen
+sixth-replaced = refl
+
 -- 01, answer 7: "the entry takes more cells than are free": ten, and nine are free; nothing is counted and nothing altered
 pub one-cell-too-few :
     _≡_ {A = List (List ℕ)}
