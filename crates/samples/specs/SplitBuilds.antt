@@ -4,10 +4,11 @@ use mathlib.Core.Path.{_≡_, refl}
 use mathlib.Core.List.{List, [], _∷_, _++_}
 use Prim.Native.Nat.{ℕ}
 use Rattle.cells.specs.Bytes.{zeros}
-use Rattle.nodes.specs.Written.{words, eightWords, headBytes, branchBytes}
+use Rattle.nodes.specs.Written.{words, eightWords, chainBytes, headBytes, branchBytes}
 use Rattle.store.specs.Insert.{insert}
 use Rattle.store.specs.Computing.{callsOpen}
 use Rattle.samples.specs.Crafted.{unused}
+use Rattle.samples.specs.Builds.{cellsIn, told}
 
 -- 88, C9, 05, FF, 46 and 07 at the positions 0 to 5, with the values 0 to 5
 abbrev sixChildren : List ℕ
@@ -42,6 +43,20 @@ pub split-of-unordered :
     ∷ [])
 unfolding callsOpen
 split-of-unordered = refl
+
+-- "deepest node first": the chain of 45 41 before all of the split, which is then one cell further on
+pub split-above-chain :
+    _≡_ {A = List (List ℕ)}
+    (told (insert (sixIn 256 0x0000000E) (0x45 ∷ 0x41 ∷ []) 9) (1 ∷ 2 ∷ 3 ∷ 5 ∷ 12 ∷ []))
+    ((11 ∷ 0x0000019C ∷ [])
+    ∷ chainBytes 0x00000041 0xFFFFFFF6
+    ∷ eightWords 0 0 0 0 0 0xFFFFFFFD 0 0xFFFFFFFA
+    ∷ branchBytes 0x0000005C 0
+    ∷ eightWords 0 0 0 0 0 0x0000003B 0xFFFFFFFB 0
+    ∷ headBytes 0x0000007C 0x000000DC 0x0000011C 0x0000017C
+    ∷ [])
+unfolding callsOpen told cellsIn
+split-above-chain = refl
 
 -- 01: "a copy with the child word replaced": of six children too; FF, at position 3, with 9
 pub sixth-replaced :

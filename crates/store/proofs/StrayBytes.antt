@@ -7,12 +7,13 @@ use Prim.Native.Nat.{ℕ, _≤_, _<_}
 use native.Mathlib.Omega.{arith}
 use lib.ListN.{getD}
 use Rattle.cells.specs.Bytes.{zeros}
+use Rattle.cells.specs.Word.{wordAt}
 use Rattle.nodes.specs.Pointer.{wordTo}
 use Rattle.nodes.specs.Sparse.{sparseCount}
 use Rattle.nodes.specs.Meaning.{InSparse, InPrefix}
 use Rattle.nodes.specs.Written.{words, eightWords}
 use Rattle.nodes.specs.Computing.{nodesOpen}
-use Rattle.updates.specs.Zeros.{Use, chainFrom, sparseUse, headUse, midUse, endUse, prefixUse, kindOf, part, Clean}
+use Rattle.updates.specs.Zeros.{Use, chainFrom, sparseUse, headUse, midUse, endUse, prefixUse, kindOf, part, Clean, Leads}
 use Rattle.store.specs.TakenCells.{takenBytes, CleanTaken}
 use Rattle.store.specs.Computing.{callsOpen}
 
@@ -100,3 +101,50 @@ strayBlock = zeros 32 ++ strayChain ++ zeros 32 ++ eightWords 0x0000003B 0 0 0 0
 pub stray-block-refuted : CleanTaken fresh strayBlock 1 → ⊥
 unfolding callsOpen takenBytes
 stray-block-refuted taken = no-other (taken .0) (taken .1) (taken .2) (taken .3)
+
+-- the same of an older cell, sample H's prefix (2) below its chain (3): the word 0000005F in the chain leads to a prefix and to nothing else
+abbrev overPrefix : List ℕ
+overPrefix = eightWords 0 0 0 0 0 0 0x00000043 0x0000005F
+
+over-word : wordAt overPrefix 0x1C ≡ 0x5F
+unfolding nodesOpen
+over-word = refl
+
+below-chain : (place : ℕ) (role : Use) → Clean role (strayPrefix 0xFF010000 0) → Leads (chainFrom place) overPrefix (part role) (wordTo 2 (kindOf role)) → ⊥
+below-chain place (chainFrom from) clean leads = omega (arith, clean .proper, leads .1, over-word)
+below-chain place sparseUse clean leads = omega (arith, leads .1, over-word)
+below-chain place headUse clean leads = omega (arith, leads .1, over-word)
+below-chain place midUse clean leads = omega (arith, leads .0)
+below-chain place endUse clean leads = omega (arith, leads .0)
+below-chain place prefixUse clean leads = stray-prefix .0 clean
+
+none-below : (role below : Use) → part role ≡ 0 → 0x7B ≡ wordTo 3 (kindOf role) → Clean below (strayPrefix 0xFF010000 0)
+    → Leads role overPrefix (part below) (wordTo 2 (kindOf below)) → ⊥
+none-below (chainFrom place) below node e clean leads = below-chain place below clean leads
+none-below sparseUse below node e clean leads = omega (arith, e)
+none-below headUse below node e clean leads = omega (arith, e)
+none-below midUse below node e clean leads = omega (arith, node)
+none-below endUse below node e clean leads = omega (arith, node)
+none-below prefixUse below node e clean leads = omega (arith, e)
+
+-- sample E's run in a block of five cells, and sample H's insertion into it with the stray byte
+abbrev beforeH : List ℕ
+beforeH =
+    zeros 32
+    ++ eightWords 0 0 0 0 0 0 0x00434841 0xFFFFFFFF
+    ++ zeros 64
+    ++ eightWords 0x00000039 0 0 0 0x00000000 0x00000005 0x00000000 0x00000001
+
+abbrev strayH : List ℕ
+strayH =
+    zeros 32
+    ++ eightWords 0 0 0 0 0 0 0x00434841 0xFFFFFFFF
+    ++ strayPrefix 0xFF010000 0
+    ++ overPrefix
+    ++ eightWords 0x0000007B 0 0 0 0x00000000 0x00000005 0x00000000 0x00000001
+
+pub stray-older-refuted : CleanTaken beforeH strayH 2 → ⊥
+unfolding callsOpen takenBytes
+stray-older-refuted taken =
+    let below = taken .4 in
+    none-below (taken .0) (below .0) (taken .2) (taken .3) (below .1) (below .2)
