@@ -11,3 +11,6 @@ pub mod UnsoundTrees
 pub mod UnsoundTrailer
 pub mod Builds
 pub mod KeyLimit
+pub mod ChainBuilds
+pub mod SplitBuilds
+pub mod RefusalOrder
