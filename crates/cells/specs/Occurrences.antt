@@ -24,8 +24,12 @@ unfoldable pub select : {A : Type 0} → (A → Bool) → List A → List A
 select test [] = []
 select test (x ∷ xs) = let rest = select test xs in cond (test x) (x ∷ rest) rest
 
+-- how often each of some numbers stands in a list, for the computed examples
+abbrev pub tallied : List ℕ → List ℕ → List ℕ
+tallied numbers list = map (λ c. occurrences c list) numbers
+
 -- how often 0, 1, 2 and 3 stand in a list
-pub counted : _≡_ {A = List ℕ} (map (λ c. occurrences c (2 ∷ 1 ∷ 2 ∷ 3 ∷ 2 ∷ [])) (0 ∷ 1 ∷ 2 ∷ 3 ∷ [])) (0 ∷ 1 ∷ 3 ∷ 1 ∷ [])
+pub counted : _≡_ {A = List ℕ} (tallied (0 ∷ 1 ∷ 2 ∷ 3 ∷ []) (2 ∷ 1 ∷ 2 ∷ 3 ∷ 2 ∷ [])) (0 ∷ 1 ∷ 3 ∷ 1 ∷ [])
 unfolding occurrences
 counted = refl
 

@@ -23,13 +23,13 @@ InBranch i = i < 32
 abbrev pub InPrefix : ℕ → Type 0
 InPrefix i = (i < 5) ⊎ ((0x1C ≤ i) × (i < 32))
 
--- 01, "How a pointer reads": the bytes that the text of each kind does not name. A chain at 19 (sample E): 00 to 18
-pub outside-chain : (i : ℕ) → i < 0x19 → InChain 0x19 i → ⊥
-outside-chain i low meant = omega (arith, meant .1)
+-- 01, "How a pointer reads": the bytes that the text of each kind does not name have no meaning. A chain: those before its first character
+pub outside-chain : (place i : ℕ) → i < place → InChain place i → ⊥
+outside-chain place i low meant = omega (arith, meant .1)
 
--- a sparse cell of two children (sample F): the characters 1A to 1D
-pub outside-sparse : (i : ℕ) → 0x1A ≤ i → i < 0x1E → InSparse 2 i → ⊥
-outside-sparse i low high meant = ⊎-elim (λ before. omega arith) (λ after. omega (arith, after .1)) meant
+-- a sparse cell: the characters past its children, up to 1D
+pub outside-sparse : (count i : ℕ) → 0x18 + count ≤ i → i < 0x1E → InSparse count i → ⊥
+outside-sparse count i low high meant = ⊎-elim (λ before. omega arith) (λ after. omega (arith, after .1)) meant
 
 -- a head: 00 to 0F
 pub outside-head : (i : ℕ) → i < 0x10 → InHead i → ⊥

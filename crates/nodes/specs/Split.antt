@@ -9,7 +9,7 @@ use lib.Dec.{eqb}
 use Rattle.cells.specs.Word.{wordAt}
 use Rattle.cells.specs.Bytes.{zeros}
 use Rattle.cells.specs.Memory.{Memory, memoryOf}
-use Rattle.cells.specs.Occurrences.{occurrences}
+use Rattle.cells.specs.Occurrences.{occurrences, tallied}
 use Rattle.nodes.specs.Layout.{Layout, trailerCells, usable}
 use Rattle.nodes.specs.Pointer.{Pointer, byKind, pointer}
 use Rattle.nodes.specs.Pointer.Pointer.{nothing, leaf, chain, split, sparse, prefix, invalid}
@@ -117,15 +117,15 @@ pub split-children :
 unfolding zeros words wordAt memoryOf wordBelow splitChild
 split-children = refl
 
--- how often each cell up to 14 is among those found; no list where nothing is found
-abbrev visits : Option (List ℕ) → Option (List ℕ)
-visits found = bind found (λ cells. some (map (λ c. occurrences c cells) (0 ∷ 1 ∷ 2 ∷ 3 ∷ 4 ∷ 5 ∷ 6 ∷ 7 ∷ 8 ∷ 9 ∷ 10 ∷ 11 ∷ 12 ∷ 13 ∷ 14 ∷ [])))
-
--- 01: "A root reaches the cells that its tree enters: mids, ends ..": every mid and every end once, in 15 cells; in 14 the last end would be
--- the trailer, and nothing is found
+-- 01: "A root reaches the cells that its tree enters: mids, ends ..": how often each cell is visited, every mid and every end once, in 15
+-- cells; in 14 the last end would be the trailer, and nothing is found
 pub split-cells :
     _≡_ {A = List (Option (List ℕ))}
-    (map (λ n. visits (headCells (record { edition = 1; cells = n }) fullSplit 1)) (15 ∷ 14 ∷ []))
+    (map
+    (λ n.
+    bind (headCells (record { edition = 1; cells = n }) fullSplit 1)
+    (λ found. some (tallied (0 ∷ 1 ∷ 2 ∷ 3 ∷ 4 ∷ 5 ∷ 6 ∷ 7 ∷ 8 ∷ 9 ∷ 10 ∷ 11 ∷ 12 ∷ 13 ∷ 14 ∷ []) found)))
+    (15 ∷ 14 ∷ []))
     (some (0 ∷ 0 ∷ 1 ∷ 1 ∷ 1 ∷ 1 ∷ 1 ∷ 1 ∷ 1 ∷ 1 ∷ 1 ∷ 1 ∷ 1 ∷ 1 ∷ 0 ∷ []) ∷ none ∷ [])
 unfolding bind zeros words wordAt memoryOf occurrences trailerCells usable byKind pointer someWord gather under splitCell endCells midCells headCells
 split-cells = refl

@@ -99,17 +99,17 @@ unfolding keyBefore
 not-before = refl
 
 -- a pair by its key and value
-abbrev pub entry : List ℕ → ℕ → Entry
-entry key value = record { key = key; value = value }
+abbrev pub entryOf : List ℕ → ℕ → Entry
+entryOf key value = record { key = key; value = value }
 
 -- the pairs of the small tree
 abbrev smallEntries : List Entry
 smallEntries =
-    entry (0x00 ∷ 0x7F ∷ []) 7
-    ∷ entry (0x00 ∷ 0x80 ∷ []) 8
-    ∷ entry (0x41 ∷ []) 5
-    ∷ entry (0x41 ∷ 0x42 ∷ 0x43 ∷ []) 1
-    ∷ entry (0xFF ∷ 0xFF ∷ []) 3
+    entryOf (0x00 ∷ 0x7F ∷ []) 7
+    ∷ entryOf (0x00 ∷ 0x80 ∷ []) 8
+    ∷ entryOf (0x41 ∷ []) 5
+    ∷ entryOf (0x41 ∷ 0x42 ∷ 0x43 ∷ []) 1
+    ∷ entryOf (0xFF ∷ 0xFF ∷ []) 3
     ∷ []
 
 -- its pairs in order; 01: "Order is by unsigned bytes, a label before its extensions."
@@ -131,14 +131,14 @@ pub next-entries :
     ∷ (0xFF ∷ [])
     ∷ (0xFF ∷ 0xFF ∷ [])
     ∷ []))
-    (some (entry (0x00 ∷ 0x7F ∷ []) 7)
-    ∷ some (entry (0x00 ∷ 0x80 ∷ []) 8)
-    ∷ some (entry (0x00 ∷ 0x80 ∷ []) 8)
-    ∷ some (entry (0x41 ∷ []) 5)
-    ∷ some (entry (0x41 ∷ 0x42 ∷ 0x43 ∷ []) 1)
-    ∷ some (entry (0x41 ∷ 0x42 ∷ 0x43 ∷ []) 1)
-    ∷ some (entry (0xFF ∷ 0xFF ∷ []) 3)
-    ∷ some (entry (0xFF ∷ 0xFF ∷ []) 3)
+    (some (entryOf (0x00 ∷ 0x7F ∷ []) 7)
+    ∷ some (entryOf (0x00 ∷ 0x80 ∷ []) 8)
+    ∷ some (entryOf (0x00 ∷ 0x80 ∷ []) 8)
+    ∷ some (entryOf (0x41 ∷ []) 5)
+    ∷ some (entryOf (0x41 ∷ 0x42 ∷ 0x43 ∷ []) 1)
+    ∷ some (entryOf (0x41 ∷ 0x42 ∷ 0x43 ∷ []) 1)
+    ∷ some (entryOf (0xFF ∷ 0xFF ∷ []) 3)
+    ∷ some (entryOf (0xFF ∷ 0xFF ∷ []) 3)
     ∷ none
     ∷ [])
 unfolding select keyBefore first

@@ -6,7 +6,7 @@ use mathlib.Core.Option.{Option, none, some}
 use Prim.Native.Nat.{ℕ}
 use Rattle.cells.specs.Occurrences.{all}
 use Rattle.trees.specs.Lookup.{sameKey}
-use Rattle.trees.specs.Entries.{Entry, keyBefore, entry}
+use Rattle.trees.specs.Entries.{Entry, keyBefore, entryOf}
 
 -- the value of the first pair with a key
 unfoldable pub entryAt : List Entry → List ℕ → Option ℕ
@@ -21,7 +21,7 @@ risingKeys (entry ∷ rest) = all (λ later. keyBefore (entry .key) (later .key)
 -- two pairs, of 41 with 5 and 41 42 with 7, and a later one of 41: the values of [], 41, 41 42 and 42
 pub entries-at :
     _≡_ {A = List (Option ℕ)}
-    (map (entryAt (entry (0x41 ∷ []) 5 ∷ entry (0x41 ∷ 0x42 ∷ []) 7 ∷ entry (0x41 ∷ []) 6 ∷ [])) ([] ∷ (0x41 ∷ []) ∷ (0x41 ∷ 0x42 ∷ []) ∷ (0x42 ∷ []) ∷ []))
+    (map (entryAt (entryOf (0x41 ∷ []) 5 ∷ entryOf (0x41 ∷ 0x42 ∷ []) 7 ∷ entryOf (0x41 ∷ []) 6 ∷ [])) ([] ∷ (0x41 ∷ []) ∷ (0x41 ∷ 0x42 ∷ []) ∷ (0x42 ∷ []) ∷ []))
     (none ∷ some 5 ∷ some 7 ∷ none ∷ [])
 unfolding sameKey entryAt
 entries-at = refl
@@ -31,9 +31,9 @@ pub rising-entries :
     _≡_ {A = List Bool}
     (map risingKeys
     ([]
-    ∷ (entry (0x41 ∷ []) 5 ∷ entry (0x41 ∷ 0x42 ∷ []) 7 ∷ entry (0xFF ∷ []) 3 ∷ [])
-    ∷ (entry (0x41 ∷ []) 5 ∷ entry (0xFF ∷ []) 7 ∷ entry (0xFF ∷ []) 3 ∷ [])
-    ∷ (entry (0x41 ∷ []) 5 ∷ entry (0xFF ∷ []) 7 ∷ entry (0x41 ∷ 0x42 ∷ []) 3 ∷ [])
+    ∷ (entryOf (0x41 ∷ []) 5 ∷ entryOf (0x41 ∷ 0x42 ∷ []) 7 ∷ entryOf (0xFF ∷ []) 3 ∷ [])
+    ∷ (entryOf (0x41 ∷ []) 5 ∷ entryOf (0xFF ∷ []) 7 ∷ entryOf (0xFF ∷ []) 3 ∷ [])
+    ∷ (entryOf (0x41 ∷ []) 5 ∷ entryOf (0xFF ∷ []) 7 ∷ entryOf (0x41 ∷ 0x42 ∷ []) 3 ∷ [])
     ∷ []))
     (true ∷ true ∷ false ∷ false ∷ [])
 unfolding all keyBefore risingKeys

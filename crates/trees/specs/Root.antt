@@ -70,6 +70,20 @@ pub visited-cells :
 unfolding nodesOpen spread step tree isRoot rootTree
 visited-cells = refl
 
+-- 01: "A root reaches the cells that its tree enters": a sparse cell and its chains, one of these as a root; NONE, a leaf, and a child that
+-- is no kind reach nothing
+pub root-cells :
+    _≡_ {A = List (List ℕ)}
+    (rootCells six (twoChildren 0x0000005A 0x0000007B) 0x0000003E
+    ∷ rootCells six (twoChildren 0x0000005A 0x0000007B) 0x0000007B
+    ∷ rootCells six (twoChildren 0x0000005A 0x0000007B) 0x00000000
+    ∷ rootCells six (twoChildren 0x0000005A 0x0000007B) 0xFFFFFFFF
+    ∷ rootCells six (twoChildren 0x0000005A 0x0000007D) 0x0000003E
+    ∷ [])
+    ((1 ∷ 2 ∷ 3 ∷ []) ∷ (3 ∷ []) ∷ [] ∷ [] ∷ [] ∷ [])
+unfolding nodesOpen spread step tree isRoot rootTree cellsOf
+root-cells = refl
+
 -- 01: "In the tree of one root no cell is entered twice": two chain cells, two places of one, one place of one
 pub visited-twice :
     _≡_ {A = List Bool}

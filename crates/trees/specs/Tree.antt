@@ -5,7 +5,7 @@ use mathlib.Core.Option.{Option, none, some, bind}
 use Prim.Native.Nat.{ℕ, zero, suc}
 use Rattle.cells.specs.Bytes.{zeros}
 use Rattle.cells.specs.Memory.{Memory, memoryOf}
-use Rattle.cells.specs.Occurrences.{occurrences}
+use Rattle.cells.specs.Occurrences.{tallied}
 use Rattle.nodes.specs.Layout.{Layout, six}
 use Rattle.nodes.specs.Written.{chainBytes, sparseBytes}
 use Rattle.nodes.specs.Computing.{nodesOpen}
@@ -27,15 +27,13 @@ unfoldable pub tree : Layout → Memory → ℕ → ℕ → Option (List ℕ)
 tree layout m zero word = step layout m (λ _. none) word
 tree layout m (suc depth) word = step layout m (tree layout m depth) word
 
--- how often each cell up to 10 is among those found; no list where nothing is found
-abbrev visits : Option (List ℕ) → Option (List ℕ)
-visits found = bind found (λ cells. some (map (λ c. occurrences c cells) (0 ∷ 1 ∷ 2 ∷ 3 ∷ 4 ∷ 5 ∷ 6 ∷ 7 ∷ 8 ∷ 9 ∷ 10 ∷ [])))
-
--- 01: "A root reaches the cells that its tree enters: mids, ends, prefixes and linked nodes too.", the children of 00 and FF among them; its
--- longest path, 41 42 43, has three characters and is too long where two are left
+-- 01: "A root reaches the cells that its tree enters: mids, ends, prefixes and linked nodes too.", each once, those
+-- below 00 and FF among them; its longest path, 41 42 43, has three characters and is too long where two are left
 pub small-tree :
     _≡_ {A = List (Option (List ℕ))}
-    (map (λ depth. visits (tree eleven small depth smallRoot)) (3 ∷ 2 ∷ []))
+    (map
+    (λ depth. bind (tree eleven small depth smallRoot) (λ found. some (tallied (0 ∷ 1 ∷ 2 ∷ 3 ∷ 4 ∷ 5 ∷ 6 ∷ 7 ∷ 8 ∷ 9 ∷ 10 ∷ []) found)))
+    (3 ∷ 2 ∷ []))
     (some (0 ∷ 1 ∷ 1 ∷ 1 ∷ 1 ∷ 1 ∷ 1 ∷ 1 ∷ 1 ∷ 1 ∷ 0 ∷ []) ∷ none ∷ [])
 unfolding nodesOpen small spread step tree
 small-tree = refl
@@ -52,13 +50,13 @@ unfolding nodesOpen small spread step tree
 depth-left = refl
 
 -- a sparse cell (1) with these children of 00 and of FF, and a chain (2)
-abbrev outermost : ℕ → ℕ → Option (List ℕ)
-outermost first last = tree six (memoryOf (zeros 32 ++ sparseBytes first last 0 0x00FF0000 0x00000006 ++ chainBytes 0x00000041 0xFFFFFFFF)) 2 0x0000003E
+abbrev atEdges : ℕ → ℕ → Option (List ℕ)
+atEdges first last = tree six (memoryOf (zeros 32 ++ sparseBytes first last 0 0x00FF0000 0x00000006 ++ chainBytes 0x00000041 0xFFFFFFFF)) 2 0x0000003E
 
 -- 01: "A node is judged by its children": by the first and by the last; kind 1D in the place of either
 pub outermost-children :
     _≡_ {A = List (Option (List ℕ))}
-    (outermost 0x0000005B 0xFFFFFFFE ∷ outermost 0xFFFFFFFE 0x0000005B ∷ outermost 0x0000005D 0xFFFFFFFE ∷ outermost 0xFFFFFFFE 0x0000005D ∷ [])
+    (atEdges 0x0000005B 0xFFFFFFFE ∷ atEdges 0xFFFFFFFE 0x0000005B ∷ atEdges 0x0000005D 0xFFFFFFFE ∷ atEdges 0xFFFFFFFE 0x0000005D ∷ [])
     (some (1 ∷ 2 ∷ []) ∷ some (1 ∷ 2 ∷ []) ∷ none ∷ none ∷ [])
 unfolding nodesOpen spread step tree
 outermost-children = refl
