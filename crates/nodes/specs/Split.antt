@@ -10,7 +10,7 @@ use Rattle.cells.specs.Word.{wordAt}
 use Rattle.cells.specs.Bytes.{zeros}
 use Rattle.cells.specs.Memory.{Memory, memoryOf}
 use Rattle.cells.specs.Occurrences.{occurrences, tallied}
-use Rattle.nodes.specs.Layout.{Layout, trailerCells, usable}
+use Rattle.nodes.specs.Layout.{Layout, trailerCells, usable, six}
 use Rattle.nodes.specs.Pointer.{Pointer, byKind, pointer}
 use Rattle.nodes.specs.Pointer.Pointer.{nothing, leaf, chain, split, sparse, prefix, invalid}
 use Rattle.nodes.specs.Sparse.{someWord}
@@ -129,6 +129,14 @@ pub split-cells :
     (some (0 ∷ 0 ∷ 1 ∷ 1 ∷ 1 ∷ 1 ∷ 1 ∷ 1 ∷ 1 ∷ 1 ∷ 1 ∷ 1 ∷ 1 ∷ 1 ∷ 0 ∷ []) ∷ none ∷ [])
 unfolding bind zeros words wordAt memoryOf occurrences trailerCells usable byKind pointer someWord gather under splitCell endCells midCells headCells
 split-cells = refl
+
+-- 01: "Pointers to mids and ends carry kind 1C too.": NONE, the kinds 00, 1B, 1C, 1D, 1E and 1F, and 1C with the top bit
+pub split-pointers :
+    _≡_ {A = List (Option ℕ)}
+    (map (λ word. splitCell (pointer six word)) (0x00000000 ∷ 0x00000020 ∷ 0x0000003B ∷ 0x0000003C ∷ 0x0000003D ∷ 0x0000003E ∷ 0x0000003F ∷ 0x8000003C ∷ []))
+    (none ∷ none ∷ none ∷ some 1 ∷ none ∷ none ∷ none ∷ none ∷ [])
+unfolding trailerCells usable byKind pointer splitCell
+split-pointers = refl
 
 -- 01: "A split head .. at least one pointer.": in each of its four words alone, in none; words before 10 are none of them
 pub head-pointers :

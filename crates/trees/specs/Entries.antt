@@ -117,6 +117,14 @@ pub small-entries : entries eleven small 3 smallRoot ≡ smallEntries
 unfolding nodesOpen small ownEntry childEntries entriesUnder nodeEntries entries
 small-entries = refl
 
+-- those of at most two characters and of at most one
+pub short-entries :
+    _≡_ {A = List (List Entry)}
+    (map (λ depth. entries eleven small depth smallRoot) (2 ∷ 1 ∷ []))
+    ((entryOf (0x00 ∷ 0x7F ∷ []) 7 ∷ entryOf (0x00 ∷ 0x80 ∷ []) 8 ∷ entryOf (0x41 ∷ []) 5 ∷ entryOf (0xFF ∷ 0xFF ∷ []) 3 ∷ []) ∷ (entryOf (0x41 ∷ []) 5 ∷ []) ∷ [])
+unfolding nodesOpen small ownEntry childEntries entriesUnder nodeEntries entries
+short-entries = refl
+
 -- 01: "the least label shown that is greater than a given one": than the empty one, than labels shown, between them and past the last
 pub next-entries :
     _≡_ {A = List (Option Entry)}

@@ -94,3 +94,11 @@ pub visited-twice :
     (true ∷ false ∷ false ∷ [])
 unfolding nodesOpen spread step tree isRoot rootTree onceVisited
 visited-twice = refl
+
+-- 01: "The root is NONE, chain, sparse or split.", "1D is no kind.": NONE and a chain, then a leaf, a prefix, kind 1D as a root and as a child
+pub valid-roots :
+    _≡_ {A = List Bool}
+    (map (validRoot six (twoChildren 0x0000005A 0x0000007D)) (0x00000000 ∷ 0x0000005A ∷ 0xFFFFFFFF ∷ 0x0000005F ∷ 0x0000005D ∷ 0x0000003E ∷ []))
+    (true ∷ true ∷ false ∷ false ∷ false ∷ false ∷ [])
+unfolding nodesOpen spread step tree isRoot rootTree onceVisited
+valid-roots = refl
