@@ -37,7 +37,7 @@ entering =
     fed (inserting key41 5)
     ∷ fedSeven (inserting key41 6)
     ∷ fedSeven (inserting [] 2147483648)
-    ∷ fedSeven (inserting (replicate 49 0x41) 6)
+    ∷ fedSeven (inserting (replicate 1000 0x41) 6)
     ∷ fedSeven (inserting key41 2147483648)
     ∷ fed (inserting (replicate 48 0x42) 2147483647)
     ∷ fed (inserting key42 1)
