@@ -67,13 +67,13 @@ module _ (impl : Implementation) (b : List ℕ) where
       λ i. record { answer = same i; count = count i; block = block i }
 
 -- what is used of demand 3, from any block on, beside any ledger
-record Meets (impl : Implementation) (count : ℕ) (b : List ℕ) (l : Ledger) : Type 0 where
+record Follows (impl : Implementation) (count : ℕ) (b : List ℕ) (l : Ledger) : Type 0 where
   answers : (calls : List Call) → KeysAreBytes calls → answersOf impl b calls ≡ ledgerAnswers count l (fedBy impl b calls)
   each : (before : List Call) (call : Call) → KeysAreBytes (before ++ call ∷ []) → AtCall impl (run impl b before) call
 
 module _ (impl : Implementation) (count : ℕ) where
   -- the first call of a list
-  first-told : (b : List ℕ) (l : Ledger) → Beside count b l → Meets impl count b l → (call : Call) → KeysAreBytes (call ∷ [])
+  first-told : (b : List ℕ) (l : Ledger) → Beside count b l → Follows impl count b l → (call : Call) → KeysAreBytes (call ∷ [])
       → outcome impl b call ≡ outcome ours b call
   unfolding answersOf ledgerAnswers fedBy run
   first-told b l beside m call keys =
@@ -88,36 +88,36 @@ module _ (impl : Implementation) (count : ℕ) where
   abbrev next : Ledger → Call → Outcome → Ledger
   next l call o = noteCall count l call (gotNoRoom call (o .answer)) .ledger
 
-  beside-next : (b : List ℕ) (l : Ledger) → Beside count b l → Meets impl count b l → (call : Call) → KeysAreBytes (call ∷ [])
+  beside-next : (b : List ℕ) (l : Ledger) → Beside count b l → Follows impl count b l → (call : Call) → KeysAreBytes (call ∷ [])
       → Beside count (outcome impl b call .block) (next l call (outcome impl b call))
   beside-next b l beside m call keys =
       subst (λ (o : Outcome). Beside count (o .block) (next l call o)) (sym (first-told b l beside m call keys))
       (call-step count b l beside call (keys .0) .beside)
 
-  meets-next : (b : List ℕ) (l : Ledger) → Meets impl count b l → (call : Call) → KeysAreBytes (call ∷ [])
-      → Meets impl count (outcome impl b call .block) (next l call (outcome impl b call))
+  follows-next : (b : List ℕ) (l : Ledger) → Follows impl count b l → (call : Call) → KeysAreBytes (call ∷ [])
+      → Follows impl count (outcome impl b call .block) (next l call (outcome impl b call))
   unfolding answersOf ledgerAnswers fedBy run
-  meets-next b l m call keys =
+  follows-next b l m call keys =
       record {
         answers = λ calls more. ap (λ (numbers : List ℕ). drop 1 numbers) (m .answers (call ∷ calls) (keys .0, more));
         each = λ before c more. m .each (call ∷ before) c (keys .0, more);
       }
 
   -- any call of a list
-  call-told : (before : List Call) (call : Call) (b : List ℕ) (l : Ledger) → Beside count b l → Meets impl count b l → KeysAreBytes (before ++ call ∷ [])
+  call-told : (before : List Call) (call : Call) (b : List ℕ) (l : Ledger) → Beside count b l → Follows impl count b l → KeysAreBytes (before ++ call ∷ [])
       → outcome impl (run impl b before) call ≡ outcome ours (run ours b before) call
   unfolding run
   call-told [] call b l beside m keys = first-told b l beside m call keys
   call-told (c ∷ before) call b l beside m keys =
-      call-told before call (outcome impl b c .block) (next l c (outcome impl b c)) (beside-next b l beside m c (keys .0, tt)) (meets-next b l m c (keys .0, tt)) (keys .1)
+      call-told before call (outcome impl b c .block) (next l c (outcome impl b c)) (beside-next b l beside m c (keys .0, tt)) (follows-next b l m c (keys .0, tt)) (keys .1)
       ∙ ap (λ (o : Outcome). outcome ours (run ours (o .block) before) call) (first-told b l beside m c (keys .0, tt))
 
   -- the whole list
-  run-told : (calls : List Call) (b : List ℕ) (l : Ledger) → Beside count b l → Meets impl count b l → KeysAreBytes calls → run impl b calls ≡ run ours b calls
+  run-told : (calls : List Call) (b : List ℕ) (l : Ledger) → Beside count b l → Follows impl count b l → KeysAreBytes calls → run impl b calls ≡ run ours b calls
   unfolding run
   run-told [] b l beside m keys = refl
   run-told (c ∷ calls) b l beside m keys =
-      run-told calls (outcome impl b c .block) (next l c (outcome impl b c)) (beside-next b l beside m c (keys .0, tt)) (meets-next b l m c (keys .0, tt)) (keys .1)
+      run-told calls (outcome impl b c .block) (next l c (outcome impl b c)) (beside-next b l beside m c (keys .0, tt)) (follows-next b l m c (keys .0, tt)) (keys .1)
       ∙ ap (λ (o : Outcome). run ours (o .block) calls) (first-told b l beside m c (keys .0, tt))
 
 module _ (impl : Implementation) (d : Demand3 impl) (start : List ℕ) where
@@ -129,8 +129,8 @@ module _ (impl : Implementation) (d : Demand3 impl) (start : List ℕ) where
     does : impl .formatCall start .answer ≡ 0
     does = ap (λ (c : Changed). c .answer) fresh-as-ours ∙ done
 
-    meets : Meets impl (slots (layoutOf (format start .block))) (format start .block) emptyLedger
-    meets =
+    follows : Follows impl (slots (layoutOf (format start .block))) (format start .block) emptyLedger
+    follows =
         record {
           answers = λ calls keys. subst (λ (c : Changed). AfterList impl (c .block) calls) fresh-as-ours (d .afterList start does calls keys) .answers;
           each = λ before call keys.
@@ -143,8 +143,8 @@ module _ (impl : Implementation) (d : Demand3 impl) (start : List ℕ) where
     -- each call after any list: its answer, its count and the block that it leaves
     pub call-as-ours : (before : List Call) (call : Call) → KeysAreBytes (before ++ call ∷ [])
         → outcome impl (run impl (format start .block) before) call ≡ outcome ours (run ours (format start .block) before) call
-    call-as-ours before call keys = call-told impl _ before call (format start .block) emptyLedger beside meets keys
+    call-as-ours before call keys = call-told impl _ before call (format start .block) emptyLedger beside follows keys
 
     -- the block after any list
     pub run-as-ours : (calls : List Call) → KeysAreBytes calls → run impl (format start .block) calls ≡ run ours (format start .block) calls
-    run-as-ours calls keys = run-told impl _ calls (format start .block) emptyLedger beside meets keys
+    run-as-ours calls keys = run-told impl _ calls (format start .block) emptyLedger beside follows keys

@@ -1,19 +1,18 @@
 -- 01: "A taken cell's meaningless bytes are zero". That this says something: a cell with one stray byte is not clean, and sample A's block
 -- with such a byte in the cell taken is none that an insertion may leave.
-use mathlib.Core.Path.{_≡_, refl, ap, _∙_, subst}
-use mathlib.Core.Logic.{_⊎_, ⊎-elim}
+use mathlib.Core.Path.{_≡_, refl}
 use mathlib.Core.List.{List, [], _∷_, _++_}
-use Prim.Native.Nat.{ℕ, _≤_, _<_}
+use Prim.Native.Nat.{ℕ}
 use native.Mathlib.Omega.{arith}
 use lib.ListN.{getD}
 use Rattle.cells.specs.Bytes.{zeros}
 use Rattle.cells.specs.Word.{wordAt}
 use Rattle.nodes.specs.Pointer.{wordTo}
 use Rattle.nodes.specs.Sparse.{sparseCount}
-use Rattle.nodes.specs.Meaning.{InSparse, InPrefix}
 use Rattle.nodes.specs.Written.{words, eightWords}
 use Rattle.nodes.specs.Computing.{nodesOpen}
 use Rattle.updates.specs.Zeros.{Use, chainFrom, sparseUse, headUse, midUse, endUse, prefixUse, kindOf, part, Clean, Leads}
+use Rattle.updates.proofs.Zeros.Junk.{chain-junk, sparse-junk, head-junk, prefix-junk}
 use Rattle.store.specs.TakenCells.{takenBytes, CleanTaken}
 use Rattle.store.specs.Computing.{callsOpen}
 
@@ -27,7 +26,7 @@ unfolding words
 chain-byte = refl
 
 stray-chain : Clean (chainFrom 0x1B) strayChain → ⊥
-stray-chain clean = omega (arith, clean .zeros 0x1A (omega arith) (λ inside. omega (arith, inside .0)), chain-byte)
+stray-chain clean = chain-junk strayChain 0x1A (λ e. omega (arith, e, chain-byte)) 0x1B (omega arith) clean
 
 -- sample F's cell with a byte at 1A, behind the characters of its two children
 abbrev straySparse : List ℕ
@@ -37,12 +36,8 @@ sparse-byte : (getD straySparse 0x1A 0 ≡ 1) × (sparseCount straySparse ≡ 2)
 unfolding nodesOpen
 sparse-byte = (refl, refl)
 
-behind-two : InSparse 2 0x1A → ⊥
-behind-two inside = ⊎-elim (λ early. omega (arith, early)) (λ late. omega (arith, late .0)) inside
-
 stray-sparse : Clean sparseUse straySparse → ⊥
-stray-sparse clean =
-    omega (arith, clean .zeros 0x1A (omega arith) (λ inside. behind-two (subst (λ (count : ℕ). InSparse count 0x1A) (sparse-byte .1) inside)), sparse-byte .0)
+stray-sparse clean = sparse-junk straySparse 0x1A (λ e. omega (arith, e, sparse-byte .0)) (omega (arith, sparse-byte .1)) (omega arith) clean
 
 -- a split head with a byte at 0F, before its words
 abbrev strayHead : List ℕ
@@ -53,7 +48,7 @@ unfolding words
 head-byte = refl
 
 stray-head : Clean headUse strayHead → ⊥
-stray-head clean = omega (arith, clean .zeros 0x0F (omega arith) (λ inside. omega (arith, inside .0)), head-byte)
+stray-head clean = head-junk strayHead 0x0F (λ e. omega (arith, e, head-byte)) (omega arith) clean
 
 -- sample H's prefix with a byte at 05 and at 1B: after FF and before the link
 abbrev strayPrefix : ℕ → ℕ → List ℕ
@@ -63,13 +58,10 @@ prefix-bytes : (getD (strayPrefix 0xFF010000 0) 0x05 0 ≡ 1) × (getD (strayPre
 unfolding words
 prefix-bytes = (refl, refl)
 
-outside-prefix : (i : ℕ) → 5 ≤ i → i < 0x1C → InPrefix i → ⊥
-outside-prefix i from before inside = ⊎-elim (λ early. omega (arith, early, from)) (λ late. omega (arith, late .0, before)) inside
-
 stray-prefix : (Clean prefixUse (strayPrefix 0xFF010000 0) → ⊥) × (Clean prefixUse (strayPrefix 0xFF000000 1) → ⊥)
 stray-prefix = (
-  λ clean. omega (arith, clean .zeros 0x05 (omega arith) (outside-prefix 0x05 (omega arith) (omega arith)), prefix-bytes .0),
-  λ clean. omega (arith, clean .zeros 0x1B (omega arith) (outside-prefix 0x1B (omega arith) (omega arith)), prefix-bytes .1),
+  λ clean. prefix-junk (strayPrefix 0xFF010000 0) 0x05 (λ e. omega (arith, e, prefix-bytes .0)) (omega arith) (omega arith) clean,
+  λ clean. prefix-junk (strayPrefix 0xFF000000 1) 0x1B (λ e. omega (arith, e, prefix-bytes .1)) (omega arith) (omega arith) clean,
 )
 
 -- none of the four is clean
@@ -83,8 +75,7 @@ stray-refuted = (stray-chain, stray-sparse, stray-head, stray-prefix .0, stray-p
 
 -- the word 0000003B leads to a chain from 1B on in cell 1, and to nothing else
 no-other : (role : Use) → Clean role strayChain → part role ≡ 0 → 0x3B ≡ wordTo 1 (kindOf role) → ⊥
-no-other (chainFrom place) clean node e =
-    omega (arith, clean .zeros 0x1A (omega arith) (λ inside. omega (arith, inside .0, e)), chain-byte)
+no-other (chainFrom place) clean node e = chain-junk strayChain 0x1A (λ zero. omega (arith, zero, chain-byte)) place (omega (arith, e)) clean
 no-other sparseUse clean node e = omega (arith, e)
 no-other headUse clean node e = omega (arith, e)
 no-other midUse clean node e = omega (arith, node)
