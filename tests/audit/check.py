@@ -15,7 +15,7 @@ CALLS = {
     "crates/dosing/src/verdict.rt": ["verdict"],
     "crates/firmware/src/lib.rt": ["register_insert", "register_get", "register_verdict"],
 }
-DEFINITION = re.compile(r"^(?:unfoldable|abbrev|pub record|pub data)\b(?! mutual)")
+DEFINITION = re.compile(r"(?:unfoldable|abbrev|pub record|pub data)\b(?! mutual)")
 IMPORT = re.compile(r"^(?:ghost )?use Rattle·\w+(?:·specs)?\.specs\.(?P<module>[\w.]+)\.\{(?P<names>[^}]*)\}", re.M)
 
 
@@ -40,7 +40,7 @@ def unsaid():
     """Definitions outside specs/Code with no comment above them."""
     for path in sorted(Path("crates").glob("*/specs/*.antt")):
         above = ""
-        for number, line in enumerate(path.read_text().split("\n"), 1):
+        for number, line in enumerate(map(str.strip, path.read_text().split("\n")), 1):
             if DEFINITION.match(line) and not above.startswith("--"):
                 yield f"{path}:{number} does not say what it defines"
             if not line.startswith("infix"):

@@ -1,5 +1,6 @@
 -- What the code's answers mean, by cases: the answer numbers and values of 01.
-use mathlib.Core.List.{List, []}
+use mathlib.Core.Path.{_≡_, refl}
+use mathlib.Core.List.{List, [], _∷_, map}
 use Prim.Native.Nat.{ℕ}
 use Rattle.blocks.specs.declared.answer.Refusal.{Refusal}
 use Rattle.blocks.specs.declared.answer.Refusal.the-variants.{BadSize, Unsound, BadKey, BadValue, BadSlot, SlotNotInUse, NoRoom, BadSheet, BadReading, BadToday, Missing, HeldNoDate, Expired, OutsideGate}
@@ -58,3 +59,10 @@ nextOutcome next = record { answer = changeNumber (next .answer); size = next .s
 -- 01: "A no returns zeros beside its number"
 abbrev pub refusedNext : ℕ → Next
 refusedNext number = record { answer = number; size = 0; key = padded [] }
+
+-- 01's table, "When the answer is no", top to bottom
+pub answer-numbers :
+    map refusalNumber
+    (BadSize ∷ Unsound ∷ BadKey ∷ BadValue ∷ BadSlot ∷ SlotNotInUse ∷ NoRoom ∷ BadSheet ∷ BadReading ∷ BadToday ∷ Missing ∷ HeldNoDate ∷ Expired ∷ OutsideGate ∷ [])
+    ≡ (1 ∷ 2 ∷ 3 ∷ 4 ∷ 5 ∷ 6 ∷ 7 ∷ 8 ∷ 9 ∷ 10 ∷ 11 ∷ 12 ∷ 13 ∷ 14 ∷ [])
+answer-numbers = refl

@@ -8,4 +8,5 @@ pub mod After
 pub mod Left
 pub mod Answers
 pub mod Computing
+pub mod Examples
 pub mod Code

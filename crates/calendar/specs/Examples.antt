@@ -1,6 +1,6 @@
 -- Dates of 01's samples and the edges beside them, computed. Assumes nothing.
 use Prim.Native.Nat.{ℕ}
-use mathlib.Core.Bool.{true, not}
+use mathlib.Core.Bool.{true, false, not}
 use mathlib.Core.List.{[], _∷_, map}
 use mathlib.Core.Path.{_≡_, refl}
 use lib.Dec.{eqb}
@@ -63,3 +63,46 @@ pub months :
     ≡ ((0 ∷ 31 ∷ 28 ∷ 31 ∷ 30 ∷ 31 ∷ 30 ∷ 31 ∷ 31 ∷ 30 ∷ 31 ∷ 30 ∷ 31 ∷ 0 ∷ []) ∷ (31 ∷ 29 ∷ 31 ∷ []) ∷ [])
 unfolding februaryDays daysOfMonth
 months = refl
+
+-- 01: "A held date is year x 512 + month x 32 + day": the first and the last one, a leap day, a day of December
+pub packed-dates :
+    map packedDate (written 1 1 2000 ∷ written 31 12 2199 ∷ written 29 2 2024 ∷ written 1 12 2025 ∷ [])
+    ≡ (1024033 ∷ 1126303 ∷ 1036381 ∷ 1037185 ∷ [])
+packed-dates = refl
+
+-- the same read backwards, of dates and of the greatest value that can be held: no part of the number is dropped
+pub unpacked-values :
+    map unpackedDate (1036903 ∷ 1024033 ∷ 1126303 ∷ 1037185 ∷ 0 ∷ 2147483647 ∷ [])
+    ≡ (written 7 3 2025 ∷ written 1 1 2000 ∷ written 31 12 2199 ∷ written 1 12 2025 ∷ written 0 0 0 ∷ written 31 15 4194303 ∷ [])
+unpacked-values = refl
+
+-- 01, answer 12, "held value is no date": the first and the last that are; then of 7 March 2025 day 0, month 0, 13, 14 and 15; the days
+-- before and after the years 2000 to 2199; 31 November, 29 February 2025; 7 March 2025 with 4,096 more years
+pub held-values :
+    map (λ (value : ℕ). isDate (unpackedDate value))
+    (1024033 ∷ 1126303 ∷ 1036896 ∷ 1036807 ∷ 1037223 ∷ 1037255 ∷ 1037287 ∷ 1023903 ∷ 1126433 ∷ 1037183 ∷ 1036893 ∷ 3134055 ∷ [])
+    ≡ (true ∷ true ∷ false ∷ false ∷ false ∷ false ∷ false ∷ false ∷ false ∷ false ∷ false ∷ false ∷ [])
+unfolding februaryDays daysOfMonth isDate
+held-values = refl
+
+-- 01: "A year divisible by 4 has 29 days in February.": each remainder, and the last years
+pub februaries :
+    map (λ (year : ℕ). februaryDays (yearOf year)) (2000 ∷ 2001 ∷ 2002 ∷ 2003 ∷ 2004 ∷ 2096 ∷ 2196 ∷ 2199 ∷ [])
+    ≡ (29 ∷ 28 ∷ 28 ∷ 28 ∷ 29 ∷ 29 ∷ 29 ∷ 28 ∷ [])
+unfolding februaryDays
+februaries = refl
+
+-- 01, answer 13, "today after expiry", today first: the day after across the end of a month, of a February and of a year; the day before
+pub day-after-and-before :
+    (isAfter (written 1 4 2025) (written 31 3 2025)
+    ∷ isAfter (written 1 3 2025) (written 28 2 2025)
+    ∷ isAfter (written 1 3 2024) (written 29 2 2024)
+    ∷ isAfter (written 1 1 2026) (written 31 12 2025)
+    ∷ isAfter (written 31 3 2025) (written 1 4 2025)
+    ∷ isAfter (written 28 2 2025) (written 1 3 2025)
+    ∷ isAfter (written 31 12 2025) (written 1 1 2026)
+    ∷ isAfter (written 31 12 2025) (written 31 12 2025)
+    ∷ [])
+    ≡ (true ∷ true ∷ true ∷ true ∷ false ∷ false ∷ false ∷ false ∷ [])
+unfolding isAfter
+day-after-and-before = refl

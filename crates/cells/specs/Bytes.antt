@@ -1,5 +1,6 @@
 -- Lists of bytes.
-use mathlib.Core.List.{List}
+use mathlib.Core.Path.{_≡_, refl}
+use mathlib.Core.List.{List, [], _∷_}
 use Prim.Native.Nat.{ℕ, _<_}
 use lib.ListN.{getD, replicate}
 
@@ -10,3 +11,8 @@ pub record IsBytes (bytes : List ℕ) : Type 0 where
 -- so many zero bytes
 unfoldable pub zeros : ℕ → List ℕ
 zeros count = replicate count 0
+
+-- four zero bytes
+pub zero-bytes : _≡_ {A = List ℕ} (zeros 4) (0x00 ∷ 0x00 ∷ 0x00 ∷ 0x00 ∷ [])
+unfolding zeros
+zero-bytes = refl

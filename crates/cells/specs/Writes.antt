@@ -1,6 +1,8 @@
 -- Word writes into a block, in the order in which they are made.
-use mathlib.Core.List.{List, [], _∷_}
+use mathlib.Core.Path.{_≡_, refl}
+use mathlib.Core.List.{List, [], _∷_, _++_, map}
 use Prim.Native.Nat.{ℕ, zero, suc, _+_, _*_}
+use lib.ListN.{replicate}
 use Rattle.cells.specs.Word.{wordAt, withWord}
 
 -- one write: a byte position and the word put there
@@ -22,3 +24,23 @@ wordWrites cell bytes (suc left) i =
 -- a cell as eight writes in rising position
 abbrev pub cellWrites : ℕ → List ℕ → List Write
 cellWrites cell bytes = wordWrites cell bytes 8 0
+
+-- a write by its position and its word
+abbrev write : ℕ → ℕ → Write
+write at word = record { at = at; word = word }
+
+-- three writes, of which the later ones go over the first
+pub written-in-turn :
+    _≡_ {A = List ℕ}
+    (written (replicate 6 0xEE) (write 0 0x01020304 ∷ write 2 0x05060708 ∷ write 2 0x0A0B0C0D ∷ []))
+    (0x01 ∷ 0x02 ∷ 0x0A ∷ 0x0B ∷ 0x0C ∷ 0x0D ∷ [])
+unfolding withWord written
+written-in-turn = refl
+
+-- the bytes of cell 1 written into three cells: the bytes 32 to 63
+pub cell-written :
+    _≡_ {A = List ℕ}
+    (written (replicate 96 0xEE) (cellWrites 1 (replicate 27 0x00 ++ (0x41 ∷ 0x12 ∷ 0x34 ∷ 0x56 ∷ 0x78 ∷ []))))
+    (replicate 32 0xEE ++ replicate 27 0x00 ++ (0x41 ∷ 0x12 ∷ 0x34 ∷ 0x56 ∷ 0x78 ∷ []) ++ replicate 32 0xEE)
+unfolding wordAt withWord written wordWrites
+cell-written = refl

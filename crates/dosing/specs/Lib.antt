@@ -5,5 +5,6 @@ pub mod Verdict
 pub mod Answers
 pub mod Tables
 pub mod Limits
+pub mod Rounding
 pub mod Verdicts
 pub mod Code

@@ -79,12 +79,12 @@ unfoldable pub verdictOpen : Unit {0}
 unfolding readsOpen februaryDays daysOfMonth isDate isAfter onScale toCelsius celsius validReading validGate inGate validSection validLength validSheet doseOf verdictOf verdict Ieee.ofInt Ieee.sub Ieee.mul Ieee.div Ieee.le shelf
 verdictOpen = tt
 
--- each answer where nothing before it applies and all that comes after it does; then sample J's days and the gates
+-- each answer where nothing before it applies and all that comes after it does, 3 for no label and for one of 1,000 bytes; then sample J's days and the gates
 pub verdicts :
     (verdict (zeros 96) [] (on 32 3 2025) (Celsius nan) unknown
     ∷ verdict (shelf (0xFF ∷ 0xFF ∷ 0xFF ∷ 0xFF ∷ []) 5) [] (on 32 3 2025) (Celsius nan) unknown
     ∷ verdict undated [] (on 32 3 2025) (Celsius nan) unknown
-    ∷ verdict undated (zeros 49) (on 32 3 2025) (Celsius nan) unknown
+    ∷ verdict undated (zeros 1000) (on 32 3 2025) (Celsius nan) unknown
     ∷ verdict undated (0x42 ∷ []) (on 32 3 2025) (Celsius nan) unknown
     ∷ verdict undated (0x42 ∷ []) (on 32 3 2025) (Celsius nan) warm
     ∷ verdict undated (0x42 ∷ []) (on 32 3 2025) (Celsius four) warm
@@ -117,3 +117,33 @@ pub verdicts :
     ∷ [])
 unfolding verdictOpen
 verdicts = refl
+
+-- what a label that holds such a leaf word gets on a day, at 5 degrees Celsius with K's sheet
+abbrev heldOn : List ℕ → Date → Verdict
+heldOn leaf today = verdict (shelf leaf 4) (0x41 ∷ []) today (Celsius five) warm
+
+-- 01, answer 10, "today is no date": month 35 of 2023 and day 39 of February 2025 would be packed into 7 March 2025; 30 February; years
+pub todays :
+    (verdict dated (0x41 ∷ []) (on 7 35 2023) (Celsius five) warm
+    ∷ verdict dated (0x41 ∷ []) (on 39 2 2025) (Celsius five) warm
+    ∷ verdict dated (0x41 ∷ []) (on 30 2 2025) (Celsius five) warm
+    ∷ verdict dated (0x41 ∷ []) (on 31 12 1999) (Celsius five) warm
+    ∷ verdict dated (0x41 ∷ []) (on 1 1 2200) (Celsius five) warm
+    ∷ verdict dated (0x41 ∷ []) (on 1 1 2000) (Celsius five) warm
+    ∷ [])
+    ≡ (refused 10 ∷ refused 10 ∷ refused 10 ∷ refused 10 ∷ refused 10 ∷ dosed ∷ [])
+unfolding verdictOpen
+todays = refl
+
+-- 01, answers 12 and 13: 7 of a month 13 of 2025 and 1 January 2200 are no dates; 31 December 2025 and 28 February 2025, that day and the next
+pub held-dates :
+    (heldOn (0xFF ∷ 0xF0 ∷ 0x2C ∷ 0x58 ∷ []) (on 7 3 2025)
+    ∷ heldOn (0xFF ∷ 0xEE ∷ 0xCF ∷ 0xDE ∷ []) (on 7 3 2025)
+    ∷ heldOn (0xFF ∷ 0xF0 ∷ 0x2C ∷ 0x60 ∷ []) (on 31 12 2025)
+    ∷ heldOn (0xFF ∷ 0xF0 ∷ 0x2C ∷ 0x60 ∷ []) (on 1 1 2026)
+    ∷ heldOn (0xFF ∷ 0xF0 ∷ 0x2D ∷ 0xA3 ∷ []) (on 28 2 2025)
+    ∷ heldOn (0xFF ∷ 0xF0 ∷ 0x2D ∷ 0xA3 ∷ []) (on 1 3 2025)
+    ∷ [])
+    ≡ (refused 12 ∷ refused 12 ∷ dosed ∷ refused 13 ∷ dosed ∷ refused 13 ∷ [])
+unfolding verdictOpen
+held-dates = refl

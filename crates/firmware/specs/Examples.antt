@@ -2,14 +2,16 @@
 -- 2 Fahrenheit; all other numbers name none.
 use mathlib.Core.Path.{_≡_, refl}
 use mathlib.Core.Bool.{true, false}
-use mathlib.Core.List.{List, [], _∷_}
+use mathlib.Core.List.{List, [], _∷_, _++_}
 use Prim.Native.Nat.{ℕ}
-use lib.IntN.{pos}
+use lib.IntN.{pos, negsuc}
 use lib.Ieee.{Float, nan, inf, fin}
+use Rattle.cells.specs.Bytes.{zeros}
+use Rattle.store.specs.Computing.{callsOpen}
 use Rattle.dosing.specs.Verdict.{Verdict}
-use Rattle.dosing.specs.Verdicts.{verdictOpen, dated, four, five, hot, hotter, dosed, refused}
+use Rattle.dosing.specs.Verdicts.{verdictOpen, shelf, dated, four, five, hot, hotter, dosed, refused}
 use Rattle.firmware.specs.Choices.{ours}
-use Rattle.firmware.specs.NumberCalls.{gateOf, readingOf, badSheetNumbers, badReadingNumbers, outsideNumbers, verdictNumbers}
+use Rattle.firmware.specs.NumberCalls.{gateOf, readingOf, badSheetNumbers, badReadingNumbers, outsideNumbers, verdictNumbers, insertNumbers, getNumbers}
 
 -- sample J's label and day and sample K's bead, at a temperature and with a gate
 abbrev asked : ℕ → Float → ℕ → Float → Float → Verdict
@@ -61,3 +63,59 @@ pub numbers :
     ∷ [])
 unfolding verdictOpen ours gateOf readingOf badSheetNumbers badReadingNumbers outsideNumbers verdictNumbers
 numbers = refl
+
+-- the same on a day, by year, month and day, of a section and a length, with the gate any
+abbrev told : ℕ → ℕ → ℕ → Float → Float → Verdict
+told year month day section extent =
+    verdictNumbers ours dated (0x41 ∷ []) year month day (record { unit = 1; degrees = five })
+    (record { kind = 1; low = nan; high = nan; section = section; extent = extent })
+
+-- K's section and length
+abbrev sixty : Float
+sixty = fin false 15 (pos 2)
+
+-- 4,000
+abbrev fourThousand : Float
+fourThousand = fin false 125 (pos 5)
+
+-- no number is cut: kinds and units that are 1 in their lowest byte, then today's year, month and day
+pub wide-numbers :
+    (asked 1 five 257 five twoHundred
+    ∷ asked 1 five 65537 five twoHundred
+    ∷ asked 257 five 1 five twoHundred
+    ∷ asked 65537 five 1 five twoHundred
+    ∷ told 67561 3 7 sixty fourThousand
+    ∷ told 2025 259 7 sixty fourThousand
+    ∷ told 2025 3 263 sixty fourThousand
+    ∷ told 2025 3 7 sixty fourThousand
+    ∷ [])
+    ≡ (refused 8 ∷ refused 8 ∷ refused 9 ∷ refused 9 ∷ refused 10 ∷ refused 10 ∷ refused 10 ∷ dosed ∷ [])
+unfolding verdictOpen ours gateOf readingOf badSheetNumbers badReadingNumbers outsideNumbers verdictNumbers
+wide-numbers = refl
+
+-- 01, answers 8, 9, 13, by numbers: a section of 0.25 and of 4,000, a length of 0.5, what is no number; 401 degrees; 3 July 2025
+pub refused-numbers :
+    (told 2025 3 7 (fin false 1 (negsuc 1)) fourThousand
+    ∷ told 2025 3 7 fourThousand sixty
+    ∷ told 2025 3 7 sixty (fin false 1 (negsuc 0))
+    ∷ told 2025 3 7 nan fourThousand
+    ∷ told 2025 3 7 sixty nan
+    ∷ asked 1 nan 1 five twoHundred
+    ∷ asked 2 nan 1 five twoHundred
+    ∷ asked 1 (fin false 401 (pos 0)) 1 five twoHundred
+    ∷ asked 2 (fin false 401 (pos 0)) 1 five twoHundred
+    ∷ told 2025 7 3 sixty fourThousand
+    ∷ [])
+    ≡ (refused 8 ∷ refused 8 ∷ refused 8 ∷ refused 8 ∷ refused 8 ∷ refused 9 ∷ refused 9 ∷ refused 9 ∷ refused 9 ∷ refused 13 ∷ [])
+unfolding verdictOpen ours gateOf readingOf badSheetNumbers badReadingNumbers outsideNumbers verdictNumbers
+refused-numbers = refl
+
+-- sample A by numbers: 41 with 0 into a fresh block; then a value over 2,147,483,647, and what a look-up in J's block tells
+pub entered-and-looked-up :
+    ((insertNumbers (zeros 119 ++ (4 ∷ zeros 7) ++ (1 ∷ [])) (0x41 ∷ []) 0
+    ≡ record { answer = 0; count = 1; block = shelf (0xFF ∷ 0xFF ∷ 0xFF ∷ 0xFF ∷ []) 4 })
+    × ((insertNumbers dated (0x41 ∷ []) 2147483648 ≡ record { answer = 4; count = 0; block = dated })
+    × ((getNumbers dated (0x41 ∷ []) ≡ record { answer = 0; value = 1036903 })
+    × (getNumbers dated (0x42 ∷ []) ≡ record { answer = 11; value = 0 }))))
+unfolding callsOpen verdictOpen
+entered-and-looked-up = (refl, (refl, (refl, refl)))

@@ -32,12 +32,13 @@ module _ (choices : Choices) where
   abbrev pub usedLimit : SheetNumbers → Float
   usedLimit s = cond (choices .atLeastIsLow) (s .low) (s .high)
 
-  -- 01: "a number that names no gate kind", "no unit"
+  -- 01: "a number that names no gate kind"
   pub record NoGateKind (kind : ℕ) : Type 0 where
     pub no-any : kind ≢ choices .anyGate
     pub no-at-least : kind ≢ choices .atLeastGate
     pub no-between : kind ≢ choices .betweenGate
 
+  -- 01: "no unit"
   pub record NoUnit (unit : ℕ) : Type 0 where
     pub no-celsius : unit ≢ choices .celsiusUnit
     pub no-fahrenheit : unit ≢ choices .fahrenheitUnit
@@ -61,12 +62,13 @@ module _ (choices : Choices) where
   InCelsius r x =
       ((r .unit ≡ choices .celsiusUnit) × (x ≡ r .degrees)) ⊎ ((r .unit ≡ choices .fahrenheitUnit) × (x ≡ toCelsius (r .degrees)))
 
-  -- degrees Celsius are inside the gate, or 01, answer 14, "outside the gate"
+  -- degrees Celsius are inside the gate
   abbrev pub Inside : SheetNumbers → Float → Type 0
   Inside s x =
       (s .kind ≡ choices .anyGate)
       ⊎ (((s .kind ≡ choices .atLeastGate) × (Ieee.le (usedLimit s) x ≡ true)) ⊎ ((s .kind ≡ choices .betweenGate) × (within (s .low) (s .high) x ≡ true)))
 
+  -- 01, answer 14: "outside the gate"
   abbrev pub Outside : SheetNumbers → Float → Type 0
   Outside s x =
       ((s .kind ≡ choices .atLeastGate) × (Ieee.le (usedLimit s) x ≡ false)) ⊎ ((s .kind ≡ choices .betweenGate) × (within (s .low) (s .high) x ≡ false))

@@ -18,7 +18,6 @@ use Rattle.nodes.specs.Layout.{trailerCells, isTrailer}
 use Rattle.blocks.specs.Trailer.{badLength, layoutOf, rootWord, slots, validSlot, slotWord}
 use Rattle.blocks.specs.Sound.{sound}
 use Rattle.blocks.specs.Refusal.{overLong, badKey, badNewKey, badValue}
-use Rattle.blocks.specs.Refusal.{Changed}
 use Rattle.blocks.specs.Read.{shown}
 use Rattle.store.specs.Format.{badNewSize, format}
 use Rattle.store.specs.Insert.{cellsFree, cellsToInsert, blockBuild}
@@ -61,7 +60,7 @@ thenRestore = snapshotting 1 ∷ insertOne ∷ restoring 1 ∷ []
 -- always no: formatting must answer 0
 pub always-no-refuted : (number : ℕ) → number ≢ 0 → Demand3 (alwaysNo number) → ⊥
 unfolding alwaysNo
-always-no-refuted number other d = other (ap (λ (c : Changed). c .answer) (d .formats (zeros 128)) ∙ formats)
+always-no-refuted number other d = other (d .formats (zeros 128) .done .given sized)
 
 -- always no once formatted: 7 needs a full block, and any other answer to a good key and value is the ledger's 0
 insert-fits : cellsFree fresh < cellsToInsert fresh letter → ⊥

@@ -2,6 +2,7 @@ pub mod Beside
 pub mod OneCall
 pub mod Lists
 pub mod Proved
+pub mod Determined
 pub mod Dummies
 pub mod Decoding
 pub mod CallSteps

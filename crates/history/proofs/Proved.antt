@@ -1,15 +1,18 @@
--- Demand 3 of 00, proved of the calls as 01 defines them: from every fresh block and for every list of calls.
-use mathlib.Core.Path.{_≡_, refl}
-use mathlib.Core.List.{List, _∷_, _++_}
+-- Demand 3 of 00, proved of the calls as 01 defines them: from every fresh block and for every list of calls. And whatever meets it
+-- does at every call what they do.
+use mathlib.Core.Path.{_≡_}
+use mathlib.Core.List.{List, [], _∷_, _++_}
 use Prim.Native.Nat.{ℕ}
 use Rattle.blocks.specs.Trailer.{layoutOf, slots}
 use Rattle.store.specs.Format.{format}
 use Rattle.store.proofs.Format.{format-law}
-use Rattle.history.specs.Calls.{Call, ours, run, KeysAreBytes}
+use Rattle.store.proofs.WriteCalls.{format-table}
+use Rattle.history.specs.Calls.{Call, Implementation, ours, outcome, run, KeysAreBytes}
 use Rattle.history.specs.Ledger.{emptyLedger}
 use Rattle.history.specs.Demand3.{AfterList, AtCall, Demand3}
 use Rattle.history.proofs.Beside.{beside-fresh}
 use Rattle.history.proofs.OneCall.{call-at}
+use Rattle.history.proofs.Determined as determined
 use Rattle.history.proofs.Lists.{Ran, list-law, keys-before, key-at}
 
 module _ (start : List ℕ) (done : format start .answer ≡ 0) where
@@ -27,4 +30,14 @@ module _ (start : List ℕ) (done : format start .answer ≡ 0) where
 
 pub demand3 : Demand3 ours
 unfolding ours
-demand3 = record { formats = λ start. refl; afterList = after-list; atCall = at-call }
+demand3 = record { formats = format-table; afterList = after-list; atCall = at-call }
+
+-- 01: "Nothing left to the builder's taste": the answer, the count and the block of each call after any list, and the block after the list
+pub call-as-ours : (impl : Implementation) → Demand3 impl → (start : List ℕ) → format start .answer ≡ 0 → (before : List Call) (call : Call)
+    → KeysAreBytes (before ++ call ∷ [])
+    → outcome impl (run impl (format start .block) before) call ≡ outcome ours (run ours (format start .block) before) call
+call-as-ours = determined.call-as-ours
+
+pub run-as-ours : (impl : Implementation) → Demand3 impl → (start : List ℕ) → format start .answer ≡ 0 → (calls : List Call)
+    → KeysAreBytes calls → run impl (format start .block) calls ≡ run ours (format start .block) calls
+run-as-ours = determined.run-as-ours

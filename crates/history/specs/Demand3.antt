@@ -15,9 +15,9 @@ use Rattle.blocks.specs.Sound.{sound, reachable}
 use Rattle.blocks.specs.Read.{shown}
 use Rattle.blocks.specs.Left.{SlotFields, SlotLeft}
 use Rattle.snapshots.specs.Tables.{snapshotFields, restoreFields, releaseFields}
-use Rattle.store.specs.Format.{format}
 use Rattle.store.specs.Insert.{cellsToInsert, blockBuild}
 use Rattle.store.specs.Laid.{Laid, Lacks, MayInsert}
+use Rattle.store.specs.Tables.{FormatTable}
 use Rattle.history.specs.Calls.{Call, inserting, snapshotting, restoring, releasing, Implementation, Outcome, outcome, run, answersOf, KeysAreBytes}
 use Rattle.history.specs.Ledger.{Ledger, emptyLedger, ledgerAfter, ledgerAnswers, fedBy}
 
@@ -78,8 +78,8 @@ pub record AtCall (impl : Implementation) (block : List ℕ) (call : Call) : Typ
 
 -- 01: "Demand 3 holds from every fresh book that can be made. It is a single claim about the whole list"
 pub record Demand3 (impl : Implementation) : Type 0 where
-  -- 01: "A fresh book is all zero but for n and the edition", and answer 1 leaves the block
-  pub formats : (start : List ℕ) → impl .formatCall start ≡ format start
+  -- 01: "A fresh book is all zero but for n and the edition", made exactly where answer 1 does not apply, and answer 1 leaves the block
+  pub formats : (start : List ℕ) → FormatTable start (impl .formatCall start)
   pub afterList : (start : List ℕ) → impl .formatCall start .answer ≡ 0 → (calls : List Call) → KeysAreBytes calls
       → AfterList impl (impl .formatCall start .block) calls
   pub atCall : (start : List ℕ) → impl .formatCall start .answer ≡ 0 → (before : List Call) (call : Call) (after : List Call) → KeysAreBytes (before ++ call ∷ after)

@@ -3,4 +3,5 @@ pub mod Ledger
 pub mod Demand3
 pub mod Dummies
 pub mod Worked
+pub mod LedgerWorked
 pub mod Code

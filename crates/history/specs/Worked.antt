@@ -1,4 +1,4 @@
--- Lists of calls, computed: while a snapshot holds a cell there is no room; once it is released, the cell is used again.
+-- Lists of calls, computed: while a snapshot holds a cell there is no room; once it is released or overwritten, the cell is used again.
 use mathlib.Core.Path.{_≡_, refl}
 use mathlib.Core.List.{List, [], _∷_, _++_}
 use Prim.Native.Nat.{ℕ}
@@ -52,3 +52,49 @@ pub worked :
     ∷ [])
 unfolding callsOpen snapshotsOpen ours outcome run answersOf
 worked = refl
+
+-- the snapshot overwritten before the last insertion, which then has cell 1
+abbrev onceOverwritten : List Call
+onceOverwritten = held ++ snapshotting 1 ∷ inserting letter 2 ∷ []
+
+-- 01: "Going back sets the root to a held mark, which stays held.": gone back to twice, released, and gone back to no more
+abbrev twiceRestored : List Call
+twiceRestored = held ++ restoring 1 ∷ inserting letter 2 ∷ restoring 1 ∷ releasing 1 ∷ restoring 1 ∷ []
+
+-- 01: "An empty table has root 0, and may be marked.": a snapshot of it restored, and a key inserted once more
+abbrev emptyRestored : List Call
+emptyRestored = snapshotting 2 ∷ inserting letter 0 ∷ restoring 2 ∷ inserting (0x42 ∷ []) 1 ∷ []
+
+-- 01: "5 if the slot isn't lawful", also while slot 1 is held; "6 if the slot has nothing"
+abbrev wrongSlots : List Call
+wrongSlots = held ++ restoring 0 ∷ releasing 0 ∷ restoring 4 ∷ releasing 4 ∷ restoring 2 ∷ releasing 3 ∷ snapshotting 4294967297 ∷ []
+
+-- the answers of each list, then the root words after each
+pub worked-slots :
+    _≡_ {A = List (List ℕ)}
+    (answersOf ours fresh onceOverwritten
+    ∷ answersOf ours fresh twiceRestored
+    ∷ answersOf ours fresh emptyRestored
+    ∷ answersOf ours fresh wrongSlots
+    ∷ (rootOf (run ours fresh onceOverwritten)
+    ∷ rootOf (run ours fresh twiceRestored)
+    ∷ rootOf (run ours fresh emptyRestored)
+    ∷ rootOf (run ours fresh wrongSlots)
+    ∷ [])
+    ∷ [])
+    ((0 ∷ 0 ∷ 0 ∷ 0 ∷ 0 ∷ [])
+    ∷ (0 ∷ 0 ∷ 0 ∷ 0 ∷ 0 ∷ 0 ∷ 0 ∷ 6 ∷ [])
+    ∷ (0 ∷ 0 ∷ 0 ∷ 0 ∷ [])
+    ∷ (0 ∷ 0 ∷ 0 ∷ 5 ∷ 5 ∷ 5 ∷ 5 ∷ 6 ∷ 6 ∷ 5 ∷ [])
+    ∷ (0x3B ∷ 0x3B ∷ 0x3B ∷ 0x5B ∷ [])
+    ∷ [])
+unfolding callsOpen snapshotsOpen ours outcome run answersOf
+worked-slots = refl
+
+-- 01: "the book stays byte for byte": refused calls leave a fresh block, and one with no free cell
+pub refused-left :
+    _≡_ {A = List (List ℕ)}
+    (run ours fresh refusedCalls ∷ run ours fresh (wrongSlots ++ inserting letter 2 ∷ inserting [] 2 ∷ []) ∷ [])
+    (fresh ∷ run ours fresh held ∷ [])
+unfolding callsOpen snapshotsOpen ours outcome run
+refused-left = refl

@@ -50,3 +50,11 @@ limits = refl
 pub editions : _≡_ {A = List Bool} (map validEdition (0 ∷ 1 ∷ 2 ∷ 3 ∷ [])) (false ∷ true ∷ false ∷ false ∷ [])
 unfolding validEdition
 editions = refl
+
+-- 01: "Cell 0 is never used. Cells 1 to n-2 are usable. Cell n-1 is the trailer": the cells 0, 1, 4, 5 and 6 of six
+pub usable-and-trailer :
+    _≡_ {A = List (List Bool)}
+    (map (λ cell. usable six cell ∷ isTrailer six cell ∷ []) (0 ∷ 1 ∷ 4 ∷ 5 ∷ 6 ∷ []))
+    ((false ∷ false ∷ []) ∷ (true ∷ false ∷ []) ∷ (true ∷ false ∷ []) ∷ (false ∷ true ∷ []) ∷ (false ∷ false ∷ []) ∷ [])
+unfolding trailerCells usable isTrailer
+usable-and-trailer = refl

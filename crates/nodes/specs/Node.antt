@@ -133,3 +133,26 @@ pub splits :
     (some (1 ∷ 2 ∷ 3 ∷ 0xFFFFFFFE ∷ 0xFFFFFFFD ∷ []) ∷ none ∷ none ∷ none ∷ none ∷ none ∷ none ∷ [])
 unfolding bind zeros words wordAt memoryOf trailerCells usable byKind pointer someWord gather under splitCell endCells midCells headCells wordBelow splitChild plain readAt read
 splits = refl
+
+-- the value of a node, then its child words of 41 and 43: read at a word of a block with a prefix (1) over a sparse cell (2)
+abbrev valueIn : ℕ → Option (List (Option ℕ))
+valueIn word =
+    bind
+    (read six (memoryOf (zeros 32 ++ prefixBytes 5 0xFF000000 0x0000005E ++ sparseBytes 0xFFFFFFFE 0xFFFFFFFD 0 0x41430000 0x00000006)) word)
+    (λ node. some (node .value ∷ some (node .child 0x41) ∷ some (node .child 0x43) ∷ []))
+
+-- 01: "a leaf or a prefix of that value; a prefix on the way is passed by its link": NONE, a leaf, a prefix, the sparse cell that it links
+-- to; kind 1D, the trailer's cell and cell 0 name no node
+pub node-values :
+    _≡_ {A = List (Option (List (Option ℕ)))}
+    (map valueIn (0x00000000 ∷ 0xFFFFFFF8 ∷ 0x0000003F ∷ 0x0000005E ∷ 0x0000005D ∷ 0x000000BE ∷ 0x0000001E ∷ []))
+    (some (none ∷ some 0 ∷ some 0 ∷ [])
+    ∷ some (some 7 ∷ some 0 ∷ some 0 ∷ [])
+    ∷ some (some 5 ∷ some 0xFFFFFFFE ∷ some 0xFFFFFFFD ∷ [])
+    ∷ some (none ∷ some 0xFFFFFFFE ∷ some 0xFFFFFFFD ∷ [])
+    ∷ none
+    ∷ none
+    ∷ none
+    ∷ [])
+unfolding bind zeros words wordAt memoryOf trailerCells usable byKind pointer chainChild digits occurrences all eachOnce place validDigits rising sparseDigits everyWord someWord validSparse childFrom gather headCells splitChild validPrefix chainNode plain readAt read
+node-values = refl

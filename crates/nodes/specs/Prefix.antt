@@ -40,3 +40,11 @@ pub prefix-cells :
     (true ∷ true ∷ false ∷ false ∷ false ∷ true ∷ [])
 unfolding words wordAt validPrefix
 prefix-cells = refl
+
+-- 01: "value at 00-03 .., linked pointer at 1C"
+pub prefix-words :
+    _≡_ {A = List ℕ}
+    (prefixValue (prefixBytes 0x12345678 0xFF000000 0x0000003A) ∷ prefixLink 2 (prefixBytes 0x12345678 0xFF000000 0x0000003A) ∷ [])
+    (0x12345678 ∷ 0x0000003A ∷ [])
+unfolding words wordAt
+prefix-words = refl

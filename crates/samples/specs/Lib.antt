@@ -10,3 +10,7 @@ pub mod Unsound
 pub mod UnsoundTrees
 pub mod UnsoundTrailer
 pub mod Builds
+pub mod KeyLimit
+pub mod ChainBuilds
+pub mod SplitBuilds
+pub mod RefusalOrder

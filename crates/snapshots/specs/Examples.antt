@@ -1,4 +1,4 @@
--- The trailer's bytes 04 to 10 after snapshots, computed.
+-- The trailer's bytes 04 to 10 after snapshots, and the answers 5 and 6, computed.
 use mathlib.Core.Path.{_≡_, refl}
 use mathlib.Core.List.{List, [], _∷_, _++_, map}
 use Prim.Native.Nat.{ℕ}
@@ -12,7 +12,7 @@ use Rattle.trees.specs.Root.{isRoot, rootTree, onceVisited}
 use Rattle.blocks.specs.Trailer.{badLength, badSize, layoutOf, rootWord, slots, validSlot, slotAt, inUse, everySlot, zeroFrom, validTrailer}
 use Rattle.blocks.specs.Sound.{slotRoots, roots, soundWith}
 use Rattle.blocks.specs.Refusal.{firstRefusal}
-use Rattle.snapshots.specs.Snapshots.{snapshot, release}
+use Rattle.snapshots.specs.Snapshots.{snapshot, restore, release}
 use Rattle.snapshots.specs.Computing.{snapshotsOpen}
 
 -- 01's sample A: a block of four cells that shows 41
@@ -41,3 +41,18 @@ pub slot-bytes :
     ∷ [])
 unfolding nodesOpen withWord spread step tree isRoot rootTree onceVisited badLength badSize layoutOf rootWord slots validSlot slotAt inUse everySlot zeroFrom validTrailer slotRoots roots soundWith firstRefusal snapshotsOpen
 slot-bytes = refl
+
+-- 01, answers 5, "slot not 1, 2 or 3", and 6, "going back to, or dropping, a slot not held", of which 5 is the lower: slot 2 in use, asked
+-- for the slots 0, 1, 2, 3, 4 and 258
+pub slot-answers :
+    _≡_ {A = List (List ℕ)}
+    (map (λ slot. snapshot (snapshot blockA 2 .block) slot .answer) (0 ∷ 1 ∷ 2 ∷ 3 ∷ 4 ∷ 258 ∷ [])
+    ∷ map (λ slot. restore (snapshot blockA 2 .block) slot .answer) (0 ∷ 1 ∷ 2 ∷ 3 ∷ 4 ∷ 258 ∷ [])
+    ∷ map (λ slot. release (snapshot blockA 2 .block) slot .answer) (0 ∷ 1 ∷ 2 ∷ 3 ∷ 4 ∷ 258 ∷ [])
+    ∷ [])
+    ((5 ∷ 0 ∷ 0 ∷ 0 ∷ 5 ∷ 5 ∷ [])
+    ∷ (5 ∷ 6 ∷ 0 ∷ 6 ∷ 5 ∷ 5 ∷ [])
+    ∷ (5 ∷ 6 ∷ 0 ∷ 6 ∷ 5 ∷ 5 ∷ [])
+    ∷ [])
+unfolding nodesOpen withWord spread step tree isRoot rootTree onceVisited badLength badSize layoutOf rootWord slots validSlot slotAt inUse everySlot zeroFrom validTrailer slotRoots roots soundWith firstRefusal snapshotsOpen
+slot-answers = refl

@@ -10,6 +10,7 @@ use lib.ListN.{length, getD}
 use lib.Seq.{ext-getD}
 use Rattle.cells.specs.Bytes.{IsBytes}
 use Rattle.cells.specs.Memory.{memoryOf}
+use Rattle.updates.specs.Built.{Built}
 use Rattle.blocks.specs.Trailer.{cellsAt, editionAt}
 use Rattle.blocks.specs.Refusal.{Changed, badNewKey, badValue, Counted}
 use Rattle.blocks.specs.Tables.{PassesKey, Passes}
@@ -19,12 +20,21 @@ use Rattle.blocks.proofs.Determined.{both, passes-or, beside-told, changed-told
 use Rattle.store.specs.Format.{newLayout, badNewSize, format}
 use Rattle.store.specs.Insert.{cellsFree, cellsToInsert, insert}
 use Rattle.store.proofs.WriteCalls.{format-table, insert-table}
+use Rattle.store.specs.Laid.{Laid}
 use Rattle.store.specs.Tables.{FreshLeft, FormatTable, InsertTable}
 
 -- blocks of one length are the same where their cells are
 block-told : (b b′ : List ℕ) → length b ≡ length b′ → ((c : ℕ) → memoryOf b c ≡ memoryOf b′ c) → b ≡ b′
 block-told b b′ same cells =
     ext-getD 0 b b′ same (λ k inside. byte-in-cell b k ∙ ap (λ (l : List ℕ). getD l (k % 32) 0) (cells (k / 32)) ∙ sym (byte-in-cell b′ k))
+
+-- blocks of one length in which one build is laid down are the same, cell by cell
+pub laid-told : (b key : List ℕ) (build : Built) (m n : ℕ) (q r : List ℕ) → length q ≡ length r → Laid b key build m q → Laid b key build n r → q ≡ r
+laid-told b key build m n q r same x y =
+    block-told q r same (λ c. elim (ℕ-discrete c (length b / 32 - 1)) [
+      | yes last ↦ ap (memoryOf q) last ∙ x .trailer ∙ sym (y .trailer) ∙ ap (memoryOf r) (sym last)
+      | no other ↦ x .cells c other ∙ sym (y .cells c other)
+    ])
 
 -- fresh blocks of one length are the same: all zero but for two words
 pub fresh-told : (edition : ℕ) (b q r : List ℕ) → FreshLeft edition b q → FreshLeft edition b r → q ≡ r
@@ -69,17 +79,6 @@ module _ (b : List ℕ) where
         known p true e = both (t .bad-key) (u .bad-key) (p, e)
         known p false e = valued (record { size = p .0; valid = p .1; key = e }) (badValue value) refl
 
-    -- the block that is left, cell by cell
-    laid-told : IsBytes b → IsBytes key → q .answer ≡ 0 → r .answer ≡ 0 → q .block ≡ r .block
-    laid-told bytes is-bytes e f =
-        let x = t .laid bytes is-bytes e in
-        let y = u .laid bytes is-bytes f in
-        block-told (q .block) (r .block) (t .after bytes is-bytes e .same-length ∙ sym (u .after bytes is-bytes f .same-length))
-        (λ c. elim (ℕ-discrete c (length b / 32 - 1)) [
-          | yes last ↦ ap (memoryOf (q .block)) last ∙ x .trailer ∙ sym (y .trailer) ∙ ap (memoryOf (r .block)) (sym last)
-          | no other ↦ x .cells c other ∙ sym (y .cells c other)
-        ])
-
     tables-told : IsBytes b → IsBytes key → q ≡ r
     tables-told bytes is-bytes =
         let same : q .answer ≡ r .answer = insert-answer-told in
@@ -87,7 +86,8 @@ module _ (b : List ℕ) where
         beside-told (q .answer) (r .answer) (q .count) (r .count) 0 same
         (λ e f. t .laid bytes is-bytes e .counted ∙ sym (u .laid bytes is-bytes f .counted)) (λ no. t .refused no .0) (λ no. u .refused no .0) in
         let block : q .block ≡ r .block =
-        beside-told (q .answer) (r .answer) (q .block) (r .block) b same (laid-told bytes is-bytes) (λ no. t .refused no .1) (λ no. u .refused no .1) in
+        beside-told (q .answer) (r .answer) (q .block) (r .block) b same
+        (λ e f. laid-told b key _ _ _ _ _ (t .after bytes is-bytes e .same-length ∙ sym (u .after bytes is-bytes f .same-length)) (t .laid bytes is-bytes e) (u .laid bytes is-bytes f)) (λ no. t .refused no .1) (λ no. u .refused no .1) in
         λ i. record { answer = same i; count = count i; block = block i }
 
   pub insert-told : (key : List ℕ) (value : ℕ) (r : Counted) → IsBytes b → IsBytes key → InsertTable b key value r → r ≡ insert b key value

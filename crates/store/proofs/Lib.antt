@@ -16,4 +16,5 @@ pub mod WriteCalls
 pub mod Determined
 pub mod MeantBlock
 pub mod InsertZeros
+pub mod StrayBytes
 pub mod Proved

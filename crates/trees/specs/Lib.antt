@@ -1,3 +1,4 @@
+pub mod Small
 pub mod Tree
 pub mod Root
 pub mod Lookup

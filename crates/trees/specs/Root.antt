@@ -70,6 +70,20 @@ pub visited-cells :
 unfolding nodesOpen spread step tree isRoot rootTree
 visited-cells = refl
 
+-- 01: "A root reaches the cells that its tree enters": a sparse cell and its chains, one of these as a root; NONE, a leaf, and a child that
+-- is no kind reach nothing
+pub root-cells :
+    _≡_ {A = List (List ℕ)}
+    (rootCells six (twoChildren 0x0000005A 0x0000007B) 0x0000003E
+    ∷ rootCells six (twoChildren 0x0000005A 0x0000007B) 0x0000007B
+    ∷ rootCells six (twoChildren 0x0000005A 0x0000007B) 0x00000000
+    ∷ rootCells six (twoChildren 0x0000005A 0x0000007B) 0xFFFFFFFF
+    ∷ rootCells six (twoChildren 0x0000005A 0x0000007D) 0x0000003E
+    ∷ [])
+    ((1 ∷ 2 ∷ 3 ∷ []) ∷ (3 ∷ []) ∷ [] ∷ [] ∷ [] ∷ [])
+unfolding nodesOpen spread step tree isRoot rootTree cellsOf
+root-cells = refl
+
 -- 01: "In the tree of one root no cell is entered twice": two chain cells, two places of one, one place of one
 pub visited-twice :
     _≡_ {A = List Bool}
@@ -80,3 +94,11 @@ pub visited-twice :
     (true ∷ false ∷ false ∷ [])
 unfolding nodesOpen spread step tree isRoot rootTree onceVisited
 visited-twice = refl
+
+-- 01: "The root is NONE, chain, sparse or split.", "1D is no kind.": NONE and a chain, then a leaf, a prefix, kind 1D as a root and as a child
+pub valid-roots :
+    _≡_ {A = List Bool}
+    (map (validRoot six (twoChildren 0x0000005A 0x0000007D)) (0x00000000 ∷ 0x0000005A ∷ 0xFFFFFFFF ∷ 0x0000005F ∷ 0x0000005D ∷ 0x0000003E ∷ []))
+    (true ∷ true ∷ false ∷ false ∷ false ∷ false ∷ [])
+unfolding nodesOpen spread step tree isRoot rootTree onceVisited
+valid-roots = refl

@@ -1,0 +1,119 @@
+-- The ledger alone, computed by the steps that 01 writes out, and what it is fed beside a run.
+use mathlib.Core.Path.{_≡_, refl}
+use mathlib.Core.Bool.{Bool, true, false}
+use mathlib.Core.List.{List, [], _∷_, _++_, map}
+use mathlib.Core.Option.{Option, none, some}
+use Prim.Native.Nat.{ℕ}
+use lib.ListN.{replicate}
+use Rattle.cells.specs.Bytes.{zeros}
+use Rattle.trees.specs.Lookup.{Table, sameKey, assign}
+use Rattle.blocks.specs.Refusal.{overLong, badKey, badNewKey, badValue}
+use Rattle.store.specs.Format.{format}
+use Rattle.snapshots.specs.Computing.{snapshotsOpen}
+use Rattle.store.specs.Computing.{callsOpen}
+use Rattle.history.specs.Calls.{Call, inserting, snapshotting, restoring, releasing, ours, outcome}
+use Rattle.history.specs.Ledger.{Ledger, emptyLedger, Fed, noteInsert, ledgerSlot, noteSnapshot, noteHeld, noteRestore, noteRelease, noteCall, ledgerAfter, ledgerAnswers, gotNoRoom, fedBy}
+
+-- a call that did not get 7
+abbrev fed : Call → Fed
+fed call = record { call = call; noRoom = false }
+
+-- an insertion that got 7
+abbrev fedSeven : Call → Fed
+fedSeven call = record { call = call; noRoom = true }
+
+-- keys of one character
+abbrev key41 : List ℕ
+key41 = 0x41 ∷ []
+
+-- another
+abbrev key42 : List ℕ
+key42 = 0x42 ∷ []
+
+-- 01: "Entering: 3 or 4 where that no applies to the arguments, the lower first; else 7 if that was fed; else 0, and the label has this
+-- value, in place of any older one."
+abbrev entering : List Fed
+entering =
+    fed (inserting key41 5)
+    ∷ fedSeven (inserting key41 6)
+    ∷ fedSeven (inserting [] 2147483648)
+    ∷ fedSeven (inserting (replicate 1000 0x41) 6)
+    ∷ fedSeven (inserting key41 2147483648)
+    ∷ fed (inserting (replicate 48 0x42) 2147483647)
+    ∷ fed (inserting key42 1)
+    ∷ fed (inserting key42 8)
+    ∷ []
+
+-- 01: "Marking: 5 if the slot isn't lawful; else 0, and the slot holds the present table, in place of any older one."
+abbrev marking : List Fed
+marking = entering ++ fed (snapshotting 0) ∷ fed (snapshotting 4) ∷ fed (snapshotting 1) ∷ fed (inserting key41 7) ∷ fed (snapshotting 3) ∷ []
+
+-- 01: "Going back: 5 likewise; else 6 if the slot has nothing; else 0, and the present table is the slot's, which the slot keeps."
+abbrev goingBack : List Fed
+goingBack = marking ++ fed (restoring 0) ∷ fed (restoring 4) ∷ fed (restoring 2) ∷ fed (restoring 1) ∷ fed (restoring 1) ∷ []
+
+-- 01: "Dropping: 5 and 6 likewise; else 0, and the slot has nothing."
+abbrev dropping : List Fed
+dropping =
+    goingBack ++ fed (releasing 0) ∷ fed (releasing 4) ∷ fed (releasing 2) ∷ fed (releasing 1) ∷ fed (releasing 1) ∷ fed (restoring 1) ∷ []
+
+-- a slot overwritten, then gone back to
+abbrev overwriting : List Fed
+overwriting = marking ++ fed (inserting key41 9) ∷ fed (snapshotting 3) ∷ fed (inserting key41 10) ∷ fed (restoring 3) ∷ []
+
+-- 01: "It is fed each call's kind and arguments": the answers to all of these
+pub ledger-answers :
+    _≡_ {A = List (List ℕ)}
+    (ledgerAnswers 3 emptyLedger dropping ∷ ledgerAnswers 3 emptyLedger overwriting ∷ [])
+    ((0 ∷ 7 ∷ 3 ∷ 3 ∷ 4 ∷ 0 ∷ 0 ∷ 0 ∷ 5 ∷ 5 ∷ 0 ∷ 0 ∷ 0 ∷ 5 ∷ 5 ∷ 6 ∷ 0 ∷ 0 ∷ 5 ∷ 5 ∷ 6 ∷ 0 ∷ 6 ∷ 6 ∷ [])
+    ∷ (0 ∷ 7 ∷ 3 ∷ 3 ∷ 4 ∷ 0 ∷ 0 ∷ 0 ∷ 5 ∷ 5 ∷ 0 ∷ 0 ∷ 0 ∷ 0 ∷ 0 ∷ 0 ∷ 0 ∷ [])
+    ∷ [])
+unfolding sameKey assign overLong badKey badNewKey badValue noteInsert ledgerSlot noteSnapshot noteHeld noteRestore noteRelease noteCall ledgerAnswers
+ledger-answers = refl
+
+-- what a slot's table has at a key: the slot may have nothing
+unfoldable pub heldAt : List ℕ → Option Table → Option (Option ℕ)
+heldAt key none = none
+heldAt key (some table) = some (table key)
+
+-- the present table at 41 and 42, then each slot's at 41
+abbrev pub tables : List Fed → List (Option (Option ℕ))
+tables feds =
+    let ledger : Ledger = ledgerAfter 3 emptyLedger feds in
+    some (ledger .present key41) ∷ some (ledger .present key42) ∷ map (λ slot. heldAt key41 (ledger .held slot)) (1 ∷ 2 ∷ 3 ∷ [])
+
+-- 01: "Beside a fresh book the present table is empty and every slot has nothing.", then after each list
+pub ledger-tables :
+    _≡_ {A = List (List (Option (Option ℕ)))}
+    (map tables ([] ∷ entering ∷ marking ∷ goingBack ∷ dropping ∷ overwriting ∷ []))
+    ((some none ∷ some none ∷ none ∷ none ∷ none ∷ [])
+    ∷ (some (some 5) ∷ some (some 8) ∷ none ∷ none ∷ none ∷ [])
+    ∷ (some (some 7) ∷ some (some 8) ∷ some (some 5) ∷ none ∷ some (some 7) ∷ [])
+    ∷ (some (some 5) ∷ some (some 8) ∷ some (some 5) ∷ none ∷ some (some 7) ∷ [])
+    ∷ (some (some 5) ∷ some (some 8) ∷ none ∷ none ∷ some (some 7) ∷ [])
+    ∷ (some (some 9) ∷ some (some 8) ∷ some (some 5) ∷ none ∷ some (some 9) ∷ [])
+    ∷ [])
+unfolding heldAt sameKey assign overLong badKey badNewKey badValue noteInsert ledgerSlot noteSnapshot noteHeld noteRestore noteRelease noteCall ledgerAfter
+ledger-tables = refl
+
+-- what was fed of each answer
+abbrev flags : List Call → List Bool
+flags calls = map (λ f. f .noRoom) (fedBy ours (format (zeros 128) .block) calls)
+
+-- 01: "of the answers, only whether an entry got 7": a block with no free cell while slot 1 is held, then one free
+pub fed-sevens :
+    _≡_ {A = List Bool}
+    (flags
+    (inserting key41 0
+    ∷ snapshotting 1
+    ∷ inserting key41 1
+    ∷ inserting key41 2
+    ∷ inserting [] 2
+    ∷ snapshotting 4
+    ∷ restoring 2
+    ∷ releasing 1
+    ∷ inserting key41 2
+    ∷ []))
+    (false ∷ false ∷ false ∷ true ∷ false ∷ false ∷ false ∷ false ∷ false ∷ [])
+unfolding callsOpen snapshotsOpen ours outcome gotNoRoom fedBy
+fed-sevens = refl

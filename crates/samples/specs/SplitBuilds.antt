@@ -1,0 +1,137 @@
+-- A split of seven made of a sparse cell whose positions are not in rising order, with characters of every two upper bits, in free
+-- cells with a hole between them: the whole block; and the same with one cell too few.
+use mathlib.Core.Path.{_≡_, refl}
+use mathlib.Core.List.{List, [], _∷_, _++_}
+use Prim.Native.Nat.{ℕ}
+use Rattle.cells.specs.Bytes.{zeros}
+use Rattle.nodes.specs.Written.{words, eightWords, chainBytes, headBytes, branchBytes}
+use Rattle.store.specs.Insert.{insert}
+use Rattle.store.specs.Computing.{callsOpen}
+use Rattle.samples.specs.Crafted.{unused}
+use Rattle.samples.specs.Builds.{cellsIn, told}
+
+-- 88, C9, 05, FF, 46 and 07 at the positions 0 to 5, with the values 0 to 5
+abbrev sixChildren : List ℕ
+sixChildren = eightWords 0xFFFFFFFF 0xFFFFFFFE 0xFFFFFFFD 0xFFFFFFFC 0xFFFFFFFB 0xFFFFFFFA 0x88C905FF 0x460760E0
+
+-- the sparse cell (4), the cells before and behind it free, so many bytes of these; this number of cells
+abbrev sixIn : ℕ → ℕ → List ℕ
+sixIn behind n = zeros 128 ++ sixChildren ++ zeros behind ++ eightWords 0x0000009E 0 0 0 0x00000000 n 0x00000000 0x00000001
+
+-- 01: "A seventh child makes a split of seven instead.", "Cells are taken lowest free number first, deepest node first; in a split,
+-- each mid's ends in rising order, then that mid, the head last.": 45 (01 000 101) with 9. Cell by cell: the end of 05 and 07, its mid,
+-- the end of 45 and 46, its mid, the old sparse, the end of 88, its mid, the ends of C9 and FF, their mid, the head. All ten are taken
+pub split-of-unordered :
+    _≡_ {A = List (List ℕ)}
+    ((insert (sixIn 224 0x0000000D) (0x45 ∷ []) 9 .answer ∷ insert (sixIn 224 0x0000000D) (0x45 ∷ []) 9 .count ∷ [])
+    ∷ insert (sixIn 224 0x0000000D) (0x45 ∷ []) 9 .block
+    ∷ [])
+    ((0 ∷ 10 ∷ [])
+    ∷ (unused
+    ++ eightWords 0 0 0 0 0 0xFFFFFFFD 0 0xFFFFFFFA
+    ++ branchBytes 0x0000003C 0
+    ++ eightWords 0 0 0 0 0 0xFFFFFFF6 0xFFFFFFFB 0
+    ++ sixChildren
+    ++ branchBytes 0x0000007C 0
+    ++ branchBytes 0xFFFFFFFF 0
+    ++ branchBytes 0 0x000000DC
+    ++ branchBytes 0 0xFFFFFFFE
+    ++ eightWords 0 0 0 0 0 0 0 0xFFFFFFFC
+    ++ eightWords 0 0x0000011C 0 0 0 0 0 0x0000013C
+    ++ headBytes 0x0000005C 0x000000BC 0x000000FC 0x0000015C
+    ++ eightWords 0x0000017C 0 0 0 0x00000000 0x0000000D 0x00000000 0x00000001)
+    ∷ [])
+unfolding callsOpen
+split-of-unordered = refl
+
+-- "deepest node first": the chain of 45 41 before all of the split, which is then one cell further on
+pub split-above-chain :
+    _≡_ {A = List (List ℕ)}
+    (told (insert (sixIn 256 0x0000000E) (0x45 ∷ 0x41 ∷ []) 9) (1 ∷ 2 ∷ 3 ∷ 5 ∷ 12 ∷ []))
+    ((11 ∷ 0x0000019C ∷ [])
+    ∷ chainBytes 0x00000041 0xFFFFFFF6
+    ∷ eightWords 0 0 0 0 0 0xFFFFFFFD 0 0xFFFFFFFA
+    ∷ branchBytes 0x0000005C 0
+    ∷ eightWords 0 0 0 0 0 0x0000003B 0xFFFFFFFB 0
+    ∷ headBytes 0x0000007C 0x000000DC 0x0000011C 0x0000017C
+    ∷ [])
+unfolding callsOpen told cellsIn
+split-above-chain = refl
+
+-- 01: "a copy with the child word replaced": of six children too; FF, at position 3, with 9
+pub sixth-replaced :
+    _≡_ {A = List (List ℕ)}
+    ((insert (sixIn 32 0x00000007) (0xFF ∷ []) 9 .answer ∷ insert (sixIn 32 0x00000007) (0xFF ∷ []) 9 .count ∷ [])
+    ∷ insert (sixIn 32 0x00000007) (0xFF ∷ []) 9 .block
+    ∷ [])
+    ((0 ∷ 1 ∷ [])
+    ∷ (unused
+    ++ eightWords 0xFFFFFFFF 0xFFFFFFFE 0xFFFFFFFD 0xFFFFFFF6 0xFFFFFFFB 0xFFFFFFFA 0x88C905FF 0x460760E0
+    ++ unused
+    ++ unused
+    ++ sixChildren
+    ++ unused
+    ++ eightWords 0x0000003E 0 0 0 0x00000000 0x00000007 0x00000000 0x00000001)
+    ∷ [])
+unfolding callsOpen
+sixth-replaced = refl
+
+-- 01, answer 7: "the entry takes more cells than are free": ten, and nine are free; nothing is counted and nothing altered
+pub one-cell-too-few :
+    _≡_ {A = List (List ℕ)}
+    ((insert (sixIn 192 0x0000000C) (0x45 ∷ []) 9 .answer ∷ insert (sixIn 192 0x0000000C) (0x45 ∷ []) 9 .count ∷ [])
+    ∷ insert (sixIn 192 0x0000000C) (0x45 ∷ []) 9 .block
+    ∷ [])
+    ((7 ∷ 0 ∷ []) ∷ sixIn 192 0x0000000C ∷ [])
+unfolding callsOpen
+one-cell-too-few = refl
+
+-- the split that this leaves, in a block of 15 cells: 4, 12 and 13 are free
+unfoldable pub splitOfAll : List ℕ
+splitOfAll =
+    unused
+    ++ eightWords 0 0 0 0 0 0xFFFFFFFD 0 0xFFFFFFFA
+    ++ branchBytes 0x0000003C 0
+    ++ eightWords 0 0 0 0 0 0xFFFFFFF6 0xFFFFFFFB 0
+    ++ unused
+    ++ branchBytes 0x0000007C 0
+    ++ branchBytes 0xFFFFFFFF 0
+    ++ branchBytes 0 0x000000DC
+    ++ branchBytes 0 0xFFFFFFFE
+    ++ eightWords 0 0 0 0 0 0 0 0xFFFFFFFC
+    ++ eightWords 0 0x0000011C 0 0 0 0 0 0x0000013C
+    ++ headBytes 0x0000005C 0x000000BC 0x000000FC 0x0000015C
+    ++ unused
+    ++ unused
+    ++ eightWords 0x0000017C 0 0 0 0x00000000 0x0000000F 0x00000000 0x00000001
+
+-- 01: "Split: new end, mid and head, copied from the old where there are any.": another value of FF; then FE 41, which
+-- takes a chain cell too and lacks it
+pub split-copied :
+    _≡_ {A = List (List ℕ)}
+    ((insert splitOfAll (0xFF ∷ []) 9 .answer
+    ∷ insert splitOfAll (0xFF ∷ []) 9 .count
+    ∷ insert splitOfAll (0xFE ∷ 0x41 ∷ []) 9 .answer
+    ∷ insert splitOfAll (0xFE ∷ 0x41 ∷ []) 9 .count
+    ∷ [])
+    ∷ insert splitOfAll (0xFF ∷ []) 9 .block
+    ∷ [])
+    ((0 ∷ 3 ∷ 7 ∷ 0 ∷ [])
+    ∷ (unused
+    ++ eightWords 0 0 0 0 0 0xFFFFFFFD 0 0xFFFFFFFA
+    ++ branchBytes 0x0000003C 0
+    ++ eightWords 0 0 0 0 0 0xFFFFFFF6 0xFFFFFFFB 0
+    ++ eightWords 0 0 0 0 0 0 0 0xFFFFFFF6
+    ++ branchBytes 0x0000007C 0
+    ++ branchBytes 0xFFFFFFFF 0
+    ++ branchBytes 0 0x000000DC
+    ++ branchBytes 0 0xFFFFFFFE
+    ++ eightWords 0 0 0 0 0 0 0 0xFFFFFFFC
+    ++ eightWords 0 0x0000011C 0 0 0 0 0 0x0000013C
+    ++ headBytes 0x0000005C 0x000000BC 0x000000FC 0x0000015C
+    ++ eightWords 0 0x0000011C 0 0 0 0 0 0x0000009C
+    ++ headBytes 0x0000005C 0x000000BC 0x000000FC 0x0000019C
+    ++ eightWords 0x000001BC 0 0 0 0x00000000 0x0000000F 0x00000000 0x00000001)
+    ∷ [])
+unfolding callsOpen splitOfAll
+split-copied = refl
