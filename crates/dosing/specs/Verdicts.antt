@@ -19,16 +19,16 @@ use Rattle.dosing.specs.Sheet.{sheetOf, validSection, validLength, valid
 use Rattle.dosing.specs.Verdict.{Verdict, verdictOf, verdict}
 
 -- sample A's block with another leaf word under 41, and n in its trailer
-unfoldable pub shelf : List ℕ → ℕ → List ℕ
-shelf leaf n = zeros 59 ++ (0x41 ∷ leaf) ++ zeros 35 ++ (0x3B ∷ zeros 19) ++ (n ∷ zeros 7) ++ (1 ∷ [])
+unfoldable pub oneLabel : List ℕ → ℕ → List ℕ
+oneLabel leaf n = zeros 59 ++ (0x41 ∷ leaf) ++ zeros 35 ++ (0x3B ∷ zeros 19) ++ (n ∷ zeros 7) ++ (1 ∷ [])
 
 -- 7 March 2025 under 41, which sample J has as 1,036,903
 abbrev pub dated : List ℕ
-dated = shelf (0xFF ∷ 0xF0 ∷ 0x2D ∷ 0x98 ∷ []) 4
+dated = oneLabel (0xFF ∷ 0xF0 ∷ 0x2D ∷ 0x98 ∷ []) 4
 
 -- sample A itself: the value 0 is no date
 abbrev pub undated : List ℕ
-undated = shelf (0xFF ∷ 0xFF ∷ 0xFF ∷ 0xFF ∷ []) 4
+undated = oneLabel (0xFF ∷ 0xFF ∷ 0xFF ∷ 0xFF ∷ []) 4
 
 -- sample K's section 60 and length 4,000, and its 240 ml
 abbrev pub sheet : TemperatureGate → ProductSheet
@@ -76,13 +76,13 @@ hotter = fin false 393 (pos 0)
 
 -- what an equation about verdicts on such a block unfolds
 unfoldable pub verdictOpen : Unit {0}
-unfolding readsOpen februaryDays daysOfMonth isDate isAfter onScale toCelsius celsius validReading validGate inGate validSection validLength validSheet doseOf verdictOf verdict Ieee.ofInt Ieee.sub Ieee.mul Ieee.div Ieee.le shelf
+unfolding readsOpen februaryDays daysOfMonth isDate isAfter onScale toCelsius celsius validReading validGate inGate validSection validLength validSheet doseOf verdictOf verdict Ieee.ofInt Ieee.sub Ieee.mul Ieee.div Ieee.le oneLabel
 verdictOpen = tt
 
 -- each answer where nothing before it applies and all that comes after it does, 3 for no label and for one of 1,000 bytes; then sample J's days and the gates
 pub verdicts :
     (verdict (zeros 96) [] (on 32 3 2025) (Celsius nan) unknown
-    ∷ verdict (shelf (0xFF ∷ 0xFF ∷ 0xFF ∷ 0xFF ∷ []) 5) [] (on 32 3 2025) (Celsius nan) unknown
+    ∷ verdict (oneLabel (0xFF ∷ 0xFF ∷ 0xFF ∷ 0xFF ∷ []) 5) [] (on 32 3 2025) (Celsius nan) unknown
     ∷ verdict undated [] (on 32 3 2025) (Celsius nan) unknown
     ∷ verdict undated (zeros 1000) (on 32 3 2025) (Celsius nan) unknown
     ∷ verdict undated (0x42 ∷ []) (on 32 3 2025) (Celsius nan) unknown
@@ -120,7 +120,7 @@ verdicts = refl
 
 -- what a label that holds such a leaf word gets on a day, at 5 degrees Celsius with K's sheet
 abbrev heldOn : List ℕ → Date → Verdict
-heldOn leaf today = verdict (shelf leaf 4) (0x41 ∷ []) today (Celsius five) warm
+heldOn leaf today = verdict (oneLabel leaf 4) (0x41 ∷ []) today (Celsius five) warm
 
 -- 01, answer 10, "today is no date": month 35 of 2023 and day 39 of February 2025 would be packed into 7 March 2025; 30 February; years
 pub todays :

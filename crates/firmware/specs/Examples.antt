@@ -9,7 +9,7 @@ use lib.Ieee.{Float, nan, inf, fin}
 use Rattle.cells.specs.Bytes.{zeros}
 use Rattle.store.specs.Computing.{callsOpen}
 use Rattle.dosing.specs.Verdict.{Verdict}
-use Rattle.dosing.specs.Verdicts.{verdictOpen, shelf, dated, four, five, hot, hotter, dosed, refused}
+use Rattle.dosing.specs.Verdicts.{verdictOpen, oneLabel, dated, four, five, hot, hotter, dosed, refused}
 use Rattle.firmware.specs.Choices.{ours}
 use Rattle.firmware.specs.NumberCalls.{gateOf, readingOf, badSheetNumbers, badReadingNumbers, outsideNumbers, verdictNumbers, insertNumbers, getNumbers}
 
@@ -111,11 +111,11 @@ unfolding verdictOpen ours gateOf readingOf badSheetNumbers badReadingNumbers ou
 refused-numbers = refl
 
 -- sample A by numbers: 41 with 0 into a fresh block; then a value over 2,147,483,647, and what a look-up in J's block tells
-pub entered-and-looked-up :
+pub inserted-and-found :
     ((insertNumbers (zeros 119 ++ (4 ∷ zeros 7) ++ (1 ∷ [])) (0x41 ∷ []) 0
-    ≡ record { answer = 0; count = 1; block = shelf (0xFF ∷ 0xFF ∷ 0xFF ∷ 0xFF ∷ []) 4 })
+    ≡ record { answer = 0; count = 1; block = oneLabel (0xFF ∷ 0xFF ∷ 0xFF ∷ 0xFF ∷ []) 4 })
     × ((insertNumbers dated (0x41 ∷ []) 2147483648 ≡ record { answer = 4; count = 0; block = dated })
     × ((getNumbers dated (0x41 ∷ []) ≡ record { answer = 0; value = 1036903 })
     × (getNumbers dated (0x42 ∷ []) ≡ record { answer = 11; value = 0 }))))
 unfolding callsOpen verdictOpen
-entered-and-looked-up = (refl, (refl, (refl, refl)))
+inserted-and-found = (refl, (refl, (refl, refl)))

@@ -32,8 +32,8 @@ key42 = 0x42 ∷ []
 
 -- 01: "Entering: 3 or 4 where that no applies to the arguments, the lower first; else 7 if that was fed; else 0, and the label has this
 -- value, in place of any older one."
-abbrev entering : List Fed
-entering =
+abbrev insertions : List Fed
+insertions =
     fed (inserting key41 5)
     ∷ fedSeven (inserting key41 6)
     ∷ fedSeven (inserting [] 2147483648)
@@ -45,26 +45,26 @@ entering =
     ∷ []
 
 -- 01: "Marking: 5 if the slot isn't lawful; else 0, and the slot holds the present table, in place of any older one."
-abbrev marking : List Fed
-marking = entering ++ fed (snapshotting 0) ∷ fed (snapshotting 4) ∷ fed (snapshotting 1) ∷ fed (inserting key41 7) ∷ fed (snapshotting 3) ∷ []
+abbrev snapshotsAfter : List Fed
+snapshotsAfter = insertions ++ fed (snapshotting 0) ∷ fed (snapshotting 4) ∷ fed (snapshotting 1) ∷ fed (inserting key41 7) ∷ fed (snapshotting 3) ∷ []
 
 -- 01: "Going back: 5 likewise; else 6 if the slot has nothing; else 0, and the present table is the slot's, which the slot keeps."
-abbrev goingBack : List Fed
-goingBack = marking ++ fed (restoring 0) ∷ fed (restoring 4) ∷ fed (restoring 2) ∷ fed (restoring 1) ∷ fed (restoring 1) ∷ []
+abbrev restoresAfter : List Fed
+restoresAfter = snapshotsAfter ++ fed (restoring 0) ∷ fed (restoring 4) ∷ fed (restoring 2) ∷ fed (restoring 1) ∷ fed (restoring 1) ∷ []
 
 -- 01: "Dropping: 5 and 6 likewise; else 0, and the slot has nothing."
-abbrev dropping : List Fed
-dropping =
-    goingBack ++ fed (releasing 0) ∷ fed (releasing 4) ∷ fed (releasing 2) ∷ fed (releasing 1) ∷ fed (releasing 1) ∷ fed (restoring 1) ∷ []
+abbrev releasesAfter : List Fed
+releasesAfter =
+    restoresAfter ++ fed (releasing 0) ∷ fed (releasing 4) ∷ fed (releasing 2) ∷ fed (releasing 1) ∷ fed (releasing 1) ∷ fed (restoring 1) ∷ []
 
--- a slot overwritten, then gone back to
-abbrev overwriting : List Fed
-overwriting = marking ++ fed (inserting key41 9) ∷ fed (snapshotting 3) ∷ fed (inserting key41 10) ∷ fed (restoring 3) ∷ []
+-- a slot overwritten, then restored
+abbrev overwrites : List Fed
+overwrites = snapshotsAfter ++ fed (inserting key41 9) ∷ fed (snapshotting 3) ∷ fed (inserting key41 10) ∷ fed (restoring 3) ∷ []
 
 -- 01: "It is fed each call's kind and arguments": the answers to all of these
 pub ledger-answers :
     _≡_ {A = List (List ℕ)}
-    (ledgerAnswers 3 emptyLedger dropping ∷ ledgerAnswers 3 emptyLedger overwriting ∷ [])
+    (ledgerAnswers 3 emptyLedger releasesAfter ∷ ledgerAnswers 3 emptyLedger overwrites ∷ [])
     ((0 ∷ 7 ∷ 3 ∷ 3 ∷ 4 ∷ 0 ∷ 0 ∷ 0 ∷ 5 ∷ 5 ∷ 0 ∷ 0 ∷ 0 ∷ 5 ∷ 5 ∷ 6 ∷ 0 ∷ 0 ∷ 5 ∷ 5 ∷ 6 ∷ 0 ∷ 6 ∷ 6 ∷ [])
     ∷ (0 ∷ 7 ∷ 3 ∷ 3 ∷ 4 ∷ 0 ∷ 0 ∷ 0 ∷ 5 ∷ 5 ∷ 0 ∷ 0 ∷ 0 ∷ 0 ∷ 0 ∷ 0 ∷ 0 ∷ [])
     ∷ [])
@@ -85,7 +85,7 @@ tables feds =
 -- 01: "Beside a fresh book the present table is empty and every slot has nothing.", then after each list
 pub ledger-tables :
     _≡_ {A = List (List (Option (Option ℕ)))}
-    (map tables ([] ∷ entering ∷ marking ∷ goingBack ∷ dropping ∷ overwriting ∷ []))
+    (map tables ([] ∷ insertions ∷ snapshotsAfter ∷ restoresAfter ∷ releasesAfter ∷ overwrites ∷ []))
     ((some none ∷ some none ∷ none ∷ none ∷ none ∷ [])
     ∷ (some (some 5) ∷ some (some 8) ∷ none ∷ none ∷ none ∷ [])
     ∷ (some (some 7) ∷ some (some 8) ∷ some (some 5) ∷ none ∷ some (some 7) ∷ [])

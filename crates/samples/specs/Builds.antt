@@ -10,7 +10,7 @@ use Rattle.store.specs.Insert.{insert}
 use Rattle.store.specs.Computing.{callsOpen}
 use Rattle.samples.specs.Line.{word}
 use Rattle.samples.specs.Calls.{fresh, rootOf}
-use Rattle.samples.specs.Pinned.{entered, sixth, seventh}
+use Rattle.samples.specs.Pinned.{insertedAll, sixth, seventh}
 
 -- the bytes of some cells of a block
 unfoldable pub cellsIn : List ℕ → List ℕ → List (List ℕ)
@@ -98,7 +98,7 @@ splitBlock =
 
 -- 01: "in a split, each mid's ends in rising order, then that mid, the head last"; "cells not taken keep theirs"
 pub split-block : seventh .block ≡ splitBlock
-unfolding callsOpen fresh entered sixth seventh splitBlock
+unfolding callsOpen fresh insertedAll sixth seventh splitBlock
 split-block = refl
 
 -- 78 (01 111 000) inserted there, and then C8 (11 001 000)
@@ -134,13 +134,13 @@ unfolding callsOpen told cellsIn splitBlock endAdded midAdded
 mid-not-there = refl
 
 -- the characters below 41, in turn, with the values from one on
-unfoldable pub enteredBelow : List ℕ → List ℕ → ℕ → List ℕ
-enteredBelow block [] value = block
-enteredBelow block (x ∷ xs) value = enteredBelow (insert block (0x41 ∷ x ∷ []) value .block) xs (value + 1)
+unfoldable pub insertedBelow : List ℕ → List ℕ → ℕ → List ℕ
+insertedBelow block [] value = block
+insertedBelow block (x ∷ xs) value = insertedBelow (insert block (0x41 ∷ x ∷ []) value .block) xs (value + 1)
 
 -- 41 where below it stand 42 and 43
 unfoldable pub endsOnSparse : Counted
-endsOnSparse = insert (enteredBelow (fresh 8) (0x42 ∷ 0x43 ∷ []) 0) (0x41 ∷ []) 2
+endsOnSparse = insert (insertedBelow (fresh 8) (0x42 ∷ 0x43 ∷ []) 0) (0x41 ∷ []) 2
 
 -- 01: "any other node gets a new prefix cell": over a sparse
 pub prefix-over-sparse :
@@ -151,12 +151,12 @@ pub prefix-over-sparse :
     ∷ (word 0x00000002 ++ word 0xFF000000 ++ zeros 20 ++ word 0x0000005E)
     ∷ (zeros 27 ++ (0x41 ∷ word 0x0000003F))
     ∷ [])
-unfolding callsOpen told cellsIn fresh enteredBelow endsOnSparse
+unfolding callsOpen told cellsIn fresh insertedBelow endsOnSparse
 prefix-over-sparse = refl
 
 -- the seven below 41
 unfoldable pub seventhBelow : Counted
-seventhBelow = insert (enteredBelow (fresh 16) (0x33 ∷ 0x35 ∷ 0x41 ∷ 0x42 ∷ 0x43 ∷ 0x50 ∷ []) 0) (0x41 ∷ 0x51 ∷ []) 6
+seventhBelow = insert (insertedBelow (fresh 16) (0x33 ∷ 0x35 ∷ 0x41 ∷ 0x42 ∷ 0x43 ∷ 0x50 ∷ []) 0) (0x41 ∷ 0x51 ∷ []) 6
 
 -- the block that this leaves
 unfoldable pub blockBelow : List ℕ
@@ -175,7 +175,7 @@ blockBelow =
     ++ (word 0x0000013B ++ zeros 16 ++ word 0x00000010 ++ zeros 4 ++ word 0x00000001)
 
 pub block-below : seventhBelow .block ≡ blockBelow
-unfolding callsOpen fresh enteredBelow seventhBelow blockBelow
+unfolding callsOpen fresh insertedBelow seventhBelow blockBelow
 block-below = refl
 
 -- then 41 itself, then 41 52

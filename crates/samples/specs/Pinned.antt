@@ -17,13 +17,13 @@ use Rattle.samples.specs.Line.{word}
 use Rattle.samples.specs.Calls.{fresh, rootOf, sampleA, sampleE, sampleH}
 
 -- one character each, in turn, with the values from one on
-unfoldable pub entered : List ℕ → List ℕ → ℕ → List ℕ
-entered block [] value = block
-entered block (x ∷ xs) value = entered (insert block (x ∷ []) value .block) xs (value + 1)
+unfoldable pub insertedAll : List ℕ → List ℕ → ℕ → List ℕ
+insertedAll block [] value = block
+insertedAll block (x ∷ xs) value = insertedAll (insert block (x ∷ []) value .block) xs (value + 1)
 
 -- 01: "the seven children 33 35 41 42 43 50 51 make a split of 6 cells"
 unfoldable pub sixth : List ℕ
-sixth = entered (fresh 16) (0x33 ∷ 0x35 ∷ 0x41 ∷ 0x42 ∷ 0x43 ∷ 0x50 ∷ []) 0
+sixth = insertedAll (fresh 16) (0x33 ∷ 0x35 ∷ 0x41 ∷ 0x42 ∷ 0x43 ∷ 0x50 ∷ []) 0
 
 -- the seventh child, 51
 unfoldable pub seventh : Counted
@@ -46,7 +46,7 @@ pub split-of-seven :
     ∷ (word 0x0000009C ++ zeros 4 ++ word 0x000000BC ++ zeros 20)
     ∷ (zeros 24 ++ word 0x0000003C ++ zeros 4)
     ∷ [])
-unfolding callsOpen fresh entered sixth seventh
+unfolding callsOpen fresh insertedAll sixth seventh
 split-of-seven = refl
 
 -- H's prefix cell, the trailer after a second slot's snapshot of A

@@ -32,7 +32,7 @@ withChildren first second =
 
 -- 01: "In the tree of one root no cell is entered twice": two words to one place of a chain cell, to two places of it, to one prefix,
 -- to a prefix and to the chain that it links to
-pub entered-from-a-sparse :
+pub visited-from-a-sparse :
     OnlyBrokenRefused
     (pair (withChildren 0x0000005B 0x0000005B) (withChildren 0x0000005B 0x0000007B)
     ∷ pair (withChildren 0x0000005A 0x0000005B) (withChildren 0x0000005A 0x0000007B)
@@ -40,14 +40,14 @@ pub entered-from-a-sparse :
     ∷ pair (withChildren 0x0000009F 0x0000007B) (withChildren 0x0000009F 0x0000005B)
     ∷ [])
 unfolding callsOpen words
-entered-from-a-sparse = refl
+visited-from-a-sparse = refl
 
 -- a split (1) of two words in its head, two in its mid (2) and two in its end (3); a chain of 41 and 42 (4)
 abbrev withBranches : List ℕ → List ℕ → List ℕ → List ℕ
 withBranches one two three = sixCells one two three (chainBytes 0x00004142 0xFFFFFFFF) 0x0000003C
 
--- a mid entered twice, an end, and a chain cell below an end
-pub entered-from-a-split :
+-- a mid visited twice, an end, and a chain cell below an end
+pub visited-from-a-split :
     OnlyBrokenRefused
     (pair (withBranches (headBytes 0x0000005C 0x0000005C 0 0) (branchBytes 0x0000007C 0) (branchBytes 0xFFFFFFFF 0))
     (withBranches (headBytes 0x0000005C 0 0 0) (branchBytes 0x0000007C 0) (branchBytes 0xFFFFFFFF 0))
@@ -57,7 +57,7 @@ pub entered-from-a-split :
     (withBranches (headBytes 0x0000005C 0 0 0) (branchBytes 0x0000007C 0) (branchBytes 0x0000009A 0xFFFFFFFF))
     ∷ [])
 unfolding callsOpen words
-entered-from-a-split = refl
+visited-from-a-split = refl
 
 -- a chain (1) with this word at 1C, a prefix (2) with this link, a chain (3)
 abbrev withLoop : ℕ → ℕ → List ℕ
@@ -66,14 +66,14 @@ withLoop end link =
 
 -- a chain whose word at 1C leads into its own cell, to the same place and to another; a prefix that links into its own cell. Such
 -- a path has no end, so the rule of 48 refuses these blocks too.
-pub entered-from-itself :
+pub visited-from-itself :
     OnlyBrokenRefused
     (pair (withLoop 0x0000003A 0) (withLoop 0x0000007A 0)
     ∷ pair (withLoop 0x0000003B 0) (withLoop 0x0000007B 0)
     ∷ pair (withLoop 0x0000005F 0x0000005B) (withLoop 0x0000005F 0x0000007B)
     ∷ [])
 unfolding callsOpen words
-entered-from-itself = refl
+visited-from-itself = refl
 
 -- this root, and this word in slot 1: a chain of 41 and 42 (1), and two sparse cells over it (2, 3)
 abbrev withSnapshot : ℕ → ℕ → List ℕ
