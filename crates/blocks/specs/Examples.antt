@@ -4,7 +4,7 @@ use mathlib.Core.List.{List, [], _∷_, _++_, map}
 use Prim.Native.Nat.{ℕ}
 use lib.ListN.{take, set}
 use Rattle.cells.specs.Bytes.{zeros}
-use Rattle.nodes.specs.Written.{words, eightWords, chainBytes, sparseBytes, prefixBytes}
+use Rattle.nodes.specs.Written.{eightWords, chainBytes, sparseBytes, prefixBytes}
 use Rattle.blocks.specs.Computing.{readsOpen, nextOpen}
 use Rattle.blocks.specs.Read.{Found, get, Next, nextKey}
 

@@ -1,8 +1,8 @@
 -- 01's limits in its own numbers, computed: each met exactly and missed by one step of binary32. A number is written as it stands in
 -- binary32: an odd number times a power of two, where pos k is the k-th power and negsuc k the one of -(k + 1).
 use mathlib.Core.Path.{_≡_, refl}
-use mathlib.Core.Bool.{Bool, true, false}
-use mathlib.Core.List.{List, [], _∷_}
+use mathlib.Core.Bool.{true, false}
+use mathlib.Core.List.{[], _∷_}
 use Prim.Native.Nat.{_+_, _-_}
 use lib.IntN.{pos, negsuc}
 use lib.Ieee as Ieee

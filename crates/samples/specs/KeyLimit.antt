@@ -2,8 +2,6 @@
 use mathlib.Core.Path.{_≡_, refl}
 use mathlib.Core.List.{List, [], _∷_, _++_, map}
 use Prim.Native.Nat.{ℕ}
-use lib.IntN.{pos}
-use lib.ListN.{replicate}
 use Rattle.cells.specs.Bytes.{zeros}
 use Rattle.blocks.specs.Computing.{nextOpen}
 use Rattle.blocks.specs.Read.{Next, get, nextKey}
@@ -13,10 +11,7 @@ use Rattle.dosing.specs.Verdict.{verdict}
 use Rattle.dosing.specs.Verdicts.{verdictOpen, warm, five, on}
 use Rattle.dosing.specs.declared.temperature.Reading.the-variants.{Celsius}
 use Rattle.samples.specs.Calls.{fresh, sampleA}
-
--- a label of so many bytes 41
-abbrev label : ℕ → List ℕ
-label size = replicate size 0x41
+use Rattle.samples.specs.Pinned.{label}
 
 -- the longest label in a block of four cells, with 7 March 2025
 unfoldable pub longest : List ℕ

@@ -60,7 +60,7 @@ unfolding callsOpen snapshotsOpen fresh sampleA sampleE sampleH
 prefix-and-slot-bytes = refl
 
 -- a label of so many bytes 41
-abbrev label : ℕ → List ℕ
+abbrev pub label : ℕ → List ℕ
 label size = replicate size 0x41
 
 -- 01: "labels of 28, 29, 48 and 49 bytes (fresh 4: roots 20, 5B, 48, then 3)"; then an empty label, a value over the limit

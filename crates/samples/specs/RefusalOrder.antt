@@ -5,7 +5,7 @@ use mathlib.Core.List.{List, [], _∷_, _++_, map}
 use Prim.Native.Nat.{ℕ}
 use lib.ListN.{length, replicate}
 use Rattle.cells.specs.Bytes.{zeros}
-use Rattle.nodes.specs.Written.{words, eightWords, chainBytes}
+use Rattle.nodes.specs.Written.{eightWords, chainBytes}
 use Rattle.nodes.specs.Layout.{trailerCells}
 use Rattle.blocks.specs.Trailer.{badLength, badSize}
 use Rattle.blocks.specs.Refusal.{Changed, Counted}

@@ -4,7 +4,7 @@ use mathlib.Core.Path.{_≡_, refl}
 use mathlib.Core.List.{List, [], _∷_, _++_}
 use Prim.Native.Nat.{ℕ}
 use Rattle.cells.specs.Bytes.{zeros}
-use Rattle.nodes.specs.Written.{words, eightWords, chainBytes, headBytes, branchBytes}
+use Rattle.nodes.specs.Written.{eightWords, chainBytes, headBytes, branchBytes}
 use Rattle.store.specs.Insert.{insert}
 use Rattle.store.specs.Computing.{callsOpen}
 use Rattle.samples.specs.Crafted.{unused}

@@ -11,7 +11,6 @@ use Rattle.cells.specs.Word.{withWord}
 use Rattle.cells.specs.Memory.{Memory, memoryOf}
 use Rattle.cells.proofs.Words.{set-bytes, zeros-length, bytes-zeros, length-withWord, remainder-byte, withWord-bytes}
 use Rattle.cells.proofs.Memory.{memory-length, memory-bytes}
-use Rattle.nodes.specs.Sparse.{sparseCount}
 use Rattle.staging.specs.NewCells.{blank, chainCell, prefixCell, pairCell, sparsePair, withoutCharacters, sparseCopy, withOrder, appendedCell, branchCopy, headCopy, withWords}
 
 -- 32 bytes

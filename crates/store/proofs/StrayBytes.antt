@@ -1,7 +1,7 @@
 -- 01: "A taken cell's meaningless bytes are zero". That this says something: a cell with one stray byte is not clean, and sample A's block
 -- with such a byte in the cell taken is none that an insertion may leave.
 use mathlib.Core.Path.{_≡_, refl}
-use mathlib.Core.List.{List, [], _∷_, _++_}
+use mathlib.Core.List.{List, _++_}
 use Prim.Native.Nat.{ℕ}
 use native.Mathlib.Omega.{arith}
 use lib.ListN.{getD}

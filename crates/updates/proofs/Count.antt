@@ -13,7 +13,7 @@ use Rattle.cells.proofs.Pointers.{kind-of-made}
 use Rattle.nodes.specs.Layout.{Layout}
 use Rattle.nodes.specs.Pointer.{leafWord, wordTo}
 use Rattle.staging.specs.NewCells.{prefixCell}
-use Rattle.updates.specs.Built.{Built, room, firstUsed}
+use Rattle.updates.specs.Built.{room, firstUsed}
 use Rattle.updates.specs.Build.{build, cellsNeeded}
 use Rattle.updates.proofs.Related.{Contents, Characters, Relation, Related, related-count, same-built, build-related}
 

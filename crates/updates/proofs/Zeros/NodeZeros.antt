@@ -14,7 +14,7 @@ use Rattle.cells.proofs.Words.{word-agree, byte-other}
 use Rattle.cells.proofs.Pointers.{kind-of-made}
 use Rattle.nodes.specs.Pointer.{wordTo}
 use Rattle.nodes.specs.Chain.{chainCharacter, chainChild}
-use Rattle.nodes.specs.Sparse.{sparseWord, sparseDigits, sparseCount, validSparse, positionOf, sparseChild}
+use Rattle.nodes.specs.Sparse.{sparseDigits, sparseCount, validSparse, positionOf, sparseChild}
 use Rattle.nodes.proofs.SparseNodes.SparseChildren.{Sparse, sparse-parts}
 use Rattle.order_words.proofs.Valid.{at-most-six}
 use Rattle.staging.specs.NewCells.{chainCell, prefixCell, pairCell, sparsePair, sparseCopy, replacedCell, appendedCell}
@@ -22,7 +22,7 @@ use Rattle.staging.proofs.CellZeros.{chain-zero, prefix-zero, pair-zero, copy-z
 use Rattle.updates.specs.Built.{Built, allocate, room, roomOf, characterBefore, chainWith, chainOver}
 use Rattle.updates.specs.SetChild.{withChild, chainSet, sparseSet}
 use Rattle.updates.specs.SplitBuild.{splitOf}
-use Rattle.updates.specs.Zeros.{Use, kindOf, part, Proper, Holds, Clean, Leads, EachClean, AllClean}
+use Rattle.updates.specs.Zeros.{Use, kindOf, part, Holds, Clean, Leads, EachClean, AllClean}
 use Rattle.updates.specs.Zeros.Use.{chainFrom, sparseUse, headUse, midUse, endUse, prefixUse}
 use Rattle.updates.proofs.Count.{Numbering}
 use Rattle.updates.proofs.ChainNodes.Chains.{chain-cell-end}
