@@ -46,10 +46,10 @@ copied number x b head mid end =
 
 module _ (layout : Layout) (m m′ : Memory) where
   -- the cell that the word of an end or mid names is alike
-  abbrev Same : ℕ → Type 0
+  abbrev pub Same : ℕ → Type 0
   Same w = w ≢ 0 → m (w / 32) ≡ m′ (w / 32)
 
-  copy-same : (w : ℕ) → Same w → branchCopy m′ w ≡ branchCopy m w
+  pub copy-same : (w : ℕ) → Same w → branchCopy m′ w ≡ branchCopy m w
   unfolding branchCopy
   copy-same w same = elim (ℕ-discrete w 0) [
     | yes zero-word ↦ rw (eq-eqb w 0 zero-word)
@@ -146,20 +146,20 @@ module _ (layout : Layout) (m m′ : Memory) where
   valueAt-frame number value w invalid X e agree = refl
 
 -- what related builds are here: the same
-abbrev SameWord : ℕ → ℕ → ℕ → Type 0
+abbrev pub SameWord : ℕ → ℕ → ℕ → Type 0
 SameWord count word word′ = word ≡ word′
 
-abbrev SameCell : ℕ → List ℕ → List ℕ → Type 0
+abbrev pub SameCell : ℕ → List ℕ → List ℕ → Type 0
 SameCell place s s′ = s ≡ s′
 
-each-same : (cells : List (List ℕ)) → EachCell SameWord SameCell cells cells
+pub each-same : (cells : List (List ℕ)) → EachCell SameWord SameCell cells cells
 each-same [] = tt
 each-same (s ∷ rest) = (refl, each-same rest)
 
-as-related : {b b′ : Built} → b ≡ b′ → Related SameWord SameCell b b′
+pub as-related : {b b′ : Built} → b ≡ b′ → Related SameWord SameCell b b′
 as-related {b} same = subst (Related SameWord SameCell b) same (record { own = refl; word = refl; cells = each-same (b .cells) })
 
-as-same : {b b′ : Built} → Related SameWord SameCell b b′ → b ≡ b′
+pub as-same : {b b′ : Built} → Related SameWord SameCell b b′ → b ≡ b′
 as-same {b} {b′} r =
     same-built SameWord SameCell (λ _. Unit {0}) (λ i k less h. tt) (λ n w w′ e h. e) (λ n s s′ e h. e) b b′ r tt
 

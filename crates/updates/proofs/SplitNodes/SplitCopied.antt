@@ -76,7 +76,7 @@ module _ (layout : Layout) (m : Memory) where
   ]
 
   -- the words of an end in a memory that is alike on it
-  end-below : (m′ : Memory) (w k : ℕ) (a : List ℕ) → under (endCells layout m) w ≡ some a → Agree m m′ a → wordBelow m′ w k ≡ wordBelow m w k
+  pub end-below : (m′ : Memory) (w k : ℕ) (a : List ℕ) → under (endCells layout m) w ≡ some a → Agree m m′ a → wordBelow m′ w k ≡ wordBelow m w k
   end-below m′ w k a e agree = elim (ℕ-discrete w 0) [
     | yes zero-word ↦ ap (λ v. wordBelow m′ v k) zero-word ∙ below-zero m′ k ∙ sym (ap (λ v. wordBelow m v k) zero-word ∙ below-zero m k)
     | no other ↦

@@ -1,0 +1,4 @@
+pub mod RisingCell
+pub mod SplitLeft
+pub mod LoseChild
+pub mod Removal

@@ -1,0 +1,1 @@
+// The staged build of a removal.
