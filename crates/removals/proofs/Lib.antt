@@ -1,1 +1,3 @@
 pub mod RemovalRelated
+pub mod RemovalCount
+pub mod RemovalBytes
