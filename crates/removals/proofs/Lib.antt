@@ -1,3 +1,4 @@
 pub mod RemovalRelated
 pub mod RemovalCount
 pub mod RemovalBytes
+pub mod RemovalNeeded

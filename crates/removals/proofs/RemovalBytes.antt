@@ -11,9 +11,9 @@ use Rattle.staging.specs.NewCells.{blank, withOrder}
 use Rattle.staging.proofs.CellBytes.{IsCell, blank-cell, set-cell, words-cell}
 use Rattle.updates.proofs.Related.{Characters}
 use Rattle.updates.proofs.BuildBytes.{Whole, whole-contents, key-characters, SameWord, WholeCell, whole, whole-built}
-use Rattle.removals.specs.RisingCell.{charactersFrom, withCharacters, risingCell}
+use Rattle.removals.specs.RisingCell.{withCharacters, risingCell}
 use Rattle.removals.specs.Removal.{removal}
-use Rattle.removals.proofs.RemovalRelated.{LeftContents, kept-characters, removal-related}
+use Rattle.removals.proofs.RemovalRelated.{LeftContents, left-characters, removal-related}
 
 -- a cell with characters written side by side is one again
 pub characters-cell : (xs : List ℕ) (position : ℕ) (s : List ℕ) → Characters (λ x. x < 256) xs → IsCell s → IsCell (withCharacters xs position s)
@@ -30,7 +30,7 @@ rising-cell child xs near =
 -- what a removal writes beside is 32 bytes
 pub whole-left : (layout : Layout) (m : Memory) → LeftContents layout m (λ x. x < 256) IsCell
 whole-left layout m =
-    record { near = λ x h. h; rising = λ p x. rising-cell _ _ (kept-characters (λ y. y < 256) (λ y h. h) _ 256 0 (omega arith)) }
+    record { near = λ x h. h; rising = λ p x. rising-cell _ _ (left-characters (λ y. y < 256) (λ y h. h) _ 256 0 (omega arith)) }
 
 -- the removal of one key
 pub removal-whole : (number : ℕ → ℕ) (layout : Layout) (m : Memory) → ((c : ℕ) → IsCell (m c)) → (root : ℕ) (key : List ℕ) → IsBytes key

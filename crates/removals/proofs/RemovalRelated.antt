@@ -1,5 +1,5 @@
 -- Two removals of one key in one memory under two numberings are related: the relational law of each step that the insertion has not.
-use mathlib.Core.Path.{_≡_, refl, subst}
+use mathlib.Core.Path.{refl, subst}
 use mathlib.Core.Bool.{Bool, true, false, cond}
 use mathlib.Core.List.{List, [], _∷_}
 use mathlib.Core.Option.{Option, none, some}
@@ -37,13 +37,13 @@ module _ (Character : ℕ → Type 0) where
   cond-characters true x later is each = each
   cond-characters false x later is each = (is, each)
 
-  pub kept-characters : ((x : ℕ) → x < 256 → Character x) → (child : ℕ → ℕ) (count from : ℕ) → from + count ≤ 256
+  pub left-characters : ((x : ℕ) → x < 256 → Character x) → (child : ℕ → ℕ) (count from : ℕ) → from + count ≤ 256
       → Characters Character (charactersFrom child count from)
   unfolding charactersFrom
-  kept-characters near child zero from h = tt
-  kept-characters near child (suc count) from h =
+  left-characters near child zero from h = tt
+  left-characters near child (suc count) from h =
       cond-characters (eqb (child from) 0) from (charactersFrom child count (from + 1)) (near from (omega arith))
-      (kept-characters near child count (from + 1) (omega arith))
+      (left-characters near child count (from + 1) (omega arith))
 
 module _ (Words : ℕ → ℕ → ℕ → Type 0) (Cells : ℕ → List ℕ → List ℕ → Type 0) (number number′ : ℕ → ℕ) (m : Memory) (Character : ℕ → Type 0)
     (Content : List ℕ → Type 0) (contents : Contents m Character Content) (relation : Relation number number′ Content Words Cells) where
@@ -113,7 +113,7 @@ module _ (Words : ℕ → ℕ → ℕ → Type 0) (Cells : ℕ → List ℕ → 
     unfolding loseChild
     loseChild-related p x cells cells′ e =
         let child : ℕ → ℕ = withChild (childOf (plain layout m p)) x 0 in
-        ofKept-related child _ _ (charactersFrom child 256 0) cells cells′ (kept-characters Character (left .near) child 256 0 (omega arith))
+        ofKept-related child _ _ (charactersFrom child 256 0) cells cells′ (left-characters Character (left .near) child 256 0 (omega arith))
         (left .rising p x) (splitStays-related (splitCell p) x cells cells′ e) e
 
     -- a child changed
