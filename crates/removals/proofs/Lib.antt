@@ -1,0 +1,4 @@
+pub mod RemovalRelated
+pub mod RemovalCount
+pub mod RemovalBytes
+pub mod RemovalNeeded
