@@ -1,19 +1,18 @@
 -- A removal under two numberings: as many cells, and the same removal where both give the numbers taken.
-use mathlib.Core.Path.{_≡_, sym, ap, _∙_}
+use mathlib.Core.Path.{_≡_}
 use mathlib.Core.Bool.{true}
 use mathlib.Core.List.{List}
 use native.Mathlib.Omega.{arith}
-use Prim.Native.Nat.{ℕ, suc, _-_, _≤_, _<_}
-use lib.ListN.{length, take, drop, take-append-drop}
-use lib.Seq.{getD-take}
+use Prim.Native.Nat.{ℕ, suc, _≤_, _<_}
+use lib.ListN.{length, take}
 use Rattle.cells.specs.Memory.{Memory}
 use Rattle.cells.specs.Occurrences.{occurrences}
-use Rattle.cells.proofs.Occurrences.{occurrences-append}
 use Rattle.nodes.specs.Layout.{Layout, usable, cellLimit}
 use Rattle.staging.specs.Numbering.{numberFrom}
 use Rattle.updates.proofs.Related.{Related, related-count, same-built}
 use Rattle.updates.proofs.Count.{Numbering, numbering-one, Any, any-contents, any-characters, WordsAlike, CellsAlike, alike}
 use Rattle.updates.proofs.Commit.{numbering-free}
+use Rattle.updates.proofs.Taken.{first-free}
 use Rattle.removals.specs.Removal.{removal, neededToRemove}
 use Rattle.removals.proofs.RemovalRelated.{LeftContents, removal-related}
 
@@ -62,12 +61,5 @@ module _ (layout : Layout) (some-cells : 2 ≤ layout .cells) (small : layout .c
   pub removal-first : (limit : ℕ) (m : Memory) (w : ℕ) (key : List ℕ) → length (removal layout (numberFrom layout free) m w key .cells) ≤ limit
       → removal layout (numberFrom layout free) m w key ≡ removal layout (numberFrom layout (take limit free)) m w key
   removal-first limit m w key fits =
-      removal-numbers (numberFrom layout free) (numberFrom layout (take limit free))
-      (numbering-free layout free each some-cells small)
-      (numbering-free layout (take limit free) (λ c h. each c (omega (arith, taken-less c))) some-cells small)
-      limit (λ i low. unfold numberFrom in sym (getD-take limit free i (layout .cells - 1) low)) layout m w key fits
-    where
-      taken-less : (c : ℕ) → occurrences c (take limit free) ≤ occurrences c free
-      taken-less c =
-          let cut = ap (occurrences c) (sym (take-append-drop limit free)) ∙ occurrences-append c (take limit free) (drop limit free) in
-          omega (arith, cut)
+      first-free layout some-cells small free each (λ number. removal layout number m w key)
+      (λ number number′ n n′ limit agree. removal-numbers number number′ n n′ limit agree layout m w key) limit fits

@@ -30,8 +30,8 @@ use Rattle.updates.specs.Built.{Built, unowned, allocate}
 use Rattle.updates.specs.SplitBuild.{branchRow}
 use Rattle.updates.specs.SetChild.{withChild, setChild}
 use Rattle.updates.specs.Build.{wordAside, childOf}
-use Rattle.updates.proofs.Related.{Characters, Along, paths-related}
-use Rattle.updates.proofs.Needed.{Same, SameWord, SameCell, as-related, as-same, setChild-frame}
+use Rattle.updates.proofs.Related.{Characters}
+use Rattle.updates.proofs.Needed.{Same, setChild-frame, path-frame}
 use Rattle.updates.proofs.PrefixNodes.Aside.{child-of}
 use Rattle.removals.specs.RisingCell.{charactersFrom, withCharacters, risingOrder, risingCell}
 use Rattle.removals.specs.SplitLeft.{splitLeft}
@@ -207,36 +207,14 @@ module _ (layout : Layout) (m m′ : Memory) where
       ap (λ u. unowned u []) (a .word)
 
 module _ (layout : Layout) (small : layout .cells ≤ cellLimit) (m : Memory) (bytes : (c : ℕ) → IsBytes (m c)) (m′ : Memory) where
-  -- memories that are alike on a tree copy its paths alike
-  along-memories : (number : ℕ → ℕ) (key : List ℕ) → IsBytes key → (d w : ℕ) (cs : List ℕ) → length key ≤ d
-      → tree layout m d w ≡ some cs → Agree m m′ cs
-      → Along SameWord SameCell layout m m′ (leftCopy layout number m) (leftCopy layout number m′) (removedAt layout m) (removedAt layout m′) w key
-  along-memories number [] is-bytes d w cs fits found agree =
-      let q = tree-cut layout m d w cs found in
-      let here = agree-less m m′ cs (q .0 .footprint) (footprint-in layout small m bytes d w cs (q .0) found (q .2)) agree in
-      as-related (sym (removedAt-frame layout m m′ w (q .0) (q .2) here))
-  along-memories number (x ∷ key) is-bytes zero w cs fits found agree = absurd (omega arith)
-  along-memories number (x ∷ key) is-bytes (suc d) w cs fits found agree =
-      let near : x < 256 = is-bytes .below 0 in
-      let q = tree-cut layout m (suc d) w cs found in
-      let here = agree-less m m′ cs (q .0 .footprint) (footprint-in layout small m bytes (suc d) w cs (q .0) found (q .2)) agree in
-      let f = node-frame layout small m bytes m′ (suc d) w cs (q .0) found agree (q .2) in
-      let l = tree-below layout m d w x cs (q .0) near found (q .2) in
-      let old : childOf (read layout m w) x ≡ q .0 .child x = child-of (read layout m w) (q .0) x (q .2) in (
-        old ∙ f .2 .child x near ∙ sym (child-of (read layout m′ w) (f .0) x (f .1)),
-        λ b b′ r.
-            as-related (sym (leftCopy-frame layout m m′ number x near w (q .0) (q .2) here b)
-            ∙ ap (leftCopy layout number m′ w x) (as-same r)),
-        along-memories number key (bytes-tail x key is-bytes) d (childOf (read layout m w) x) (l .0) (omega arith) (ap (tree layout m d) old ∙ l .1)
-            (agree-less m m′ cs (l .0) (λ c h. omega (arith, l .2 c)) agree),
-      )
-
   -- the removal framing law
   pub removal-frame : (number : ℕ → ℕ) (key : List ℕ) → IsBytes key → (d w : ℕ) (cs : List ℕ) → length key ≤ d
       → tree layout m d w ≡ some cs → Agree m m′ cs → removal layout number m′ w key ≡ removal layout number m w key
   unfolding removal
   removal-frame number key is-bytes d w cs fits found agree =
-      sym (as-same (paths-related SameWord SameCell layout m m′ _ _ _ _ w key (along-memories number key is-bytes d w cs fits found agree)))
+      path-frame layout small m bytes m′ (leftCopy layout number m) (leftCopy layout number m′) (removedAt layout m) (removedAt layout m′)
+      (λ w x near b X node here. leftCopy-frame layout m m′ number x near w X node here b) (removedAt-frame layout m m′)
+      key is-bytes d w cs fits found agree
 
   -- the cells needed are as many
   pub needed-to-remove-frame : (key : List ℕ) → IsBytes key → (d w : ℕ) (cs : List ℕ) → length key ≤ d → tree layout m d w ≡ some cs → Agree m m′ cs
