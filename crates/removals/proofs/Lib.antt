@@ -1,1 +1,2 @@
 pub mod SplitLeft
+pub mod RemovalBound

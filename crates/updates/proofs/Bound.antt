@@ -48,12 +48,12 @@ pub record Sized (least most : ℕ) (b : Built) : Type 0 where
   pub low : least ≤ length (b .cells)
   pub high : length (b .cells) ≤ most
 
-pub cond-sized : (t : Bool) (least most : ℕ) {a b : Built} → Sized least most a → Sized least most b → Sized least most (cond t a b)
+cond-sized : (t : Bool) (least most : ℕ) {a b : Built} → Sized least most a → Sized least most b → Sized least most (cond t a b)
 cond-sized true least most p q = p
 cond-sized false least most p q = q
 
 -- one cell more is at most three
-pub three-more : (n : ℕ) {b : Built} → Sized 1 (1 + n) b → Sized 1 (n + 3) b
+three-more : (n : ℕ) {b : Built} → Sized 1 (1 + n) b → Sized 1 (n + 3) b
 three-more n h = record { low = h .low; high = omega (arith, h .high) }
 
 -- within the first bound, or within the second where something holds
