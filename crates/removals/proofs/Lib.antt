@@ -1,2 +1,3 @@
 pub mod SplitLeft
 pub mod RemovalBound
+pub mod RemovalZeros

@@ -40,9 +40,9 @@ Among role words to word = (to ≡ partBelow role) × (j : ℕ) × (j < 8) × (w
 
 -- a mid or an end: its kind, and that it is clean and holds its eight words
 pub record IsBranch (role : Use) : Type 0 where
-  pub kind : kindOf role ≡ 0x1C
-  pub clean : (s : List ℕ) → Clean role s
-  pub holds : (s : List ℕ) (word j : ℕ) → j < 8 → branchWord s j ≡ word → Holds role s word
+  kind : kindOf role ≡ 0x1C
+  clean : (s : List ℕ) → Clean role s
+  holds : (s : List ℕ) (word j : ℕ) → j < 8 → branchWord s j ≡ word → Holds role s word
 
 pub mid-branch : IsBranch midUse
 mid-branch = record { kind = refl; clean = mid-clean; holds = λ s word j near is. (j, near, is) }
