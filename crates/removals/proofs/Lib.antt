@@ -1,2 +1,5 @@
 pub mod Kept
 pub mod RisingCell
+pub mod LoseLaw
+pub mod LeftNode
+pub mod RemovalLaw

@@ -99,6 +99,7 @@ characters-at (x ∷ xs) p l (suc i) whole fits near =
 -- two to six rising characters, each with a child
 module _ (child : ℕ → ℕ) (xs : List ℕ) (two : 2 ≤ length xs) (six : length xs ≤ 6) (rises : rising xs ≡ true)
     (each : (y : ℕ) → 1 ≤ occurrences y xs → child y ≢ 0) (bounded : (y : ℕ) → child y < 4294967296) where
+  -- the word of each position, and the cell with its words alone
   abbrev words : ℕ → ℕ
   words p = child (getD xs p 0)
 
@@ -137,6 +138,7 @@ module _ (child : ℕ → ℕ) (xs : List ℕ) (two : 2 ≤ length xs) (six : le
       order-other (withCharacters xs 0 worded) (risingOrder (length xs)) (24 + q) (omega arith)
       ∙ ap (λ j. getD (withCharacters xs 0 worded) j 0) here ∙ characters-at xs 0 worded q worded-length (omega arith) near
 
+  -- it is valid
   cell-sparse : Sparse (risingCell child xs) (positions (length xs))
   cell-sparse =
       let valid = positions-valid (length xs) two six in
