@@ -1,4 +1,9 @@
+pub mod Kept
+pub mod RisingCell
 pub mod SplitLeft
+pub mod LoseLaw
+pub mod LeftNode
+pub mod RemovalLaw
 pub mod RemovalRelated
 pub mod RemovalCount
 pub mod RemovalBytes
