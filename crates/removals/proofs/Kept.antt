@@ -2,7 +2,7 @@
 use mathlib.Core.Path.{_≡_, refl, sym, ap, _∙_}
 use mathlib.Core.Logic.{_≢_}
 use mathlib.Core.Bool.{true}
-use mathlib.Core.List.{List, _∷_}
+use mathlib.Core.List.{List, [], _∷_}
 use Prim.Native.Nat.{ℕ, zero, suc, _+_, _≤_, _<_}
 use native.Mathlib.Decide.{ℕ-discrete}
 use native.Mathlib.Omega.{arith}
@@ -93,9 +93,9 @@ kept-most child more (suc count) from each =
     ]
 
 -- without any child none is kept
-pub kept-none : (child : ℕ → ℕ) (count from : ℕ) → ((y : ℕ) → child y ≡ 0) → length (charactersFrom child count from) ≡ 0
+pub kept-none : (child : ℕ → ℕ) (count from : ℕ) → ((y : ℕ) → child y ≡ 0) → charactersFrom child count from ≡ []
 kept-none child zero from each = unfold charactersFrom in refl
-kept-none child (suc count) from each = ap length (kept-skip child count from (each from)) ∙ kept-none child count (from + 1) each
+kept-none child (suc count) from each = kept-skip child count from (each from) ∙ kept-none child count (from + 1) each
 
 -- with one word replaced, one more is kept at most; with NONE in its place, none more
 module _ (child : ℕ → ℕ) (x word : ℕ) where

@@ -10,3 +10,4 @@ pub mod RemovalBytes
 pub mod RemovalNeeded
 pub mod RemovalBound
 pub mod RemovalZeros
+pub mod Proved

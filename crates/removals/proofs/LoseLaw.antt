@@ -44,7 +44,7 @@ use Rattle.removals.specs.SplitLeft.{splitLeft}
 use Rattle.removals.specs.LoseChild.{ofKept, splitStays, loseChild}
 use Rattle.removals.proofs.Kept.{kept-has, kept-each, kept-rising, kept-most, kept-none, kept-more, kept-less}
 use Rattle.removals.proofs.RisingCell.{rising-valid, rising-listed, rising-unlisted}
-use Rattle.removals.proofs.SplitLeft.{split-left-below, split-left-placed}
+use Rattle.removals.proofs.SplitLeft.{below-bounded, split-left-below, split-left-placed}
 
 -- nothing is left of the node Y without its child for x: no cell is allocated, and no other child is there
 pub record Emptied (Y : Node) (x : ℕ) (b after : Built) : Type 0 where
@@ -58,13 +58,13 @@ Left layout number m′ Y x b after = Emptied Y x b after ⊎ Placed layout numb
 -- the children of a sparse cell are as many as its positions at most
 sparse-most : (bytes : List ℕ) (positions from count start : ℕ) → length (charactersFrom (childFrom bytes positions from) count start) ≤ positions
 unfolding childFrom
-sparse-most bytes zero from count start = omega (arith, kept-none (λ _. 0) count start (λ y. refl))
+sparse-most bytes zero from count start = omega (arith, ap length (kept-none (λ _. 0) count start (λ y. refl)))
 sparse-most bytes (suc positions) from count start =
     omega (arith, sparse-most bytes positions (from + 1) count start, kept-more (childFrom bytes positions (from + 1)) (sparseCharacter bytes from) (sparseWord bytes from) count start)
 
 -- a node with one child keeps one at most
 one-most : (x word count from : ℕ) → length (charactersFrom (oneChild x word) count from) ≤ 1
-one-most x word count from = omega (arith, kept-none (λ _. 0) count from (λ y. refl), kept-more (λ _. 0) x word count from)
+one-most x word count from = omega (arith, ap length (kept-none (λ _. 0) count from (λ y. refl)), kept-more (λ _. 0) x word count from)
 
 -- no more are kept where the children are the same
 same-most : (child other : ℕ → ℕ) → ((y : ℕ) → child y ≡ other y) → (count from : ℕ)
@@ -73,13 +73,9 @@ same-most child other same count from = kept-most child other count from (λ y l
 
 -- the child words of a split are words
 module _ (m : Memory) (bytes : (c : ℕ) → IsBytes (m c)) where
-  below-bounded : (word i : ℕ) → wordBelow m word i < 4294967296
-  unfolding wordBelow
-  below-bounded word i = cond-bounded (eqb word 0) (omega arith) (word-bound (m (word / 32)) (4 * i) (bytes (word / 32)))
-
   split-bounded : (c y : ℕ) → splitChild m c y < 4294967296
   unfolding splitChild
-  split-bounded c y = below-bounded _ (y % 8)
+  split-bounded c y = below-bounded m bytes _ (y % 8)
 
 -- the cells below an unowned word stand where its build does
 pub unowned-cells : (layout : Layout) (number : ℕ → ℕ) (m′ : Memory) (word : ℕ) (cells : List (List ℕ))
@@ -159,22 +155,11 @@ module _ (layout : Layout) (small : layout .cells ≤ cellLimit) (number : ℕ �
         → BuildStands layout number m′ (allocate number 30 (risingCell left xs) (b .cells))
         → Placed layout number m′ Y x b (allocate number 30 (risingCell left xs) (b .cells))
     some-left xs kept two six standing =
-        placed-like layout number m′ written Y 0 x (unowned (sparseChild (risingCell left xs) 0) (b .cells)) b (allocate number 30 (risingCell left xs) (b .cells))
-        (sparse-allocated layout small number m′ written 0 (unowned (sparseChild (risingCell left xs) 0) (b .cells)) (risingCell left xs)
-        (rising-valid left xs two six rises (listed xs kept) left-bounded) own standing)
-        refl (λ c. omega (arith, occurrences-none c)) (λ y near. sym (own y) ∙ children y near ∙ left-is y)
+        sparse-allocated layout small number m′ Y x b (risingCell left xs) (rising-valid left xs two six rises (listed xs kept) left-bounded)
+        (λ y near. children y near ∙ left-is y) standing
       where
         rises : rising xs ≡ true
         rises = ap rising (sym kept) ∙ kept-rising left 256 0
-
-        written : Node
-        written = record { value = none; cells = []; footprint = []; child = sparseChild (risingCell left xs) }
-
-        own : (y : ℕ) → sparseChild (risingCell left xs) y ≡ withChild (sparseChild (risingCell left xs)) 0 (sparseChild (risingCell left xs) 0) y
-        own y = elim (ℕ-discrete y 0) [
-          | yes is ↦ rw is
-          | no other ↦ rw (ne-eqb y 0 other)
-        ]
 
         children : (y : ℕ) → y < 256 → sparseChild (risingCell left xs) y ≡ left y
         children y near = elim (decLt 0 (occurrences y xs)) [
@@ -241,7 +226,7 @@ module _ (layout : Layout) (small : layout .cells ≤ cellLimit) (number : ℕ �
 
     kind-few : (p : Pointer) → readAt layout m p ≡ some Y → splitCell p ≡ none → length (charactersFrom (Y .child) 256 0) ≤ 6
     unfolding readAt splitCell
-    kind-few nothing node other = omega (arith, kept-none (Y .child) 256 0 (none-there node))
+    kind-few nothing node other = omega (arith, ap length (kept-none (Y .child) 256 0 (none-there node)))
     kind-few (leaf v) node other = absurd (no-leaf v node)
     kind-few (chain c k) node other =
         omega (

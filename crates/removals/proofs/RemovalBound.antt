@@ -29,12 +29,7 @@ use Rattle.removals.specs.RisingCell.{charactersFrom}
 use Rattle.removals.specs.SplitLeft.{splitLeft}
 use Rattle.removals.specs.LoseChild.{ofKept, splitStays, loseChild}
 use Rattle.removals.specs.Removal.{changeChild, putBackLeft, leftCopy, removedAt, removal}
-
--- children that are all NONE have no character
-no-characters : (child : ℕ → ℕ) (count from : ℕ) → ((y : ℕ) → child y ≡ 0) → charactersFrom child count from ≡ []
-unfolding charactersFrom
-no-characters child zero from each = refl
-no-characters child (suc count) from each = rw (eq-eqb (child from) 0 (each from)) (no-characters child count (from + 1) each)
+use Rattle.removals.proofs.Kept.{kept-none}
 
 -- NONE has no child to keep
 none-kept : (x y : ℕ) → withChild (λ _. 0) x 0 y ≡ 0
@@ -106,7 +101,7 @@ module _ (number : ℕ → ℕ) (layout : Layout) (m : Memory) where
 
   none-lost : (x : ℕ) → loseChild layout number m nothing x [] ≡ unowned 0 []
   unfolding loseChild plain childOf ofKept
-  none-lost x = rw (no-characters (withChild (λ _. 0) x 0) 256 0 (none-kept x))
+  none-lost x = rw (kept-none (withChild (λ _. 0) x 0) 256 0 (none-kept x))
 
   from-none : (key : List ℕ) → left 0 key ≡ unowned 0 []
   unfolding pathCopy pointerValue wordAside putBackLeft changeChild childOf

@@ -47,57 +47,7 @@ use Rattle.removals.specs.RisingCell.{charactersFrom, withCharacters, ri
 use Rattle.removals.specs.SplitLeft.{splitLeft}
 use Rattle.removals.specs.LoseChild.{ofKept, splitStays, loseChild}
 use Rattle.removals.specs.Removal.{changeChild, putBackLeft, leftCopy, removedAt, removal}
-
--- the order word of two to six positions has so many digits
-rising-count : (k : ℕ) → 2 ≤ k → k ≤ 6 → (length (orderDigits (risingOrder k)) ≡ k) × (risingOrder k < 65536)
-unfolding digits encode risingOrder
-rising-count zero low high = absurd (omega arith)
-rising-count (suc zero) low high = absurd (omega arith)
-rising-count (suc (suc zero)) low high = (refl, omega arith)
-rising-count (suc (suc (suc zero))) low high = (refl, omega arith)
-rising-count (suc (suc (suc (suc zero)))) low high = (refl, omega arith)
-rising-count (suc (suc (suc (suc (suc zero))))) low high = (refl, omega arith)
-rising-count (suc (suc (suc (suc (suc (suc zero)))))) low high = (refl, omega arith)
-rising-count (suc (suc (suc (suc (suc (suc (suc k))))))) low high = absurd (omega arith)
-
--- characters written side by side keep the length and the bytes past them
-characters-size : (xs : List ℕ) (p : ℕ) (s : List ℕ) → length (withCharacters xs p s) ≡ length s
-unfolding withCharacters
-characters-size [] p s = refl
-characters-size (x ∷ xs) p s = characters-size xs (p + 1) (set s (24 + p) x) ∙ length-set s (24 + p) x
-
-characters-keep : (xs : List ℕ) (p : ℕ) (s : List ℕ) (i : ℕ) → 24 + p + length xs ≤ i → getD (withCharacters xs p s) i 0 ≡ getD s i 0
-unfolding withCharacters
-characters-keep [] p s i past = refl
-characters-keep (x ∷ xs) p s i past = characters-keep xs (p + 1) (set s (24 + p) x) i (omega arith) ∙ getD-set-other s (24 + p) i x 0 (omega arith)
-
--- and so do words
-words-keep : (words : ℕ → ℕ) (count position : ℕ) (s : List ℕ) (i : ℕ) → 4 * (position + count) ≤ i → getD (withWords words count position s) i 0 ≡ getD s i 0
-unfolding withWords
-words-keep words zero position s i past = refl
-words-keep words (suc count) position s i past =
-    words-keep words count (position + 1) (withWord s (4 * position) (words position)) i (omega arith)
-    ∙ byte-other s (4 * position) (words position) i (inr (omega arith))
-
--- a sparse cell in rising order: the characters past its children are zero
-module _ (child : ℕ → ℕ) (xs : List ℕ) (two : 2 ≤ length xs) (six : length xs ≤ 6) where
-  abbrev worded : List ℕ
-  worded = withWords (λ p. child (getD xs p 0)) (length xs) 0 blank
-
-  cell-count : sparseCount (risingCell child xs) ≡ length xs
-  unfolding sparseDigits risingCell
-  cell-count =
-      let order = rising-count (length xs) two six in
-      ap (λ w. length (orderDigits w))
-      (order-read (withCharacters xs 0 worded) (risingOrder (length xs))
-      (characters-size xs 0 worded ∙ words-cell (λ p. child (getD xs p 0)) (length xs) 0 blank blank-cell .size) (order .1))
-      ∙ order .0
-
-  cell-zero : (i : ℕ) → 24 + length xs ≤ i → i < 30 → getD (risingCell child xs) i 0 ≡ 0
-  unfolding risingCell blank
-  cell-zero i low high =
-      order-other (withCharacters xs 0 worded) (risingOrder (length xs)) i high ∙ characters-keep xs 0 worded i (omega arith)
-      ∙ words-keep (λ p. child (getD xs p 0)) (length xs) 0 blank i (omega arith) ∙ zeros-byte 32 i
+use Rattle.removals.proofs.RisingCell.{rising-count, rising-zero}
 
 -- a node with no value is named by a word below the leaves
 word-below-leaves : (layout : Layout) (m : Memory) (w : ℕ) (X : Node) → read layout m w ≡ some X → X .value ≡ none → w < 2147483648
@@ -170,10 +120,10 @@ module _ (number : ℕ → ℕ) (n : Numbering number) where
       go : (t : Bool) → leb (length more) 4 ≡ t → Left (cond t (allocate number 30 (risingCell child (x ∷ y ∷ more)) []) stays)
       go true e =
           let few : length more ≤ 4 = leb-true (length more) 4 e in
-          let count = cell-count child (x ∷ y ∷ more) (omega arith) (omega arith) in
+          let count = rising-count child (x ∷ y ∷ more) (omega arith) (omega arith) in
           inr (allocate-each number n sparseUse (risingCell child (x ∷ y ∷ more)) []
           (sparse-clean (risingCell child (x ∷ y ∷ more))
-          (λ i low high. cell-zero child (x ∷ y ∷ more) (omega arith) (omega arith) i (omega (arith, count)) high)) refl tt)
+          (λ i low high. rising-zero child (x ∷ y ∷ more) (omega arith) (omega arith) i (omega (arith, count)) high)) refl tt)
       go false e = many
 
   -- a leaf over no cell

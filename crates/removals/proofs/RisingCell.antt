@@ -9,12 +9,12 @@ use lib.ListN.{length, getD, set, take, length-set}
 use lib.Seq.{getD-set-same, getD-set-other, getD-take}
 use Rattle.cells.specs.Word.{withWord}
 use Rattle.cells.specs.Occurrences.{occurrences}
-use Rattle.cells.proofs.Words.{word-agree, word-other}
+use Rattle.cells.proofs.Words.{word-agree, word-other, byte-other, zeros-byte}
 use Rattle.cells.proofs.Occurrences.{occurrences-at, occurrences-index}
 use Rattle.order_words.specs.Digits.{orderDigits, encode}
 use Rattle.order_words.specs.Order.{eachOnce, place, validDigits, rising}
 use Rattle.order_words.proofs.Coding.{digits-encode, encode-bound}
-use Rattle.nodes.specs.Sparse.{sparseWord, sparseCharacter, sparseDigits, validSparse, sparseChild}
+use Rattle.nodes.specs.Sparse.{sparseWord, sparseCharacter, sparseDigits, sparseCount, validSparse, sparseChild}
 use Rattle.nodes.specs.Split.{branchWord}
 use Rattle.nodes.proofs.SparseNodes.SparseChildren.{Sparse, sparse-valid, sparse-has, sparse-lacks}
 use Rattle.staging.specs.NewCells.{blank, withWords}
@@ -96,9 +96,23 @@ characters-at (x ∷ xs) p l (suc i) whole fits near =
     ap (λ j. getD (withCharacters xs (p + 1) (set l (24 + p) x)) j 0) here
     ∙ characters-at xs (p + 1) (set l (24 + p) x) i (length-set l (24 + p) x ∙ whole) (omega arith) (omega arith)
 
--- two to six rising characters, each with a child
-module _ (child : ℕ → ℕ) (xs : List ℕ) (two : 2 ≤ length xs) (six : length xs ≤ 6) (rises : rising xs ≡ true)
-    (each : (y : ℕ) → 1 ≤ occurrences y xs → child y ≢ 0) (bounded : (y : ℕ) → child y < 4294967296) where
+-- bytes and words past those that are written stay
+characters-past : (xs : List ℕ) (p : ℕ) (l : List ℕ) (j : ℕ) → 24 + p + length xs ≤ j → getD (withCharacters xs p l) j 0 ≡ getD l j 0
+unfolding withCharacters
+characters-past [] p l j past = refl
+characters-past (x ∷ xs) p l j past =
+    characters-past xs (p + 1) (set l (24 + p) x) j (omega arith) ∙ getD-set-other l (24 + p) j x 0 (omega arith)
+
+bytes-past : (words : ℕ → ℕ) (count position : ℕ) (l : List ℕ) (j : ℕ) → 4 * (position + count) ≤ j
+    → getD (withWords words count position l) j 0 ≡ getD l j 0
+unfolding withWords
+bytes-past words zero position l j past = refl
+bytes-past words (suc count) position l j past =
+    bytes-past words count (position + 1) (withWord l (4 * position) (words position)) j (omega arith)
+    ∙ byte-other l (4 * position) (words position) j (inr (omega arith))
+
+-- two to six characters
+module _ (child : ℕ → ℕ) (xs : List ℕ) (two : 2 ≤ length xs) (six : length xs ≤ 6) where
   -- the word of each position, and the cell with its words alone
   abbrev words : ℕ → ℕ
   words p = child (getD xs p 0)
@@ -118,67 +132,76 @@ module _ (child : ℕ → ℕ) (xs : List ℕ) (two : 2 ≤ length xs) (six : le
       (order-read (withCharacters xs 0 worded) (encode (positions (length xs))) (characters-length xs 0 worded ∙ worded-length) (encode-bound (positions (length xs)) valid))
       ∙ digits-encode (positions (length xs)) valid
 
-  -- a word and a character of it
-  cell-word : (q : ℕ) → q < 6 → sparseWord (risingCell child xs) q ≡ branchWord worded q
-  unfolding risingCell
-  cell-word q near =
-      word-agree _ worded (4 * q) (4 * q)
-      (λ r less. order-other (withCharacters xs 0 worded) (risingOrder (length xs)) (4 * q + r) (omega arith)
-      ∙ characters-before xs 0 worded (4 * q + r) (omega arith))
+  pub rising-count : sparseCount (risingCell child xs) ≡ length xs
+  rising-count = ap length cell-digits ∙ positions-valid (length xs) two six .1
 
-  cell-child : (q : ℕ) → q < length xs → sparseWord (risingCell child xs) q ≡ child (getD xs q 0)
-  cell-child q near =
-      cell-word q (omega arith)
-      ∙ words-at words (length xs) 0 blank q (blank-cell .size) (omega arith) (omega arith) (omega arith) (bounded (getD xs q 0))
+  -- the characters past its children are zero
+  pub rising-zero : (i : ℕ) → 24 + length xs ≤ i → i < 30 → getD (risingCell child xs) i 0 ≡ 0
+  unfolding risingCell blank
+  rising-zero i low high =
+      order-other (withCharacters xs 0 worded) (risingOrder (length xs)) i high ∙ characters-past xs 0 worded i (omega arith)
+      ∙ bytes-past words (length xs) 0 blank i (omega arith) ∙ zeros-byte 32 i
 
-  cell-character : (q : ℕ) → q < length xs → sparseCharacter (risingCell child xs) q ≡ getD xs q 0
-  unfolding risingCell
-  cell-character q near =
-      let here : 24 + q ≡ 24 + (0 + q) = omega arith in
-      order-other (withCharacters xs 0 worded) (risingOrder (length xs)) (24 + q) (omega arith)
-      ∙ ap (λ j. getD (withCharacters xs 0 worded) j 0) here ∙ characters-at xs 0 worded q worded-length (omega arith) near
+  -- each of them with a child, in rising order
+  module _ (rises : rising xs ≡ true) (each : (y : ℕ) → 1 ≤ occurrences y xs → child y ≢ 0) (bounded : (y : ℕ) → child y < 4294967296) where
+    -- a word and a character of it
+    cell-word : (q : ℕ) → q < 6 → sparseWord (risingCell child xs) q ≡ branchWord worded q
+    unfolding risingCell
+    cell-word q near =
+        word-agree _ worded (4 * q) (4 * q)
+        (λ r less. order-other (withCharacters xs 0 worded) (risingOrder (length xs)) (4 * q + r) (omega arith)
+        ∙ characters-before xs 0 worded (4 * q + r) (omega arith))
 
-  -- it is valid
-  cell-sparse : Sparse (risingCell child xs) (positions (length xs))
-  cell-sparse =
-      let valid = positions-valid (length xs) two six in
-      record {
-        digits = cell-digits;
-        order = valid .0;
-        words = λ q near e.
-            each (getD xs q 0) (occurrences-at xs q 0 (omega (arith, valid .1))) (sym (cell-child q (omega (arith, valid .1))) ∙ e);
-        others = λ q low high.
-            cell-word q high ∙ words-past words (length xs) 0 blank q (omega (arith, valid .1)) ∙ blank-word (4 * q);
-        rises = ap rising
-            (map-each (sparseCharacter (risingCell child xs)) (positions (length xs)) xs (valid .1)
-            (λ i near. ap (sparseCharacter (risingCell child xs)) (position-is (length xs) i near six) ∙ cell-character i near))
-            ∙ rises;
-      }
+    cell-child : (q : ℕ) → q < length xs → sparseWord (risingCell child xs) q ≡ child (getD xs q 0)
+    cell-child q near =
+        cell-word q (omega arith)
+        ∙ words-at words (length xs) 0 blank q (blank-cell .size) (omega arith) (omega arith) (omega arith) (bounded (getD xs q 0))
 
-  pub rising-valid : validSparse (risingCell child xs) ≡ true
-  rising-valid = sparse-valid (risingCell child xs) (positions (length xs)) cell-sparse
+    cell-character : (q : ℕ) → q < length xs → sparseCharacter (risingCell child xs) q ≡ getD xs q 0
+    unfolding risingCell
+    cell-character q near =
+        let here : 24 + q ≡ 24 + (0 + q) = omega arith in
+        order-other (withCharacters xs 0 worded) (risingOrder (length xs)) (24 + q) (omega arith)
+        ∙ ap (λ j. getD (withCharacters xs 0 worded) j 0) here ∙ characters-at xs 0 worded q worded-length (omega arith) near
 
-  -- its i-th child by rising character stands at position i
-  digit-is : (i : ℕ) → i < length xs → getD (sparseDigits (risingCell child xs)) i 0 ≡ i
-  digit-is i near = ap (λ ds. getD ds i 0) cell-digits ∙ position-is (length xs) i near six
+    -- it is valid
+    cell-sparse : Sparse (risingCell child xs) (positions (length xs))
+    cell-sparse =
+        let valid = positions-valid (length xs) two six in
+        record {
+          digits = cell-digits;
+          order = valid .0;
+          words = λ q near e.
+              each (getD xs q 0) (occurrences-at xs q 0 (omega (arith, valid .1))) (sym (cell-child q (omega (arith, valid .1))) ∙ e);
+          others = λ q low high.
+              cell-word q high ∙ words-past words (length xs) 0 blank q (omega (arith, valid .1)) ∙ blank-word (4 * q);
+          rises = ap rising
+              (map-each (sparseCharacter (risingCell child xs)) (positions (length xs)) xs (valid .1)
+              (λ i near. ap (sparseCharacter (risingCell child xs)) (position-is (length xs) i near six) ∙ cell-character i near))
+              ∙ rises;
+        }
 
-  cell-count : length (sparseDigits (risingCell child xs)) ≡ length xs
-  cell-count = ap length cell-digits ∙ positions-valid (length xs) two six .1
+    pub rising-valid : validSparse (risingCell child xs) ≡ true
+    rising-valid = sparse-valid (risingCell child xs) (positions (length xs)) cell-sparse
 
-  character-is : (i : ℕ) → i < length xs → sparseCharacter (risingCell child xs) (getD (sparseDigits (risingCell child xs)) i 0) ≡ getD xs i 0
-  character-is i near = ap (sparseCharacter (risingCell child xs)) (digit-is i near) ∙ cell-character i near
+    -- its i-th child by rising character stands at position i
+    digit-is : (i : ℕ) → i < length xs → getD (sparseDigits (risingCell child xs)) i 0 ≡ i
+    digit-is i near = ap (λ ds. getD ds i 0) cell-digits ∙ position-is (length xs) i near six
 
-  -- its children: those of its characters, and no other
-  pub rising-listed : (y : ℕ) → 1 ≤ occurrences y xs → sparseChild (risingCell child xs) y ≡ child y
-  rising-listed y there =
-      let at = occurrences-index y xs there in
-      let is : sparseCharacter (risingCell child xs) (getD (sparseDigits (risingCell child xs)) (at .0) 0) ≡ y = character-is (at .0) (at .1) ∙ at .2 in
-      ap (sparseChild (risingCell child xs)) (sym is)
-      ∙ sparse-has (risingCell child xs) rising-valid (at .0) (omega (arith, at .1, cell-count))
-      ∙ ap (sparseWord (risingCell child xs)) (digit-is (at .0) (at .1)) ∙ cell-child (at .0) (at .1) ∙ ap child (at .2)
+    character-is : (i : ℕ) → i < length xs → sparseCharacter (risingCell child xs) (getD (sparseDigits (risingCell child xs)) i 0) ≡ getD xs i 0
+    character-is i near = ap (sparseCharacter (risingCell child xs)) (digit-is i near) ∙ cell-character i near
 
-  pub rising-unlisted : (y : ℕ) → occurrences y xs ≡ 0 → sparseChild (risingCell child xs) y ≡ 0
-  rising-unlisted y absent =
-      sparse-lacks (risingCell child xs) rising-valid y
-      (λ j near same.
-      omega (arith, absent, ap (λ z. occurrences z xs) (sym (character-is j (omega (arith, near, cell-count))) ∙ same), occurrences-at xs j 0 (omega (arith, near, cell-count))))
+    -- its children: those of its characters, and no other
+    pub rising-listed : (y : ℕ) → 1 ≤ occurrences y xs → sparseChild (risingCell child xs) y ≡ child y
+    rising-listed y there =
+        let at = occurrences-index y xs there in
+        let is : sparseCharacter (risingCell child xs) (getD (sparseDigits (risingCell child xs)) (at .0) 0) ≡ y = character-is (at .0) (at .1) ∙ at .2 in
+        ap (sparseChild (risingCell child xs)) (sym is)
+        ∙ sparse-has (risingCell child xs) rising-valid (at .0) (omega (arith, at .1, rising-count))
+        ∙ ap (sparseWord (risingCell child xs)) (digit-is (at .0) (at .1)) ∙ cell-child (at .0) (at .1) ∙ ap child (at .2)
+
+    pub rising-unlisted : (y : ℕ) → occurrences y xs ≡ 0 → sparseChild (risingCell child xs) y ≡ 0
+    rising-unlisted y absent =
+        sparse-lacks (risingCell child xs) rising-valid y
+        (λ j near same.
+        omega (arith, absent, ap (λ z. occurrences z xs) (sym (character-is j (omega (arith, near, rising-count))) ∙ same), occurrences-at xs j 0 (omega (arith, near, rising-count))))

@@ -48,6 +48,11 @@ gather-left m m′ f g framed words words′ count p v a new old inside was foun
     ap (under g) (same q (omega arith) ∙ rw (ne-eqb q p apart))
     ∙ under-frame m m′ f g framed (words q) b at (agree-less m m′ old b (λ c h. omega (arith, less c)) agree)) e
 
+-- a word below another in bytes is one of 32 bits
+pub below-bounded : (m : Memory) → ((c : ℕ) → IsBytes (m c)) → (w k : ℕ) → wordBelow m w k < 4294967296
+unfolding wordBelow
+below-bounded m bytes w k = cond-bounded (eqb w 0) (omega arith) (word-bound (m (w / 32)) (4 * k) (bytes (w / 32)))
+
 module _ (layout : Layout) (small : layout .cells ≤ cellLimit) (number : ℕ → ℕ) (m m′ : Memory)
     (bytes : (c : ℕ) → IsBytes (m c)) (whole : (c : ℕ) → length (m c) ≡ 32) where
   -- what was allocated before it stands
@@ -55,11 +60,6 @@ module _ (layout : Layout) (small : layout .cells ≤ cellLimit) (number : ℕ �
   unfolding splitLeft allocate
   split-left-below c x cells standing =
       branch-below-stands layout number m′ _ cells (branch-below-stands layout number m′ _ _ (standing .1))
-
-  -- a word below another in bytes is one of 32 bits
-  below-bounded : (w k : ℕ) → wordBelow m w k < 4294967296
-  unfolding wordBelow
-  below-bounded w k = cond-bounded (eqb w 0) (omega arith) (word-bound (m (w / 32)) (4 * k) (bytes (w / 32)))
 
   -- a word u with these eight words below it: as an end it visits its own cell if any, as a mid that cell and the ends of the words
   abbrev Branch : (ℕ → ℕ) → ℕ → Type 0
@@ -117,9 +117,9 @@ module _ (layout : Layout) (small : layout .cells ≤ cellLimit) (number : ℕ �
       let newHead : List ℕ = withWord (headCopy (m c)) (0x10 + 4 * (x / 64)) d in
       let older : CellsStand layout number m′ (newMid .cells) = allocate-older layout number m′ 0x1C newHead (newMid .cells) standing in
       let E =
-      branch-left (withChild (wordBelow m end) (x % 8) 0) (λ k. cond-bounded (eqb k (x % 8)) (omega arith) (below-bounded end k)) cells
+      branch-left (withChild (wordBelow m end) (x % 8) 0) (λ k. cond-bounded (eqb k (x % 8)) (omega arith) (below-bounded m bytes end k)) cells
       (branch-below-stands layout number m′ midWords (newEnd .cells) older) in
-      let M = branch-left midWords (λ k. cond-bounded (eqb k (x / 8 % 8)) (E .bounded) (below-bounded mid k)) (newEnd .cells) older in
+      let M = branch-left midWords (λ k. cond-bounded (eqb k (x / 8 % 8)) (E .bounded) (below-bounded m bytes mid k)) (newEnd .cells) older in
       let p = split-cut layout m c Y reads in
       let cs : List ℕ = p .0 in
       let alike : Agree m m′ (c ∷ cs) = subst (λ (Z : Node). Agree m m′ (Z .cells)) (sym (p .3)) agree in
