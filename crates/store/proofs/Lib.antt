@@ -4,7 +4,9 @@ pub mod Free
 pub mod Format
 pub mod Committed
 pub mod ChangeCall
+pub mod CountedCall
 pub mod InsertCall
+pub mod RemoveCall
 pub mod FormatSteps
 pub mod FreeSteps
 pub mod CommitSteps
@@ -15,6 +17,8 @@ pub mod FreeWrites
 pub mod WriteCalls
 pub mod Determined
 pub mod MeantBlock
+pub mod TakenZeros
 pub mod InsertZeros
+pub mod RemoveZeros
 pub mod StrayBytes
 pub mod Proved
