@@ -13,11 +13,13 @@ pub mod CommitSteps
 pub mod InsertRefused
 pub mod ChangeCode
 pub mod InsertCode
+pub mod TakenZeros
+pub mod RemoveRefused
+pub mod RemoveCode
 pub mod FreeWrites
 pub mod WriteCalls
 pub mod Determined
 pub mod MeantBlock
-pub mod TakenZeros
 pub mod InsertZeros
 pub mod RemoveZeros
 pub mod StrayBytes
