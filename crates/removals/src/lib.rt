@@ -1,5 +1,5 @@
 // The staged build of a removal.
-pub mod kept;
+pub mod children;
 pub mod left;
 pub mod lose_child;
 pub mod removal;

@@ -10,7 +10,7 @@ ghost use Rattle.staging.specs.Code.Stage.{staged, Numbered};
 ghost use Rattle.updates.specs.Code.Staged.{builtOf, Fitting};
 ghost use Rattle.removals.specs.LoseChild.{splitStays, loseChild};
 ghost use Rattle.removals.specs.Code.KeptChildren.{Bare};
-use crate::kept::kept_children;
+use crate::children::kept_children;
 use crate::rising::put_rising;
 use crate::split_left::split_left;
 use nodes::layout::Layout;

@@ -10,8 +10,8 @@ use Rattle.updates.specs.Build.{childOf}
 use Rattle.removals.specs.RisingCell.{charactersFrom}
 use Rattle.removals.proofs.Stage.KeptSteps.{none-left, Walked, walk-start, walk-end, walk-seventh, walk-on, walk-more, found-none, found-within, found-kept, found-word, found-lost}
 use borrow.Author.Needs.{needs}
-use Rattle.removals.proofs.kept.kept_children.Statement.{statement}
-use Rattle.removals.proofs.kept.kept_children.Tie as tie
+use Rattle.removals.proofs.children.kept_children.Statement.{statement}
+use Rattle.removals.proofs.children.kept_children.Tie as tie
 
 abbrev Inv-loop : tie.InvT-loop
 Inv-loop layout block word x characters₀ words₀ count₀ from₀ characters words count from =
