@@ -4,7 +4,7 @@ use mathlib.Core.List.{List}
 use Prim.Native.Nat.{ℕ}
 use Rattle.cells.specs.Bytes.{IsBytes}
 use Rattle.cells.specs.Memory.{memoryOf}
-use Rattle.cells.proofs.Memory.{memory-length, memory-bytes}
+use Rattle.cells.proofs.Memory.{memory-length}
 use Rattle.nodes.specs.Layout.{keyLimit}
 use Rattle.updates.proofs.Count.{Numbering}
 use Rattle.removals.proofs.RemovalZeros.{removal-clean, removal-small}
@@ -26,9 +26,9 @@ remove-clean b key bytes is-bytes done =
     let n : Numbering (numbering b) = block-numbering b (finds .size) in
     taken-clean b key (blockRemoval b key) (remove b key .count) (remove b key .block) (remove-laid b key bytes is-bytes done)
     (removed-change b key bytes is-bytes finds .enough) (remove-after b key bytes is-bytes done .layout)
-    (removal-small (numbering b) n (layoutOf b) (memoryOf b) (λ c. memory-length b c) (λ c. memory-bytes b c bytes)
+    (removal-small (numbering b) n (layoutOf b) (memoryOf b) (λ c. memory-length b c)
     key is-bytes keyLimit (rootWord (layoutOf b) b) (p .cells) (key-fits key (finds .may .good-key)) (p .found))
-    (removal-clean (numbering b) n (layoutOf b) (memoryOf b) (λ c. memory-length b c) (λ c. memory-bytes b c bytes)
+    (removal-clean (numbering b) n (layoutOf b) (memoryOf b) (λ c. memory-length b c)
     key is-bytes keyLimit (rootWord (layoutOf b) b) (p .cells) (key-fits key (finds .may .good-key)) (p .found))
 
 -- a removal that leaves no tree takes no cell
