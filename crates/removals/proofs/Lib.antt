@@ -11,3 +11,4 @@ pub mod RemovalNeeded
 pub mod RemovalBound
 pub mod RemovalZeros
 pub mod Proved
+pub mod Stage
