@@ -1,6 +1,5 @@
 use native.Mathlib.Omega.{arith}
 use Rattle.removals.proofs.Stage.RisingPuts.{order-two, order-three, order-four, order-five, order-six}
-use borrow.Author.Needs.{needs}
 use Rattle.removals.proofs.rising.rising_order.Statement.{statement}
 use Rattle.removals.proofs.rising.rising_order.Tie as tie
 
