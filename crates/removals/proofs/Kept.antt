@@ -18,11 +18,11 @@ use Rattle.removals.specs.RisingCell.{charactersFrom}
 
 -- the first of so many characters: passed over where it has no child, else kept
 module _ (child : ℕ → ℕ) (count from : ℕ) where
-  kept-skip : child from ≡ 0 → charactersFrom child (suc count) from ≡ charactersFrom child count (from + 1)
+  pub kept-skip : child from ≡ 0 → charactersFrom child (suc count) from ≡ charactersFrom child count (from + 1)
   unfolding charactersFrom
   kept-skip e = rw (eq-eqb (child from) 0 e)
 
-  kept-here : child from ≢ 0 → charactersFrom child (suc count) from ≡ from ∷ charactersFrom child count (from + 1)
+  pub kept-here : child from ≢ 0 → charactersFrom child (suc count) from ≡ from ∷ charactersFrom child count (from + 1)
   unfolding charactersFrom
   kept-here n = rw (ne-eqb (child from) 0 n)
 

@@ -11,7 +11,6 @@ ghost use Rattle.staging.specs.Numbering.{numberFrom};
 ghost use Rattle.staging.specs.Code.Stage.{Numbered};
 ghost use Rattle.updates.specs.Code.Staged.{builtOf, Fitting};
 ghost use Rattle.removals.specs.Removal.{changeChild, putBackLeft, leftCopy};
-ghost use Rattle.removals.specs.Code.KeptChildren.{Bare};
 use crate::lose_child::lose_child;
 use nodes::layout::Layout;
 use nodes::pointer::leaf_word;
@@ -35,7 +34,7 @@ fn change_child(
     x: u8,
     below: BuildState,
 ) -> BuildState
-    requires { ⌜ Numbered layout free × (layout .cells * 32 ≤ length (now block)) × Bare layout (memoryOf (now block)) word × Fitting (changeChild layout (numberFrom layout (take free (now numbers))) (memoryOf (now block)) (pointer layout word) x (builtOf below (now stage))) ⌝ }
+    requires { ⌜ Numbered layout free × (layout .cells * 32 ≤ length (now block)) × ((node : Node) × (read layout (memoryOf (now block)) word ≡ some node)) × Fitting (changeChild layout (numberFrom layout (take free (now numbers))) (memoryOf (now block)) (pointer layout word) x (builtOf below (now stage))) ⌝ }
     ensures { λ r. ⌜ builtOf r (now (stage .exit)) ≡ changeChild layout (numberFrom layout (take free (now (numbers .entry)))) (memoryOf (now (block .entry))) (pointer layout word) x (builtOf below (now (stage .entry))) ⌝ }
 {
     if below.word == 0 {

@@ -1,15 +1,16 @@
 // A node that loses a child: by how many it keeps, NONE, a chain, a sparse cell or the split without it.
 ghost use mathlib.Core.Path.{_≡_};
+ghost use mathlib.Core.Option.{some};
 ghost use Prim.Native.Nat.{_*_, _≤_};
 ghost use lib.ListN.{length, take};
 ghost use Rattle.cells.specs.Memory.{memoryOf};
 ghost use Rattle.nodes.specs.Pointer.{pointer};
 ghost use Rattle.nodes.specs.Split.{splitCell};
+ghost use Rattle.nodes.specs.Node.{Node, read};
 ghost use Rattle.staging.specs.Numbering.{numberFrom};
 ghost use Rattle.staging.specs.Code.Stage.{staged, Numbered};
 ghost use Rattle.updates.specs.Code.Staged.{builtOf, Fitting};
 ghost use Rattle.removals.specs.LoseChild.{splitStays, loseChild};
-ghost use Rattle.removals.specs.Code.KeptChildren.{Bare};
 use crate::children::kept_children;
 use crate::rising::put_rising;
 use crate::split_left::split_left;
@@ -33,7 +34,7 @@ fn split_stays(
     x: u8,
     count: usize,
 ) -> BuildState
-    requires { ⌜ Numbered layout free × (layout .cells * 32 ≤ length (now block)) × Bare layout (memoryOf (now block)) word × Fitting (splitStays (numberFrom layout (take free (now numbers))) (memoryOf (now block)) (splitCell (pointer layout word)) x (staged (now stage) count)) ⌝ }
+    requires { ⌜ Numbered layout free × (layout .cells * 32 ≤ length (now block)) × ((node : Node) × (read layout (memoryOf (now block)) word ≡ some node)) × Fitting (splitStays (numberFrom layout (take free (now numbers))) (memoryOf (now block)) (splitCell (pointer layout word)) x (staged (now stage) count)) ⌝ }
     ensures { λ r. ⌜ builtOf r (now (stage .exit)) ≡ splitStays (numberFrom layout (take free (now (numbers .entry)))) (memoryOf (now (block .entry))) (splitCell (pointer layout word)) x (staged (now (stage .entry)) count) ⌝ }
 {
     let named = pointer_of(layout, word);
@@ -58,7 +59,7 @@ pub fn lose_child(
     x: u8,
     count: usize,
 ) -> BuildState
-    requires { ⌜ Numbered layout free × (layout .cells * 32 ≤ length (now block)) × Bare layout (memoryOf (now block)) word × Fitting (loseChild layout (numberFrom layout (take free (now numbers))) (memoryOf (now block)) (pointer layout word) x (staged (now stage) count)) ⌝ }
+    requires { ⌜ Numbered layout free × (layout .cells * 32 ≤ length (now block)) × ((node : Node) × (read layout (memoryOf (now block)) word ≡ some node)) × Fitting (loseChild layout (numberFrom layout (take free (now numbers))) (memoryOf (now block)) (pointer layout word) x (staged (now stage) count)) ⌝ }
     ensures { λ r. ⌜ builtOf r (now (stage .exit)) ≡ loseChild layout (numberFrom layout (take free (now (numbers .entry)))) (memoryOf (now (block .entry))) (pointer layout word) x (staged (now (stage .entry)) count) ⌝ }
 {
     let mut characters = [0u8; 6];

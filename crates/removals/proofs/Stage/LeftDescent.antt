@@ -1,5 +1,5 @@
 -- The nodes of a removal's path in the stage, from the key's end up: a child changed or lost, the value put back over what is left.
-use mathlib.Core.Path.{_≡_, refl, sym, ap, _∙_, subst}
+use mathlib.Core.Path.{_≡_, sym, ap, _∙_, subst}
 use mathlib.Core.Logic.{_≢_}
 use mathlib.Core.Bool.{Bool, true, false, cond}
 use mathlib.Core.List.{List, []}
@@ -12,7 +12,6 @@ use borrow.Author.Tests.{eq-eqb, ne-eqb}
 use Rattle.cells.specs.Memory.{Memory}
 use Rattle.nodes.specs.Layout.{Layout}
 use Rattle.nodes.specs.Pointer.{Pointer, pointer, leafWord}
-use Rattle.nodes.specs.Node.{Node, read}
 use Rattle.nodes.specs.Value.{pointerValue, valueOf}
 use Rattle.nodes.specs.Code.Coded.{heldOf}
 use Rattle.nodes.specs.declared.value.Value.{Value}
@@ -23,10 +22,8 @@ use Rattle.updates.specs.Built.{Built, unowned, allocate}
 use Rattle.updates.specs.SetChild.{setChild}
 use Rattle.updates.specs.Build.{wordAside, putBack}
 use Rattle.updates.specs.Code.Staged.{builtOf, Fitting}
-use Rattle.updates.proofs.PrefixNodes.Aside.{aside}
 use Rattle.removals.specs.LoseChild.{loseChild}
 use Rattle.removals.specs.Removal.{changeChild, putBackLeft, leftCopy, removedAt}
-use Rattle.removals.specs.Code.KeptChildren.{Bare}
 
 -- a child that is NONE, and one that is still there
 module _ (layout : Layout) (number : ℕ → ℕ) (m : Memory) (p : Pointer) (x : ℕ) (b : Built) where
@@ -60,13 +57,6 @@ module _ (layout : Layout) (number : ℕ → ℕ) (held : Value) (built : BuildS
     left-back there =
         left-value
         ∙ ap (λ (t : Bool). cond t (unowned (leafWord v) (staged stage (built .count))) (putBack layout number (some v) (builtOf built stage))) (ne-eqb (built .word) 0 there)
-
--- the word without its value names a node that has none
-pub bare-word : (layout : Layout) (m : Memory) (word : ℕ) → ((node : Node) × (read layout m word ≡ some node)) → (bare : ℕ)
-    → bare ≡ wordAside layout m (pointer layout word) word → Bare layout m bare
-bare-word layout m word q bare is =
-    let a = aside layout m word (q .0) (q .1) in
-    record { node = a .bare; reads = ap (read layout m) is ∙ a .reads; empty = a .empty }
 
 module _ (layout : Layout) (number : ℕ → ℕ) (m : Memory) where
   -- a value put back takes no cell away

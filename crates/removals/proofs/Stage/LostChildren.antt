@@ -8,16 +8,13 @@ use Prim.Native.Nat.{ℕ, _≤_, _<_}
 use lib.ListN.{length, getD}
 use borrow.Author.Tests.{le-leb, lt-leb}
 use Rattle.cells.specs.Memory.{Memory}
-use Rattle.cells.proofs.Choice.{never}
 use Rattle.nodes.specs.Layout.{Layout}
-use Rattle.nodes.specs.Pointer.{Pointer, pointer}
-use Rattle.nodes.specs.Pointer.Pointer.{nothing, leaf, chain, split, sparse, prefix, invalid}
+use Rattle.nodes.specs.Pointer.{pointer}
 use Rattle.nodes.specs.Split.{splitCell}
-use Rattle.nodes.specs.Node.{Node, plain, readAt, read}
+use Rattle.nodes.specs.Node.{plain}
 use Rattle.nodes.specs.Code.Coded.{pointerOf}
 use Rattle.nodes.specs.declared.pointer.Pointer.the-variants.{Split}
 use Rattle.nodes.specs.declared.pointer.Pointer.{Pointer as CodedPointer}
-use Rattle.nodes.proofs.Frame.{prefix-cut, read-is}
 use Rattle.nodes.proofs.Steps.Rest.{Among, rest-of-split}
 use Rattle.staging.specs.NewCells.{chainCell}
 use Rattle.staging.specs.Code.Stage.{stageCells, staged, Put, allocated}
@@ -31,7 +28,7 @@ use Rattle.updates.proofs.Stage.StagedChains.{allocate-fits}
 use Rattle.removals.specs.RisingCell.{charactersFrom, risingCell}
 use Rattle.removals.specs.SplitLeft.{splitLeft}
 use Rattle.removals.specs.LoseChild.{ofKept, splitStays, loseChild}
-use Rattle.removals.specs.Code.KeptChildren.{Held, Kept, Bare}
+use Rattle.removals.specs.Code.KeptChildren.{Held, Kept}
 
 -- the node that stays, by the case of the pointer
 module _ (layout : Layout) (number : ℕ → ℕ) (m : Memory) (word x : ℕ) (cells : List (List ℕ)) (p : CodedPointer)
@@ -88,35 +85,17 @@ module _ {child : ℕ → ℕ} {list characters words : List ℕ} {count : ℕ} 
     | no other ↦ omega (arith, other)
   ]
 
--- a node with no value reads as it does where one without a value is called for
-plain-child : (layout : Layout) (m : Memory) (p : Pointer) (X : Node) → readAt layout m p ≡ some X → X .value ≡ none
-    → childOf (readAt layout m p) ≡ childOf (plain layout m p)
-unfolding childOf readAt plain
-plain-child layout m nothing X node empty = refl
-plain-child layout m (leaf v) X node empty = refl
-plain-child layout m (chain c k) X node empty = refl
-plain-child layout m (split c) X node empty = refl
-plain-child layout m (sparse c) X node empty = refl
-plain-child layout m (prefix c) X node empty = never (sym empty ∙ ap (λ (Z : Node). Z .value) (sym (prefix-cut layout m c X node .3)))
-plain-child layout m invalid X node empty = refl
-
-bare-child : (layout : Layout) (m : Memory) (word : ℕ) → Bare layout m word → childOf (read layout m word) ≡ childOf (plain layout m (pointer layout word))
-bare-child layout m word bare =
-    let at = read-is layout m word _ refl in
-    ap childOf at ∙ plain-child layout m (pointer layout word) (bare .node) (sym at ∙ bare .reads) (bare .empty)
-
 -- the node without the child
-module _ (layout : Layout) (number : ℕ → ℕ) (m : Memory) (word x : ℕ) (bare : Bare layout m word) (stage : List ℕ) (n : ℕ) where
+module _ (layout : Layout) (number : ℕ → ℕ) (m : Memory) (word x : ℕ) (stage : List ℕ) (n : ℕ) where
   abbrev left : ℕ → ℕ
-  left = withChild (childOf (read layout m word)) x 0
+  left = withChild (childOf (plain layout m (pointer layout word))) x 0
 
   abbrev stays : Built
   stays = splitStays number m (splitCell (pointer layout word)) x (staged stage n)
 
   lost-is : ofKept number left stays (charactersFrom left 256 0) (staged stage n) ≡ loseChild layout number m (pointer layout word) x (staged stage n)
   unfolding loseChild
-  lost-is =
-      ap (λ (f : ℕ → ℕ). ofKept number (withChild f x 0) stays (charactersFrom (withChild f x 0) 256 0) (staged stage n)) (bare-child layout m word bare)
+  lost-is = refl
 
   module _ (characters words : List ℕ) (count : ℕ) (kept : Kept left (charactersFrom left 256 0) characters words count) where
     -- none is kept

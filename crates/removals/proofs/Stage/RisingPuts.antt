@@ -7,7 +7,6 @@ use Prim.Native.Nat.{ℕ, _+_, _≤_, _<_}
 use lib.ListN.{length, getD, set, take, drop, drop-of-length-le}
 use lib.Seq.{drop-cons, getD-take, length-take-le, ext-getD}
 use Rattle.cells.specs.Memory.{memoryOf}
-use Rattle.order_words.specs.Digits.{encode}
 use Rattle.staging.specs.NewCells.{blank, withWords, withOrder}
 use Rattle.staging.specs.Code.Stage.{Put}
 use Rattle.staging.proofs.StageLaws.{put-then, put-as}
@@ -15,27 +14,6 @@ use Rattle.staging.proofs.CellPuts.{Filling}
 use Rattle.updates.proofs.Stage.StagedRows.{words-agree}
 use Rattle.removals.specs.RisingCell.{withCharacters, risingOrder, risingCell}
 use Rattle.removals.specs.Code.KeptChildren.{Held}
-
--- the order words, one for each count
-pub order-two : (count : ℕ) → count ≡ 2 → 6 ≡ risingOrder count
-unfolding risingOrder encode
-order-two count is = rw is
-
-pub order-three : (count : ℕ) → count ≡ 3 → 78 ≡ risingOrder count
-unfolding risingOrder encode
-order-three count is = rw is
-
-pub order-four : (count : ℕ) → count ≡ 4 → 726 ≡ risingOrder count
-unfolding risingOrder encode
-order-four count is = rw is
-
-pub order-five : (count : ℕ) → count ≡ 5 → 5910 ≡ risingOrder count
-unfolding risingOrder encode
-order-five count is = rw is
-
-pub order-six : (count : ℕ) → count ≡ 6 → 44790 ≡ risingOrder count
-unfolding risingOrder encode
-order-six count is = rw is
 
 -- characters side by side: those written and those left make up the cell
 module _ (characters : List ℕ) (count : ℕ) (goal first : List ℕ) (at : ℕ) where

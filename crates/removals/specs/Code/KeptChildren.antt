@@ -1,12 +1,12 @@
 -- The children that a node keeps, as code has them in hand: two arrays of six, for the characters and their child words.
 use mathlib.Core.Path.{_≡_}
 use mathlib.Core.List.{List}
-use mathlib.Core.Option.{none, some}
-use Prim.Native.Nat.{ℕ, _≤_, _<_}
+use Prim.Native.Nat.{ℕ, _+_, _*_, _/_, _≤_, _<_}
 use lib.ListN.{length, getD}
 use Rattle.cells.specs.Memory.{Memory}
-use Rattle.nodes.specs.Layout.{Layout}
-use Rattle.nodes.specs.Node.{Node, read}
+use Rattle.nodes.specs.Split.{headWord, wordBelow}
+use Rattle.updates.specs.SetChild.{withChild}
+use Rattle.removals.specs.RisingCell.{charactersFrom}
 
 -- the arrays begin with the characters of a list and their child words
 pub record Held (child : ℕ → ℕ) (list characters words : List ℕ) (count : ℕ) : Type 0 where
@@ -19,8 +19,11 @@ pub record Kept (child : ℕ → ℕ) (list characters words : List ℕ) (count 
   pub few : length list < 7 → Held child list characters words count
   pub many : 7 ≤ length list → count ≡ 7
 
--- a word that names a node with no value
-pub record Bare (layout : Layout) (m : Memory) (word : ℕ) : Type 0 where
-  pub node : Node
-  pub reads : read layout m word ≡ some node
-  pub empty : node .value ≡ none
+-- the same of the children of a node without that of a character, by rising character
+abbrev pub KeptOf : (ℕ → ℕ) → ℕ → List ℕ → List ℕ → ℕ → Type 0
+KeptOf child x characters words count = Kept (withChild child x 0) (charactersFrom (withChild child x 0) 256 0) characters words count
+
+-- the mids and ends of a split stand within so many bytes
+pub record SplitInside (m : Memory) (size number : ℕ) : Type 0 where
+  pub mids : (i : ℕ) → i < 4 → headWord (m number) i / 32 * 32 + 32 ≤ size
+  pub ends : (i j : ℕ) → i < 4 → j < 8 → wordBelow m (headWord (m number) i) j / 32 * 32 + 32 ≤ size

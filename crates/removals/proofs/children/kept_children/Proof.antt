@@ -1,133 +1,94 @@
--- The characters passed stand in the arrays, and those from the next one on are the rest of the list.
-use mathlib.Core.Path.{_≡_, refl}
 use native.Mathlib.Omega.{arith}
-use Prim.Native.Nat.{_-_, _≤_}
-use lib.ListN.{length}
-use Rattle.cells.specs.Memory.{memoryOf}
-use Rattle.nodes.specs.Node.{read}
-use Rattle.updates.specs.SetChild.{withChild}
-use Rattle.updates.specs.Build.{childOf}
-use Rattle.removals.specs.RisingCell.{charactersFrom}
-use Rattle.removals.proofs.Stage.KeptSteps.{none-left, Walked, walk-start, walk-end, walk-seventh, walk-on, walk-more, found-none, found-within, found-kept, found-word, found-lost}
+use Rattle.nodes.proofs.Coded.{chain-facts, sparse-facts, split-facts}
+use Rattle.nodes.proofs.Steps.StepWays.{cell-length}
+use Rattle.removals.proofs.Stage.KeptNodes.{chain-there, sparse-there, split-inside, of-chain, of-sparse, of-split, of-other}
 use borrow.Author.Needs.{needs}
 use Rattle.removals.proofs.children.kept_children.Statement.{statement}
 use Rattle.removals.proofs.children.kept_children.Tie as tie
 
-abbrev Inv-loop : tie.InvT-loop
-Inv-loop layout block word x characters₀ words₀ count₀ from₀ characters words count from =
-    (count ≤ 6) × (from ≤ 256) × (length characters ≡ length characters₀) × (length words ≡ length words₀)
-    × Walked (withChild (childOf (read layout (memoryOf block) word)) x 0) (charactersFrom (withChild (childOf (read layout (memoryOf block) word)) x 0) 256 0) characters words count from
+pointer-of-requires : tie.Need-pointer-of-requires
+pointer-of-requires c κs = search needs
 
-abbrev μ-loop : tie.MeasureT-loop
-μ-loop layout block word x characters₀ words₀ count₀ from₀ characters words count from = 256 - from
+enum-known-named : tie.Need-enum-known-named
+enum-known-named c = search needs
 
-loop-holds : tie.Need-loop-holds Inv-loop μ-loop
-loop-holds c = (omega arith, omega arith, refl, refl, walk-start _ _ _)
+cell-requires : tie.Need-cell-requires
+cell-requires c κs = omega (arith, chain-facts _ _ _ (c .before .before .before .pointer-of .ensures) _ _ (c .before .named .given .1) .3)
 
-least-child-requires : tie.Need-least-child-requires Inv-loop μ-loop
-least-child-requires c κs = search needs
+chain-kept-requires : tie.Need-chain-kept-requires
+chain-kept-requires c κs =
+    let named = c .before .before .before .before .before .before .pointer-of .ensures in
+    let facts = chain-facts _ _ _ named _ _ (c .before .before .before .before .named .given .1) in
+    (cell-length _ _ _ (c .before .before .cell .ensures), omega (arith, facts .3), facts .2, chain-there _ _ _ (c .before .before .before .before .before .before .before .before .before .before .pre .1) _ named _ _ (c .before .before .before .before .named .given .1) _ (c .before .before .cell .ensures), search needs, search needs)
 
-enum-known-character : tie.Need-enum-known-character Inv-loop μ-loop
-enum-known-character c = search needs
+enum-known-named-2 : tie.Need-enum-known-named-2
+enum-known-named-2 c = search needs
 
-same-length : tie.Need-same-length Inv-loop μ-loop
+cell-requires-2 : tie.Need-cell-requires-2
+cell-requires-2 c κs = omega (arith, sparse-facts _ _ _ (c .before .before .before .pointer-of .ensures) _ (c .before .named2 .given .1) .2)
+
+sparse-kept-requires : tie.Need-sparse-kept-requires
+sparse-kept-requires c κs = (cell-length _ _ _ (c .before .before .cell2 .ensures), sparse-there _ _ _ (c .before .before .before .before .before .before .before .before .before .before .pre .1) _ (c .before .before .before .before .before .before .pointer-of .ensures) _ (c .before .before .before .before .named2 .given .1) _ (c .before .before .cell2 .ensures), search needs, search needs)
+
+enum-known-named-3 : tie.Need-enum-known-named-3
+enum-known-named-3 c = search needs
+
+split-kept-requires : tie.Need-split-kept-requires
+split-kept-requires c κs =
+    let named = c .before .before .before .before .before .pointer-of .ensures in
+    let facts = split-facts _ _ _ named _ (c .before .before .before .named3 .given .1) in
+    (omega (arith, facts .2), split-inside _ _ _ _ (omega (arith, facts .2)) (c .before .before .before .before .before .before .before .before .before .pre .0 .fits) (c .before .before .before .before .before .before .before .before .before .pre .1) _ named _ (c .before .before .before .named3 .given .1), search needs, search needs)
+
+same-length : tie.Need-same-length
 same-length c = search needs
 
-same-length-2 : tie.Need-same-length-2 Inv-loop μ-loop
+same-length-2 : tie.Need-same-length-2
 same-length-2 c = search needs
 
-returns : tie.Need-returns Inv-loop μ-loop
-returns c = walk-end _ _ _ _ _ _ (c .before .before .before .loop .inv .4) (c .before .before .before .loop .inv .0) (found-none _ _ _ _ (c .before .before .before .before .before .before .before .pre .1) (c .before .least-child .result) (c .before .least-child .ensures) _ (c .match .keys2))
+returns : tie.Need-returns
+returns c = of-chain _ _ _ _ (c .before .before .before .before .before .before .before .before .before .before .before .before .before .before .before .pre .1) _ (c .before .before .before .before .before .before .before .before .before .before .before .pointer-of .ensures) _ _ _ _ _ (c .before .before .before .before .before .before .before .before .before .named .given .1) _ (c .before .before .before .before .before .before .before .cell .ensures) (c .before .before .before .before .chain-kept .ensures)
 
-cast-from : tie.Need-cast-from Inv-loop μ-loop
-cast-from c = search needs
-
-add-from : tie.Need-add-from Inv-loop μ-loop
-add-from c = search needs
-
-same-length-3 : tie.Need-same-length-3 Inv-loop μ-loop
+same-length-3 : tie.Need-same-length-3
 same-length-3 c = search needs
 
-same-length-4 : tie.Need-same-length-4 Inv-loop μ-loop
+same-length-4 : tie.Need-same-length-4
 same-length-4 c = search needs
 
-returns-2 : tie.Need-returns-2 Inv-loop μ-loop
-returns-2 c = walk-seventh _ _ _ _ _ _ (c .before .before .before .before .before .before .before .loop .inv .4) _ _ (c .if2 .taken) (found-kept _ _ _ _ (c .before .before .before .before .before .before .before .before .before .before .before .pre .1) _ (c .before .before .before .before .before .least-child .ensures) _ _ (c .before .before .before .character .given .1) _ (c .before .before .before .before .before .before .before .loop .inv .1) (c .before .if1 .taken))
+returns-2 : tie.Need-returns-2
+returns-2 c = of-sparse _ _ _ _ (c .before .before .before .before .before .before .before .before .before .before .before .before .before .before .before .pre .1) _ (c .before .before .before .before .before .before .before .before .before .before .before .pointer-of .ensures) _ _ _ _ (c .before .before .before .before .before .before .before .before .before .named2 .given .1) _ (c .before .before .before .before .before .before .before .cell2 .ensures) (c .before .before .before .before .sparse-kept .ensures)
 
-slice-write-characters : tie.Need-slice-write-characters Inv-loop μ-loop
-slice-write-characters c = search needs
-
-mul-words : tie.Need-mul-words Inv-loop μ-loop
-mul-words c = search needs
-
-slice-write-words : tie.Need-slice-write-words Inv-loop μ-loop
-slice-write-words c = search needs
-
-add-count : tie.Need-add-count Inv-loop μ-loop
-add-count c = search needs
-
-loop-less : tie.Need-loop-less Inv-loop μ-loop
-loop-less c = let inside = found-within _ _ _ _ (c .before .before .before .before .before .before .before .before .before .before .before .pre .1) _ (c .before .before .before .before .before .least-child .ensures) _ _ (c .before .before .before .character .given .1) (c .before .before .before .before .before .before .before .loop .inv .1) in omega (arith, inside .0, inside .1)
-
-loop-again : tie.Need-loop-again Inv-loop μ-loop
-loop-again c =
-    let turn = c .before .before .before .before .before .before .before .loop in
-    let inside = found-within _ _ _ _ (c .before .before .before .before .before .before .before .before .before .before .before .pre .1) _ (c .before .before .before .before .before .least-child .ensures) _ _ (c .before .before .before .character .given .1) (turn .inv .1) in (
-      omega arith,
-      omega (arith, inside .1),
-      search needs,
-      search needs,
-      walk-more _ _ _ _ _ _ (turn .inv .4) _ _ _ (found-kept _ _ _ _ (c .before .before .before .before .before .before .before .before .before .before .before .pre .1) _ (c .before .before .before .before .before .least-child .ensures) _ _ (c .before .before .before .character .given .1) _ (turn .inv .1) (c .before .if1 .taken)) (found-word _ _ _ _ (c .before .before .before .before .before .before .before .before .before .before .before .pre .1) _ (c .before .before .before .before .before .least-child .ensures) _ _ (c .before .before .before .character .given .1) _ (c .before .if1 .taken)) (omega arith) (omega arith),
-    )
-
-loop-less-2 : tie.Need-loop-less-2 Inv-loop μ-loop
-loop-less-2 c = let inside = found-within _ _ _ _ (c .before .before .before .before .before .before .before .before .before .before .pre .1) _ (c .before .before .before .before .least-child .ensures) _ _ (c .before .before .character .given .1) (c .before .before .before .before .before .before .loop .inv .1) in omega (arith, inside .0, inside .1)
-
-loop-again-2 : tie.Need-loop-again-2 Inv-loop μ-loop
-loop-again-2 c =
-    let turn = c .before .before .before .before .before .before .loop in
-    let inside = found-within _ _ _ _ (c .before .before .before .before .before .before .before .before .before .before .pre .1) _ (c .before .before .before .before .least-child .ensures) _ _ (c .before .before .character .given .1) (turn .inv .1) in (
-      omega arith,
-      omega (arith, inside .1),
-      search needs,
-      search needs,
-      walk-on _ _ _ _ _ _ (turn .inv .4) _ (found-lost _ _ _ _ (c .before .before .before .before .before .before .before .before .before .before .pre .1) _ (c .before .before .before .before .least-child .ensures) _ _ (c .before .before .character .given .1) _ (turn .inv .1) (c .if1 .left)),
-    )
-
-same-length-5 : tie.Need-same-length-5 Inv-loop μ-loop
+same-length-5 : tie.Need-same-length-5
 same-length-5 c = search needs
 
-same-length-6 : tie.Need-same-length-6 Inv-loop μ-loop
+same-length-6 : tie.Need-same-length-6
 same-length-6 c = search needs
 
-returns-3 : tie.Need-returns-3 Inv-loop μ-loop
-returns-3 c = walk-end _ _ _ _ _ _ (c .before .loop .inv .4) (c .before .loop .inv .0) (none-left _ _ _ (omega arith))
+returns-3 : tie.Need-returns-3
+returns-3 c = of-split _ _ _ _ (c .before .before .before .before .before .before .before .before .before .before .before .before .before .before .pre .1) _ (c .before .before .before .before .before .before .before .before .before .before .pointer-of .ensures) _ _ _ _ (c .before .before .before .before .before .before .before .before .named3 .given .1) (c .before .before .before .before .split-kept .ensures)
+
+returns-4 : tie.Need-returns-4
+returns-4 c = of-other _ _ _ _ (c .before .pointer-of .result) (c .before .pointer-of .ensures) _ _ (c .match .keys4)
 
 pub kept-children-spec : {M : Type 1} → statement M
 kept-children-spec =
     tie.close
     (tie.spec
-    Inv-loop
-    μ-loop
-    loop-holds
-    least-child-requires
-    enum-known-character
+    pointer-of-requires
+    enum-known-named
+    cell-requires
+    chain-kept-requires
+    enum-known-named-2
+    cell-requires-2
+    sparse-kept-requires
+    enum-known-named-3
+    split-kept-requires
     same-length
     same-length-2
     returns
-    cast-from
-    add-from
     same-length-3
     same-length-4
     returns-2
-    slice-write-characters
-    mul-words
-    slice-write-words
-    add-count
-    loop-less
-    loop-again
-    loop-less-2
-    loop-again-2
     same-length-5
     same-length-6
-    returns-3)
+    returns-3
+    returns-4)

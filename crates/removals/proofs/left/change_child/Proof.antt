@@ -12,7 +12,7 @@ returns : tie.Need-returns
 returns c = c .lose-child .ensures ∙ sym (change-none _ _ _ _ _ _ (c .before .before .if1 .taken))
 
 set-child-requires : tie.Need-set-child-requires
-set-child-requires c κs = (search needs, search needs, (c .before .before .before .before .pre .2 .node, c .before .before .before .before .pre .2 .reads), fits-as (change-some _ _ _ _ _ _ (c .before .if1 .left)) (c .before .before .before .before .pre .3))
+set-child-requires c κs = (search needs, search needs, c .before .before .before .before .pre .2, fits-as (change-some _ _ _ _ _ _ (c .before .if1 .left)) (c .before .before .before .before .pre .3))
 
 returns-2 : tie.Need-returns-2
 returns-2 c = c .set-child .ensures ∙ sym (change-some _ _ _ _ _ _ (c .before .before .if1 .left))

@@ -1,6 +1,7 @@
 -- One node: its word without the value, the child changed or lost, and the value put back.
 use mathlib.Core.Path.{_∙_}
-use Rattle.removals.proofs.Stage.LeftDescent.{bare-word, change-fits, left-is, left-fits}
+use Rattle.updates.proofs.Stage.StagedDescent.{bare-read}
+use Rattle.removals.proofs.Stage.LeftDescent.{change-fits, left-is, left-fits}
 use borrow.Author.Needs.{needs}
 use Rattle.removals.proofs.left.left_copy.Statement.{statement}
 use Rattle.removals.proofs.left.left_copy.Tie as tie
@@ -9,7 +10,7 @@ word-aside-requires : tie.Need-word-aside-requires
 word-aside-requires c κs = search needs
 
 change-child-requires : tie.Need-change-child-requires
-change-child-requires c κs = (search needs, search needs, bare-word _ _ _ (c .before .before .before .pre .2) _ (c .before .word-aside .ensures), change-fits _ _ _ _ _ _ _ (c .before .word-aside .ensures) (c .before .before .before .pre .3))
+change-child-requires c κs = (search needs, search needs, bare-read _ _ _ (c .before .before .before .pre .2) _ (c .before .word-aside .ensures), change-fits _ _ _ _ _ _ _ (c .before .word-aside .ensures) (c .before .before .before .pre .3))
 
 value-at-requires : tie.Need-value-at-requires
 value-at-requires c κs = search needs

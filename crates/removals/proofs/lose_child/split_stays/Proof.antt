@@ -17,7 +17,7 @@ split-left-requires : tie.Need-split-left-requires
 split-left-requires c κs =
     let named = c .before .before .before .before .pointer-of .ensures in
     let facts = split-facts _ _ _ named _ (c .before .before .named .given .1) in
-    let head = read-split _ _ _ _ (c .before .before .before .before .before .before .pre .2 .reads) _ (coded-split _ _ _ named _ (c .before .before .named .given .1)) in
+    let head = read-split _ _ _ _ (c .before .before .before .before .before .before .pre .2 .1) _ (coded-split _ _ _ named _ (c .before .before .named .given .1)) in
     (search needs, search needs, facts .2, (head .0, head .2), fits-as (stays-split _ _ _ _ _ _ _ named _ (c .before .before .named .given .1)) (c .before .before .before .before .before .before .pre .3))
 
 returns : tie.Need-returns

@@ -1,6 +1,5 @@
 -- The characters written so far, and those left to write, make up the cell.
-use native.Mathlib.Omega.{arith}
-use Prim.Native.Nat.{_+_, _-_, _≤_}
+use Prim.Native.Nat.{_-_}
 use lib.ListN.{take, drop}
 use Rattle.cells.specs.Memory.{memoryOf}
 use Rattle.staging.proofs.CellPuts.{Filling}
