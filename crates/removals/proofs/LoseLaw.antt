@@ -4,7 +4,7 @@ use mathlib.Core.Logic.{_≢_, _⊎_, inl, inr}
 use mathlib.Core.Bool.{Bool, true, false, cond}
 use mathlib.Core.List.{List, [], _∷_}
 use mathlib.Core.Option.{Option, none, some}
-use Prim.Native.Nat.{ℕ, zero, suc, _+_, _*_, _/_, _%_, _≤_, _<_}
+use Prim.Native.Nat.{ℕ, zero, suc, _+_, _%_, _≤_, _<_}
 use native.Mathlib.Decide.{ℕ-discrete, decLt}
 use native.Mathlib.Omega.{arith}
 use lib.Dec.{eqb, leb}
@@ -14,7 +14,6 @@ use Rattle.cells.specs.Bytes.{IsBytes}
 use Rattle.cells.specs.Memory.{Memory}
 use Rattle.cells.specs.Occurrences.{occurrences}
 use Rattle.cells.proofs.Choice.{never}
-use Rattle.cells.proofs.Words.{word-bound}
 use Rattle.cells.proofs.Occurrences.{occurrences-none, occurrences-here, occurrences-cons-other, Agree}
 use Rattle.order_words.specs.Order.{rising}
 use Rattle.order_words.proofs.Valid.{at-most-six}
@@ -23,7 +22,7 @@ use Rattle.nodes.specs.Pointer.{Pointer, pointer}
 use Rattle.nodes.specs.Pointer.Pointer.{nothing, leaf, chain, split, sparse, prefix, invalid}
 use Rattle.nodes.specs.Chain.{chainCharacter, chainChild}
 use Rattle.nodes.specs.Sparse.{sparseDigits, sparseCount, sparseCharacter, sparseWord, childFrom, sparseChild}
-use Rattle.nodes.specs.Split.{splitCell, wordBelow, splitChild}
+use Rattle.nodes.specs.Split.{splitCell, splitChild}
 use Rattle.nodes.specs.Node.{Node, childless, oneChild, plain, readAt}
 use Rattle.nodes.proofs.Pointers.{names}
 use Rattle.nodes.proofs.Frame.{split-cell, sparse-cut, split-cut, prefix-cut}

@@ -10,7 +10,6 @@ use lib.ListN.{length, getD}
 use Rattle.cells.specs.Bytes.{IsBytes}
 use Rattle.cells.specs.Word.{withWord}
 use Rattle.cells.specs.Memory.{Memory}
-use Rattle.cells.proofs.Words.{bytes-tail}
 use Rattle.cells.proofs.Choice.{never}
 use Rattle.cells.proofs.Occurrences.{occurrences-none, occurrences-later, Agree, agree-less, agree-head, agree-tail}
 use Rattle.nodes.specs.Layout.{Layout, cellLimit}
@@ -23,8 +22,6 @@ use Rattle.nodes.specs.Value.{pointerValue}
 use Rattle.nodes.proofs.Gather.{gather-at}
 use Rattle.nodes.proofs.Frame.{end-agree, mid-agree, below-same, head-is, mid-ends, split-cut, prefix-cut, read-is, plain-read, read-zero, plain-frame}
 use Rattle.trees.specs.Tree.{tree}
-use Rattle.trees.proofs.Tree.{tree-cut, tree-below}
-use Rattle.trees.proofs.Frame.{footprint-in, node-frame}
 use Rattle.staging.specs.NewCells.{blank, chainCell, headCopy, withWords, withOrder}
 use Rattle.updates.specs.Built.{Built, unowned, allocate}
 use Rattle.updates.specs.SplitBuild.{branchRow}

@@ -8,19 +8,16 @@ use native.Mathlib.Decide.{ℕ-discrete, decLt}
 use native.Mathlib.Omega.{arith}
 use Prim.Native.Nat.{ℕ, zero, suc, _+_, _-_, _*_, _/_, _%_, _≤_, _<_}
 use lib.Dec.{leb}
-use lib.ListN.{length, getD, set, length-set}
-use lib.Seq.{getD-set-other}
+use lib.ListN.{length}
 use borrow.Author.Tests.{eq-eqb, ne-eqb, leb-true}
 use Rattle.cells.specs.Bytes.{IsBytes}
 use Rattle.cells.specs.Word.{withWord}
 use Rattle.cells.specs.Memory.{Memory}
 use Rattle.cells.proofs.Choice.{never}
-use Rattle.cells.proofs.Words.{bytes-tail, byte-other, word-same, zeros-byte}
-use Rattle.order_words.specs.Digits.{digits, encode, orderDigits}
+use Rattle.cells.proofs.Words.{bytes-tail, word-same}
 use Rattle.nodes.specs.Layout.{Layout}
 use Rattle.nodes.specs.Pointer.{Pointer, pointer, leafWord}
 use Rattle.nodes.specs.Pointer.Pointer.{leaf}
-use Rattle.nodes.specs.Sparse.{sparseDigits, sparseCount}
 use Rattle.nodes.specs.Split.{splitCell, headWord, wordBelow}
 use Rattle.nodes.specs.Node.{Node, childless, plain, readAt, read}
 use Rattle.nodes.specs.Value.{pointerValue}
@@ -28,8 +25,8 @@ use Rattle.nodes.proofs.Pointers.{pointer-leaf}
 use Rattle.nodes.proofs.Frame.{read-is}
 use Rattle.trees.specs.Tree.{tree}
 use Rattle.trees.proofs.Tree.{tree-cut, tree-below}
-use Rattle.staging.specs.NewCells.{blank, chainCell, headCopy, withWords}
-use Rattle.staging.proofs.CellBytes.{blank-cell, words-cell, headCopy-cell}
+use Rattle.staging.specs.NewCells.{chainCell, headCopy}
+use Rattle.staging.proofs.CellBytes.{headCopy-cell}
 use Rattle.staging.proofs.CellZeros.{chain-zero, head-copy-zero}
 use Rattle.updates.specs.Built.{Built, unowned, allocate}
 use Rattle.updates.specs.SplitBuild.{Row, branchRow}
@@ -38,12 +35,11 @@ use Rattle.updates.specs.Build.{wordAside, childOf, pathCopy}
 use Rattle.updates.specs.Zeros.{Leads, EachClean, AllClean, CleanBuild}
 use Rattle.updates.specs.Zeros.Use.{chainFrom, sparseUse, headUse, midUse, endUse}
 use Rattle.updates.proofs.Count.{Numbering}
-use Rattle.updates.proofs.SparseNodes.SparseCells.{order-other, order-read}
 use Rattle.updates.proofs.PrefixNodes.Aside.{child-of, aside}
 use Rattle.updates.proofs.Zeros.Known.{chain-clean, sparse-clean, head-clean, Either, known-else, CleanBuilt, allocate-each}
 use Rattle.updates.proofs.Zeros.SplitZeros.{Made, mid-branch, end-branch, branch-each}
 use Rattle.updates.proofs.BuildZeros.{setChild-clean, putBack-clean}
-use Rattle.removals.specs.RisingCell.{charactersFrom, withCharacters, risingOrder, risingCell}
+use Rattle.removals.specs.RisingCell.{charactersFrom, risingCell}
 use Rattle.removals.specs.SplitLeft.{splitLeft}
 use Rattle.removals.specs.LoseChild.{ofKept, splitStays, loseChild}
 use Rattle.removals.specs.Removal.{changeChild, putBackLeft, leftCopy, removedAt, removal}
