@@ -5,9 +5,8 @@ use mathlib.Core.Bool.{Bool, true, false}
 use Prim.Native.Nat.{ℕ, _≤_}
 use native.Mathlib.Omega.{arith}
 use lib.Dec.{leb}
-use lib.ListN.{length, getD, take}
+use lib.ListN.{length, take}
 use Rattle.cells.specs.Memory.{memoryOf}
-use Rattle.cells.specs.Writes.{written}
 use Rattle.nodes.specs.Layout.{Layout}
 use Rattle.staging.specs.Numbering.{numberFrom}
 use Rattle.staging.specs.Code.Stage.{stageCells}
@@ -16,19 +15,18 @@ use Rattle.updates.specs.Build.{build}
 use Rattle.updates.specs.Code.Staged.{builtOf}
 use Rattle.updates.proofs.Bound.{build-bound}
 use Rattle.updates.proofs.Count.{count-needed}
-use Rattle.updates.proofs.Commit.{numbering-free}
 use Rattle.updates.proofs.Taken.{build-first}
+use Rattle.blocks.specs.Code.Fits.{Fits}
 use Rattle.blocks.specs.Trailer.{layoutOf, rootWord}
 use Rattle.blocks.specs.Refusal.{badNewKey, badValue}
-use Rattle.blocks.proofs.Trailer.{sized}
 use Rattle.store.specs.Free.{free}
 use Rattle.store.specs.Insert.{cellsToInsert, blockBuild, insert}
-use Rattle.store.specs.Committed.{numbering, commitWrites}
-use Rattle.store.specs.Code.Changeable.{Changeable, InStage}
+use Rattle.store.specs.Committed.{numbering}
+use Rattle.store.specs.Code.Changeable.{Changeable, InStage, Inside, stagedOutcome}
 use Rattle.store.proofs.Free.{free-usable}
-use Rattle.store.proofs.ChangeCode.{changeable-fits, build-staged, made-count, build-lacks, build-fits, build-done}
+use Rattle.store.proofs.ChangeCode.{changeable-fits, build-staged, commit-ready, staged-outcome}
 use Rattle.store.proofs.InsertCall.{value-fits, insert-number, insert-done, insert-refused-as, insert-zero, insert-seven}
-use Rattle.store.proofs.CountedCall.{refusedCall}
+use Rattle.store.proofs.TakenZeros.{block-numbering}
 
 module _ (layout : Layout) (b numbers : List ℕ) (count : ℕ) (key : List ℕ) (p : Changeable layout b numbers count key) (value : ℕ) where
   -- the stage has room for the build
@@ -56,34 +54,24 @@ module _ (layout : Layout) (b numbers : List ℕ) (count : ℕ) (key : List ℕ)
       build-staged layout b numbers count key p (blockBuild b key value) build-most made stage (built ∙ built-is root root-is)
 
   module _ (made : BuildState) (stage : List ℕ) (fits : Bool) (s : InStage layout b (blockBuild b key value) made stage fits) where
-    pub made-most : made .count ≤ stageCells
-    made-most = omega (arith, made-count layout b numbers count key p (blockBuild b key value) made stage fits s, build-most)
+    pub insertion-ready : Fits layout (length b) × (made .count ≤ stageCells) × (fits ≡ true → Inside numbers (made .count) (length b))
+    insertion-ready = commit-ready layout b numbers count key p (blockBuild b key value) made stage fits s build-most
 
     module _ (good-key : badNewKey key ≡ false) (good-value : badValue value ≡ false) where
       -- the build has as many cells as are needed
       needed : length (blockBuild b key value .cells) ≡ cellsToInsert b key
       unfolding blockBuild
       needed =
-          let z = sized b (p .size) in
-          count-needed (layoutOf b) (numbering b)
-          (numbering-free (layoutOf b) (free (layoutOf b) b) (λ c h. free-usable (layoutOf b) b c h) (omega (arith, z .least)) (z .most))
-          (memoryOf b) (rootWord (layoutOf b) b) key value (value-fits value good-value)
+          count-needed (layoutOf b) (numbering b) (block-numbering b (p .size)) (memoryOf b) (rootWord (layoutOf b) b) key value (value-fits value good-value)
 
-      -- more cells than are free
-      pub insert-lacks : fits ≡ false → insert b key value ≡ refusedCall 7 b
-      insert-lacks lacks =
-          let more = build-lacks layout b numbers count key p (blockBuild b key value) made stage fits s lacks in
+      pub insert-outcome : insert b key value ≡ stagedOutcome layout b numbers made stage fits
+      insert-outcome =
+          staged-outcome layout b numbers count key p (blockBuild b key value) made stage fits s build-most (insert b key value)
+          (λ more.
           insert-refused-as b key value 7
           (insert-seven b key value .given
           (record { size = p .size; valid = p .valid; may = record { good-key = good-key; good-value = good-value }; more = omega (arith, more, needed) }))
-          (λ e. omega arith)
-
-      -- enough cells are free
-      pub insert-takes : fits ≡ true → (after : List ℕ) → after ≡ written b (commitWrites layout (λ i. getD numbers i 0) (builtOf made stage))
-          → insert b key value ≡ record { answer = 0; count = made .count; block = after }
-      insert-takes enough after is =
-          let within = build-fits layout b numbers count key p (blockBuild b key value) made stage fits s enough in
-          let done = insert-zero b key value .given
-          (record { size = p .size; valid = p .valid; may = record { good-key = good-key; good-value = good-value }; enough = omega (arith, within, needed) }) in
-          insert-done b key value (sym (insert-number b key value) ∙ done)
-          ∙ build-done layout b numbers count key p (blockBuild b key value) made stage fits s made-most enough after is
+          (λ e. omega arith))
+          (λ enough.
+          insert-done b key value (sym (insert-number b key value) ∙ insert-zero b key value .given
+          (record { size = p .size; valid = p .valid; may = record { good-key = good-key; good-value = good-value }; enough = omega (arith, enough, needed) })))

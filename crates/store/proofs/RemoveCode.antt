@@ -7,9 +7,8 @@ use mathlib.Core.Option.{none}
 use Prim.Native.Nat.{ℕ, _≤_}
 use native.Mathlib.Omega.{arith}
 use lib.Dec.{leb}
-use lib.ListN.{length, getD, take}
+use lib.ListN.{length, take}
 use Rattle.cells.specs.Memory.{memoryOf}
-use Rattle.cells.specs.Writes.{written}
 use Rattle.nodes.specs.Layout.{Layout}
 use Rattle.staging.specs.Numbering.{numberFrom}
 use Rattle.staging.specs.Code.Stage.{stageCells}
@@ -18,16 +17,16 @@ use Rattle.updates.specs.Code.Staged.{builtOf}
 use Rattle.removals.specs.Removal.{removal}
 use Rattle.removals.proofs.RemovalCount.{removal-needed, removal-first}
 use Rattle.removals.proofs.RemovalBound.{removal-bound}
+use Rattle.blocks.specs.Code.Fits.{Fits}
 use Rattle.blocks.specs.Trailer.{layoutOf, rootWord}
 use Rattle.blocks.specs.Refusal.{badKey}
 use Rattle.blocks.specs.Read.{shown}
 use Rattle.store.specs.Free.{free}
 use Rattle.store.specs.Remove.{cellsToRemove, blockRemoval, remove}
-use Rattle.store.specs.Committed.{numbering, commitWrites}
-use Rattle.store.specs.Code.Changeable.{Changeable, InStage}
+use Rattle.store.specs.Committed.{numbering}
+use Rattle.store.specs.Code.Changeable.{Changeable, InStage, Inside, stagedOutcome}
 use Rattle.store.proofs.Free.{free-usable}
-use Rattle.store.proofs.CountedCall.{refusedCall}
-use Rattle.store.proofs.ChangeCode.{changeable-fits, build-staged, made-count, build-lacks, build-fits, build-done}
+use Rattle.store.proofs.ChangeCode.{changeable-fits, build-staged, commit-ready, staged-outcome}
 use Rattle.store.proofs.TakenZeros.{block-numbering}
 use Rattle.store.proofs.RemoveCall.{remove-number, remove-done, remove-refused-as, remove-zero, remove-seven}
 
@@ -56,30 +55,22 @@ module _ (layout : Layout) (b numbers : List ℕ) (count : ℕ) (key : List ℕ)
       build-staged layout b numbers count key p (blockRemoval b key) removal-most made stage (built ∙ removal-is root root-is)
 
   module _ (made : BuildState) (stage : List ℕ) (fits : Bool) (s : InStage layout b (blockRemoval b key) made stage fits) where
-    pub made-most : made .count ≤ stageCells
-    made-most = omega (arith, made-count layout b numbers count key p (blockRemoval b key) made stage fits s, removal-most)
+    pub removal-ready : Fits layout (length b) × (made .count ≤ stageCells) × (fits ≡ true → Inside numbers (made .count) (length b))
+    removal-ready = commit-ready layout b numbers count key p (blockRemoval b key) made stage fits s removal-most
 
     -- the removal has as many cells as are needed
     needed : length (blockRemoval b key .cells) ≡ cellsToRemove b key
     unfolding blockRemoval
     needed = removal-needed (layoutOf b) (numbering b) (block-numbering b (p .size)) (memoryOf b) (rootWord (layoutOf b) b) key
 
-    module _ (good-key : badKey key ≡ false) (there : shown b key ≢ none) where
-      -- more cells than are free
-      pub remove-lacks : fits ≡ false → remove b key ≡ refusedCall 7 b
-      remove-lacks lacks =
-          let more = build-lacks layout b numbers count key p (blockRemoval b key) made stage fits s lacks in
-          remove-refused-as b key 7
-          (remove-seven b key .given
-          (record { size = p .size; valid = p .valid; may = record { good-key = good-key; there = there }; more = omega (arith, more, needed) }))
-          (λ e. omega arith)
-
-      -- enough cells are free
-      pub remove-takes : fits ≡ true → (after : List ℕ) → after ≡ written b (commitWrites layout (λ i. getD numbers i 0) (builtOf made stage))
-          → remove b key ≡ record { answer = 0; count = made .count; block = after }
-      remove-takes enough after is =
-          let within = build-fits layout b numbers count key p (blockRemoval b key) made stage fits s enough in
-          let done = remove-zero b key .given
-          (record { size = p .size; valid = p .valid; may = record { good-key = good-key; there = there }; enough = omega (arith, within, needed) }) in
-          remove-done b key (sym (remove-number b key) ∙ done)
-          ∙ build-done layout b numbers count key p (blockRemoval b key) made stage fits s made-most enough after is
+    pub remove-outcome : badKey key ≡ false → shown b key ≢ none → remove b key ≡ stagedOutcome layout b numbers made stage fits
+    remove-outcome good-key there =
+        staged-outcome layout b numbers count key p (blockRemoval b key) made stage fits s removal-most (remove b key)
+        (λ more.
+        remove-refused-as b key 7
+        (remove-seven b key .given
+        (record { size = p .size; valid = p .valid; may = record { good-key = good-key; there = there }; more = omega (arith, more, needed) }))
+        (λ e. omega arith))
+        (λ enough.
+        remove-done b key (sym (remove-number b key) ∙ remove-zero b key .given
+        (record { size = p .size; valid = p .valid; may = record { good-key = good-key; there = there }; enough = omega (arith, enough, needed) })))

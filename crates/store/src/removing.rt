@@ -9,9 +9,9 @@ ghost use Rattle.blocks.specs.Refusal.{badKey};
 ghost use Rattle.blocks.specs.Trailer.{rootWord};
 ghost use Rattle.store.specs.Remove.{blockRemoval, remove};
 ghost use Rattle.store.specs.Code.Changeable.{Changeable, InStage};
-use crate::committing::commit;
+use crate::committing::Staged;
+use crate::committing::commit_staged;
 use crate::free_cells::free_list;
-use crate::inserting::Staged;
 use blocks::answer::CountAnswer;
 use blocks::answer::Refusal;
 use blocks::key::is_bad_key;
@@ -57,13 +57,7 @@ fn remove_valid(
 {
     let mut stage = [0u8; STAGE_SIZE];
     let staged = stage_removal(layout, block, numbers, free, &mut stage, key, root);
-    if !staged.fits {
-        return CountAnswer::Refused(Refusal::NoRoom);
-    }
-    let made = staged.made;
-    let count = made.count;
-    commit(layout, block, &stage, numbers, made);
-    CountAnswer::Done(count as u32)
+    commit_staged(layout, block, &stage, numbers, staged)
 }
 
 // Removes a key from a block and tells how many cells that allocated.
