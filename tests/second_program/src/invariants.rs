@@ -230,7 +230,7 @@ fn path_cells(block: &[u8], key: &[u8]) -> Vec<usize> {
     cells
 }
 
-/// Whether a removal left of the key's end and of each node on its path what the papers ask for, told from the bytes.
+/// Whether a removal left of the key's end and of each node on its path what the specification asks for, told from the bytes.
 fn kept_shapes(before: &[u8], after: &[u8], key: &[u8]) -> bool {
     let (end, _) = follow(before, key);
     let linked = if end >> 31 == 1 { 0 } else { word_at(before, (end / 32) as usize * CELL + 0x1C) };
