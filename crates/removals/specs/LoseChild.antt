@@ -2,7 +2,7 @@
 -- chain, none makes NONE."
 use mathlib.Core.Path.{_≡_, refl}
 use mathlib.Core.Bool.{cond}
-use mathlib.Core.List.{List, [], _∷_, _++_, map}
+use mathlib.Core.List.{List, [], _∷_, _++_}
 use mathlib.Core.Option.{Option, none, some, bind}
 use Prim.Native.Nat.{ℕ, _+_}
 use lib.Dec.{leb}
@@ -28,7 +28,7 @@ use Rattle.updates.specs.SetChild.{withChild}
 use Rattle.updates.specs.Build.{childOf}
 use Rattle.updates.specs.OldChild.{listed}
 use Rattle.removals.specs.RisingCell.{charactersFrom, withCharacters, risingOrder, risingCell}
-use Rattle.removals.specs.SplitLeft.{splitLeft, nineChildren}
+use Rattle.removals.specs.SplitLeft.{splitLeft}
 
 -- a node of the children that are kept, by how many they are; where they are more than six it is `stays`
 unfoldable pub ofKept : (ℕ → ℕ) → (ℕ → ℕ) → Built → List ℕ → List (List ℕ) → Built

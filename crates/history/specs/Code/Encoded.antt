@@ -63,14 +63,27 @@ stopped (suc room) bytes =
     let later = following Stop.NoCall (decodeCall bytes) (λ d. stopped room (drop (d .taken) bytes)) in
     cond (eqb (length bytes) 0) Stop.AtEnd later
 
--- computed: 41 with 0, a snapshot in slot 1, then a byte that is no tag; with room for one answer; and the bytes used up
+-- computed: 41 with 0, a snapshot in slot 1, the removal of 41 and of no key at all; then a byte that is no tag, or a removal cut short
 abbrev sample : List ℕ
-sample = 1 ∷ 1 ∷ 0x41 ∷ 0 ∷ 0 ∷ 0 ∷ 0 ∷ 2 ∷ 0 ∷ 0 ∷ 0 ∷ 1 ∷ []
+sample = 1 ∷ 1 ∷ 0x41 ∷ 0 ∷ 0 ∷ 0 ∷ 0 ∷ 2 ∷ 0 ∷ 0 ∷ 0 ∷ 1 ∷ 5 ∷ 1 ∷ 0x41 ∷ 5 ∷ 0 ∷ []
 
-pub sample-calls : decoded 4 (sample ++ 9 ∷ []) ≡ inserting (0x41 ∷ []) 0 ∷ snapshotting 1 ∷ []
-unfolding wordAt decodeInsert decodeSlot decodeCall following decoded
+abbrev cutShort : List ℕ
+cutShort = sample ++ 5 ∷ 2 ∷ 0x42 ∷ []
+
+abbrev sampleCalls : List Call
+sampleCalls = inserting (0x41 ∷ []) 0 ∷ snapshotting 1 ∷ removing (0x41 ∷ []) ∷ removing [] ∷ []
+
+pub sample-calls :
+    _≡_ {A = List (List Call)}
+    (decoded 6 (sample ++ 9 ∷ []) ∷ decoded 6 cutShort ∷ decoded 6 (cutShort ++ 0x43 ∷ []) ∷ [])
+    (sampleCalls ∷ sampleCalls ∷ (sampleCalls ++ removing (0x42 ∷ 0x43 ∷ []) ∷ []) ∷ [])
+unfolding wordAt decodeInsert decodeRemove decodeSlot decodeCall following decoded
 sample-calls = refl
 
-pub sample-stops : _≡_ {A = List Stop} (stopped 4 (sample ++ 9 ∷ []) ∷ stopped 1 sample ∷ stopped 2 sample ∷ []) (Stop.NoCall ∷ Stop.Full ∷ Stop.AtEnd ∷ [])
-unfolding wordAt decodeInsert decodeSlot decodeCall following decoded stopped
+-- why each run stops; with room for three answers; and the bytes used up
+pub sample-stops :
+    _≡_ {A = List Stop}
+    (stopped 6 (sample ++ 9 ∷ []) ∷ stopped 6 cutShort ∷ stopped 3 sample ∷ stopped 4 sample ∷ [])
+    (Stop.NoCall ∷ Stop.NoCall ∷ Stop.Full ∷ Stop.AtEnd ∷ [])
+unfolding wordAt decodeInsert decodeRemove decodeSlot decodeCall following decoded stopped
 sample-stops = refl
