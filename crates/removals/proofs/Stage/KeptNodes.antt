@@ -19,6 +19,7 @@ use Rattle.nodes.specs.Split.{headWord, wordBelow, splitChild}
 use Rattle.nodes.specs.Node.{Node, oneChild, chainNode, plain, read}
 use Rattle.nodes.specs.Code.Coded.{pointerOf}
 use Rattle.nodes.specs.declared.pointer.Pointer.the-variants.{Nothing, Leaf, Chain, Split, Sparse, Prefix, Invalid}
+use Rattle.nodes.specs.declared.pointer.Pointer.{Pointer as CodedPointer}
 use Rattle.nodes.proofs.Chain.{one-child-here, one-child-other}
 use Rattle.nodes.proofs.Coded.{coded-chain, coded-sparse, coded-split}
 use Rattle.nodes.proofs.Frame.{below-zero}

@@ -14,6 +14,7 @@ use Rattle.nodes.specs.Split.{splitCell}
 use Rattle.nodes.specs.Node.{plain}
 use Rattle.nodes.specs.Code.Coded.{pointerOf}
 use Rattle.nodes.specs.declared.pointer.Pointer.the-variants.{Split}
+use Rattle.nodes.specs.declared.pointer.Pointer.{Pointer as CodedPointer}
 use Rattle.nodes.proofs.Steps.Rest.{Among, rest-of-split}
 use Rattle.staging.specs.NewCells.{chainCell}
 use Rattle.staging.specs.Code.Stage.{stageCells, staged, Put, allocated}
