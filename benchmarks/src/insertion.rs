@@ -5,32 +5,37 @@ use crate::validation::Reached;
 use crate::walk::{after_chain, child_of};
 
 /// The bytes of one cell.
-type Image = [u8; CELL];
+pub type Image = [u8; CELL];
 
 /// Builds the tree with the key entered and writes it; nothing where it takes more cells than are free.
 pub fn insert(block: &mut [u8], reached: &Reached, key: &[u8], value: u32) -> Option<u32> {
-    let trailer = block.len() - CELL;
     let mut stage = Stage { block, reached, next: 1, cells: Vec::new() };
     let root = stage.entered(root_of(block), key, value)?;
     let cells = stage.cells;
-    for (cell, image) in &cells {
-        block[cell * CELL..][..CELL].copy_from_slice(image);
-    }
-    put_word(block, trailer, root);
-    Some(cells.len() as u32)
+    Some(write(block, &cells, root))
 }
 
-/// The cells that an insertion has taken so far, in the order taken; the block stays as it is.
-struct Stage<'a> {
-    block: &'a [u8],
-    reached: &'a Reached,
-    next: usize,
-    cells: Vec<(usize, Image)>,
+/// Writes the cells that were taken and the new root, and counts the cells.
+pub fn write(block: &mut [u8], cells: &[(usize, Image)], root: u32) -> u32 {
+    for (cell, image) in cells {
+        block[cell * CELL..][..CELL].copy_from_slice(image);
+    }
+    let trailer = block.len() - CELL;
+    put_word(block, trailer, root);
+    cells.len() as u32
+}
+
+/// The cells that a call has taken so far, in the order taken; the block stays as it is.
+pub struct Stage<'a> {
+    pub block: &'a [u8],
+    pub reached: &'a Reached,
+    pub next: usize,
+    pub cells: Vec<(usize, Image)>,
 }
 
 impl Stage<'_> {
     /// Takes the lowest free cell for an image and gives the pointer to it at a kind.
-    fn take(&mut self, image: Image, kind: usize) -> Option<u32> {
+    pub fn take(&mut self, image: Image, kind: usize) -> Option<u32> {
         let trailer = self.block.len() / CELL - 1;
         let cell = (self.next..trailer).find(|cell| self.reached[*cell] == 0)?;
         self.next = cell + 1;
@@ -39,7 +44,7 @@ impl Stage<'_> {
     }
 
     /// The image of the cell that a pointer names.
-    fn image(&self, word: u32) -> Image {
+    pub fn image(&self, word: u32) -> Image {
         let mut image = [0; CELL];
         image.copy_from_slice(&self.block[cell_of(word) * CELL..][..CELL]);
         image
@@ -66,7 +71,7 @@ impl Stage<'_> {
     }
 
     /// A node's own value, if it has one, and the node without it.
-    fn set_aside(&self, word: u32) -> (Option<u32>, u32) {
+    pub fn set_aside(&self, word: u32) -> (Option<u32>, u32) {
         let offset = cell_of(word) * CELL;
         match kind_of(word) {
             _ if is_leaf(word) => (Some(!word), 0),
@@ -84,7 +89,7 @@ impl Stage<'_> {
     }
 
     /// A new prefix cell.
-    fn prefix(&mut self, value: u32, link: u32) -> Option<u32> {
+    pub fn prefix(&mut self, value: u32, link: u32) -> Option<u32> {
         let mut image = [0; CELL];
         put_word(&mut image, 0, value);
         image[4] = 0xFF;
@@ -93,7 +98,7 @@ impl Stage<'_> {
     }
 
     /// A character set before a new child: in the chain cell just taken while there is room, else in a new one.
-    fn before(&mut self, character: u8, child: u32) -> Option<u32> {
+    pub fn before(&mut self, character: u8, child: u32) -> Option<u32> {
         if let Some((cell, image)) = self.cells.last_mut() {
             if *cell == cell_of(child) && (1..SPLIT).contains(&kind_of(child)) {
                 image[kind_of(child) - 1] = character;
@@ -114,7 +119,7 @@ impl Stage<'_> {
     }
 
     /// A sparse cell with a child replaced or appended, or the split that a seventh child makes.
-    fn sparse_with(&mut self, word: u32, character: u8, child: u32) -> Option<u32> {
+    pub fn sparse_with(&mut self, word: u32, character: u8, child: u32) -> Option<u32> {
         let old = self.image(word);
         let count = (0..6).take_while(|position| word_at(&old, 4 * position) != 0).count();
         let mut children = [(0, 0); 7];
@@ -153,7 +158,7 @@ impl Stage<'_> {
     }
 
     /// A split with a child replaced or added: a new end, mid and head, copied from the old where there are any.
-    fn split_with(&mut self, word: u32, character: u8, child: u32) -> Option<u32> {
+    pub fn split_with(&mut self, word: u32, character: u8, child: u32) -> Option<u32> {
         let (leading, middle, last) = (character >> 6, character >> 3 & 7, character & 7);
         let mut head = self.image(word);
         head[..0x10].fill(0);
@@ -166,7 +171,7 @@ impl Stage<'_> {
     }
 
     /// The image of a mid or end, all zero where there is none.
-    fn part(&self, word: u32) -> Image {
+    pub fn part(&self, word: u32) -> Image {
         if word == 0 {
             [0; CELL]
         } else {
@@ -176,7 +181,7 @@ impl Stage<'_> {
 }
 
 /// The image of a sparse cell with children by position.
-fn sparse_image(children: &[(u8, u32)]) -> Image {
+pub fn sparse_image(children: &[(u8, u32)]) -> Image {
     let mut image = [0; CELL];
     let mut positions = [0, 1, 2, 3, 4, 5];
     for (position, (character, child)) in children.iter().enumerate() {

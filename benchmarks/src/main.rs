@@ -4,6 +4,7 @@ mod insertion;
 mod labels;
 mod plain;
 mod proved;
+mod removal;
 mod timing;
 mod validation;
 mod walk;
@@ -20,13 +21,16 @@ const QUESTIONS: usize = 2000;
 /// The serial numbers of the case of 2,000 labels, which leave much of the largest block free.
 const SERIALS: usize = 2000;
 
-/// A block, what was entered into it one after the other, the map of what was not refused, and the labels that it is asked for.
+/// A block, what was entered into it one after the other, the map of what was not refused, the labels that it is asked for,
+/// those that are removed from it one after the other, and what is left of it then.
 struct Case {
     fresh: Vec<u8>,
     full: Vec<u8>,
     entered: Vec<(Vec<u8>, u32)>,
     map: BTreeMap<Vec<u8>, u32>,
     questions: Vec<Vec<u8>>,
+    removed: Vec<Vec<u8>>,
+    left: Vec<u8>,
 }
 
 /// Checks and measures every case, and prints one table.
@@ -66,7 +70,8 @@ impl Case {
         let trailer = fresh.len() - CELL;
         put_word(&mut fresh, trailer + 0x14, cells as u32);
         put_word(&mut fresh, trailer + 0x1C, 1);
-        Case { full: fresh.clone(), fresh, entered: Vec::new(), map: BTreeMap::new(), questions: Vec::new() }
+        let (entered, map, questions, removed) = (Vec::new(), BTreeMap::new(), Vec::new(), Vec::new());
+        Case { full: fresh.clone(), left: Vec::new(), fresh, entered, map, questions, removed }
     }
 
     /// Enters a label with both programs, which must agree on the answer and every byte.
@@ -90,7 +95,24 @@ impl Case {
         let mut questions: Vec<Vec<u8>> = others.iter().map(|_| held[random.below(held.len())].clone()).collect();
         questions.extend(others);
         self.questions = random.mixed(questions);
+        self.removed = random.mixed(held);
+        self.left = self.full.clone();
+        self.empty();
         self
+    }
+
+    /// Removes every label with both programs, which must agree on the answer and every byte, of labels that are gone too.
+    fn empty(&mut self) {
+        for label in &self.removed {
+            let mut beside = self.left.clone();
+            let answer = proved::remove(&mut self.left, label);
+            assert_eq!(answer, plain::remove(&mut beside, label), "removal of {label:?}");
+            assert_eq!(self.left, beside, "the bytes after {label:?}");
+            assert!(matches!(answer.0, 0 | 7), "answer {} to a valid removal", answer.0);
+            let again = proved::remove(&mut beside, label);
+            assert_eq!(again.0, if answer.0 == 0 { 11 } else { 7 }, "removal of {label:?} again");
+            assert_eq!(again, plain::remove(&mut beside, label), "removal of {label:?} again");
+        }
     }
 
     /// Checks that both programs, and the map where it can, answer every question alike, on damaged blocks too.
@@ -126,6 +148,8 @@ impl Case {
         self.report("next key", "plain", QUESTIONS, &ours, &|| self.each(|label| plain::next_key(full, label).size));
         let (ours, theirs) = (|| self.fill(fills, proved::insert), || self.fill(fills, plain::insert));
         self.report("insert", "plain", fills * self.entered.len(), &ours, &theirs);
+        let (ours, theirs) = (|| self.emptied(fills, proved::remove), || self.emptied(fills, plain::remove));
+        self.report("remove", "plain", fills * self.removed.len(), &ours, &theirs);
     }
 
     /// Measures look-up and insertion against the standard library's map, which has no block and judges nothing.
@@ -137,7 +161,7 @@ impl Case {
         self.report("insert", "map", fills * self.entered.len(), &ours, &theirs);
     }
 
-    /// How often a block is filled in one measurement, so that none is too short for the clock.
+    /// How often a block is filled or emptied in one measurement, so that none is too short for the clock.
     fn fills(&self) -> usize {
         (12_800_000 / (self.full.len() * self.entered.len())).clamp(1, 4000)
     }
@@ -164,6 +188,19 @@ impl Case {
                 taken += u64::from(insert(&mut block, black_box(label), *value).1);
             }
             assert!(black_box(block) == self.full);
+        }
+        taken
+    }
+
+    /// Removes all labels from the full block, so many times, and adds the counts up.
+    fn emptied(&self, times: usize, remove: impl Fn(&mut [u8], &[u8]) -> (u8, u32)) -> u64 {
+        let mut taken = 0;
+        for _ in 0..times {
+            let mut block = self.full.clone();
+            for label in &self.removed {
+                taken += u64::from(remove(&mut block, black_box(label)).1);
+            }
+            assert!(black_box(block) == self.left);
         }
         taken
     }

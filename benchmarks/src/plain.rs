@@ -1,6 +1,7 @@
 //! The plain program: the same answers over the same block bytes, in ordinary Rust without a proof.
 
 use crate::insertion;
+use crate::removal;
 use crate::validation;
 use crate::walk;
 
@@ -125,6 +126,28 @@ pub fn insert(block: &mut [u8], key: &[u8], value: u32) -> (u8, u32) {
         return (4, 0);
     }
     match insertion::insert(block, &reached, key, value) {
+        Some(count) => (0, count),
+        None => (7, 0),
+    }
+}
+
+/// Removes a key after validation: the answer number and the count of cells taken.
+#[inline(never)]
+pub fn remove(block: &mut [u8], key: &[u8]) -> (u8, u32) {
+    if !valid_length(block.len()) {
+        return (1, 0);
+    }
+    let mut reached = [0; 2048];
+    if !validation::is_sound(block, &mut reached) {
+        return (2, 0);
+    }
+    if key.is_empty() || key.len() > LONGEST_KEY {
+        return (3, 0);
+    }
+    if walk::value_of(block, root_of(block), key).is_none() {
+        return (11, 0);
+    }
+    match removal::remove(block, &reached, key) {
         Some(count) => (0, count),
         None => (7, 0),
     }

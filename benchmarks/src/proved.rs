@@ -12,6 +12,7 @@ extern "C" {
         value: u32,
         count: *mut u32,
     ) -> u8;
+    fn exports_remove(block: *mut u8, block_len: usize, key: *const u8, key_len: usize, count: *mut u32) -> u8;
     fn exports_get(block: *const u8, block_len: usize, key: *const u8, key_len: usize, value: *mut u32) -> u8;
     fn exports_next_key(
         block: *const u8,
@@ -52,5 +53,13 @@ pub fn insert(block: &mut [u8], key: &[u8], value: u32) -> (u8, u32) {
     let mut count = 0;
     // Each pointer comes with the length of its own slice, and no slice overlaps another.
     let answer = unsafe { exports_insert(block.as_mut_ptr(), block.len(), key.as_ptr(), key.len(), value, &mut count) };
+    (answer, count)
+}
+
+/// Removes a key: the answer number and the count of cells taken.
+pub fn remove(block: &mut [u8], key: &[u8]) -> (u8, u32) {
+    let mut count = 0;
+    // Each pointer comes with the length of its own slice, and no slice overlaps another.
+    let answer = unsafe { exports_remove(block.as_mut_ptr(), block.len(), key.as_ptr(), key.len(), &mut count) };
     (answer, count)
 }

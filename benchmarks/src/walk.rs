@@ -45,7 +45,7 @@ pub fn after_chain(block: &[u8], word: u32) -> u32 {
 }
 
 /// The first child of a node whose character is not below the given one.
-fn least_child(block: &[u8], word: u32, from: u8) -> Option<(u8, u32)> {
+pub fn least_child(block: &[u8], word: u32, from: u8) -> Option<(u8, u32)> {
     if word == 0 || is_leaf(word) {
         return None;
     }

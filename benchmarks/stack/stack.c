@@ -13,6 +13,7 @@
 uint8_t exports_format(uint8_t *block, size_t size);
 uint8_t exports_validate(const uint8_t *block, size_t size);
 uint8_t exports_insert(uint8_t *block, size_t size, const uint8_t *key, size_t length, uint32_t value, uint32_t *count);
+uint8_t exports_remove(uint8_t *block, size_t size, const uint8_t *key, size_t length, uint32_t *count);
 uint8_t exports_get(const uint8_t *block, size_t size, const uint8_t *key, size_t length, uint32_t *value);
 uint8_t exports_next_key(const uint8_t *block, size_t size, const uint8_t *key, size_t length, uint32_t *next, uint8_t *out);
 
@@ -34,6 +35,12 @@ static void *validate(void *unused) {
 static void *insert(void *unused) {
     uint32_t count;
     answer = exports_insert(block, block_size, key, key_length, 7, &count);
+    return unused;
+}
+
+static void *remove_key(void *unused) {
+    uint32_t count;
+    answer = exports_remove(block, block_size, key, key_length, &count);
     return unused;
 }
 
@@ -87,6 +94,7 @@ static void put(size_t length, uint32_t value) {
     }
 }
 
+// every call on the deepest key, which is there again at the end
 static void all_calls(const char *title) {
     printf("\n%s\n\n| call | bytes of stack |\n|---|---|\n", title);
     measure("validate", validate, 0);
@@ -95,6 +103,8 @@ static void all_calls(const char *title) {
     measure("next key", next_key, 0);
     key_length = KEY_LIMIT;
     measure("insert", insert, 0);
+    measure("remove", remove_key, 0);
+    put(KEY_LIMIT, 1);
 }
 
 static void fresh(size_t cells) {

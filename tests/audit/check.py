@@ -11,6 +11,7 @@ CALLS = {
     "crates/blocks/src/next.rt": ["next_key"],
     "crates/store/src/formatting.rt": ["format"],
     "crates/store/src/inserting.rt": ["insert"],
+    "crates/store/src/removing.rt": ["remove"],
     "crates/snapshots/src/lib.rt": ["snapshot", "restore", "release"],
     "crates/dosing/src/verdict.rt": ["verdict"],
     "crates/firmware/src/lib.rt": ["register_insert", "register_get", "register_verdict"],

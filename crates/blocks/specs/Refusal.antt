@@ -25,7 +25,7 @@ pub record Changed : Type 0 where
   pub answer : ℕ
   pub block : List ℕ
 
--- the same with the number of cells that an insertion allocated
+-- the same with the number of cells that the call allocated
 pub record Counted : Type 0 where
   pub answer : ℕ
   pub count : ℕ

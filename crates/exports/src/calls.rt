@@ -3,7 +3,10 @@ ghost use mathlib.Core.Path.{_≡_};
 ghost use Rattle.blocks.specs.Read.{nextKey, validate};
 ghost use Rattle.snapshots.specs.Snapshots.{release, restore, snapshot};
 ghost use Rattle.store.specs.Format.{format};
+ghost use Rattle.store.specs.Remove.{remove};
+use blocks::answer::CountAnswer;
 use blocks::answer::change_number;
+use blocks::answer::number;
 use blocks::next::next_key;
 use blocks::validate::validate;
 use nodes::layout::KEY_LIMIT;
@@ -11,6 +14,7 @@ use snapshots::release;
 use snapshots::restore;
 use snapshots::snapshot;
 use store::formatting::format;
+use store::removing::remove;
 
 // Makes a block fresh.
 #[no_mangle]
@@ -26,6 +30,23 @@ pub extern "C" fn exports_validate(block: &[u8]) -> u8
     ensures { λ r. ⌜ validate (now (block .entry)) ≡ r ⌝ }
 {
     change_number(validate(block))
+}
+
+// Removes a key from a block, and counts the cells allocated.
+#[no_mangle]
+pub extern "C" fn exports_remove(block: &mut [u8], key: &[u8], count: &mut u32) -> u8
+    ensures { λ r. ⌜ remove (now (block .entry)) (now (key .entry)) ≡ record { answer = r; count = now (count .exit); block = now (block .exit) } ⌝ }
+{
+    match remove(block, key) {
+        CountAnswer::Done(allocated) => {
+            *count = allocated;
+            0
+        }
+        CountAnswer::Refused(refusal) => {
+            *count = 0;
+            number(refusal)
+        }
+    }
 }
 
 // Keeps the root in a slot.

@@ -13,12 +13,13 @@ use Rattle.blocks.specs.Answers.{changeNumber, changedOutcome, countedOutcome, 
 use Rattle.blocks.specs.declared.answer.ChangeAnswer.{ChangeAnswer}
 use Rattle.blocks.specs.declared.answer.CountAnswer.{CountAnswer}
 use Rattle.store.specs.Insert.{insert}
+use Rattle.store.specs.Remove.{remove}
 use Rattle.snapshots.specs.Snapshots.{snapshot, restore, release}
-use Rattle.history.specs.Calls.{Call, inserting, snapshotting, restoring, releasing, ours, outcome}
-use Rattle.history.specs.Code.Encoded.{Decoded, decodeInsert, decodeSlot, decodeCall}
+use Rattle.history.specs.Calls.{Call, inserting, removing, snapshotting, restoring, releasing, ours, outcome}
+use Rattle.history.specs.Code.Encoded.{Decoded, decodeInsert, decodeRemove, decodeSlot, decodeCall}
 use Rattle.history.specs.Code.Running.{numbered, answered, StepOutcome, step, stepOutcome}
 use Rattle.history.specs.declared.runner.Stepped.{Stepped}
-use Rattle.history.proofs.Decoding.{insert-there, slot-there, tag-insert}
+use Rattle.history.proofs.Decoding.{insert-there, remove-there, slot-there, tag-insert, tag-remove}
 
 -- the calls' answers as numbers
 module _ (b after : List ℕ) (slot number : ℕ) (answer : ChangeAnswer) (is : number ≡ changeNumber answer) where
@@ -34,16 +35,23 @@ module _ (b after : List ℕ) (slot number : ℕ) (answer : ChangeAnswer) (is : 
   unfolding answered outcome ours
   release-answered e = e ∙ ap (λ (n : ℕ). numbered n after) (sym is)
 
-uncounted-insert : (answer : CountAnswer) (after : List ℕ)
+-- a counted answer without its count
+without-count : (answer : CountAnswer) (after : List ℕ)
     → numbered (countedOutcome answer after .answer) (countedOutcome answer after .block) ≡ numbered (countNumber answer) after
-uncounted-insert (CountAnswer.Done count) after = refl
-uncounted-insert (CountAnswer.Refused why) after = refl
+without-count (CountAnswer.Done count) after = refl
+without-count (CountAnswer.Refused why) after = refl
 
 pub insert-answered : (b after key : List ℕ) (value number : ℕ) (answer : CountAnswer) → number ≡ countNumber answer
     → insert b key value ≡ countedOutcome answer after → answered b (inserting key value) ≡ numbered number after
 unfolding answered outcome ours
 insert-answered b after key value number answer is e =
-    ap (λ (i : Counted). numbered (i .answer) (i .block)) e ∙ uncounted-insert answer after ∙ ap (λ (n : ℕ). numbered n after) (sym is)
+    ap (λ (i : Counted). numbered (i .answer) (i .block)) e ∙ without-count answer after ∙ ap (λ (n : ℕ). numbered n after) (sym is)
+
+pub remove-answered : (b after key : List ℕ) (number : ℕ) (answer : CountAnswer) → number ≡ countNumber answer
+    → remove b key ≡ countedOutcome answer after → answered b (removing key) ≡ numbered number after
+unfolding answered outcome ours
+remove-answered b after key number answer is e =
+    ap (λ (i : Counted). numbered (i .answer) (i .block)) e ∙ without-count answer after ∙ ap (λ (n : ℕ). numbered n after) (sym is)
 
 -- a step without a call, and with one
 module _ (b : List ℕ) (o : Option Decoded) where
@@ -69,6 +77,19 @@ insert-did b bytes after value number is h done =
 pub insert-step : (b bytes after : List ℕ) (answer : Stepped) → getD bytes 0 0 ≡ 1 → step b (decodeInsert bytes) ≡ stepOutcome answer after
     → step b (decodeCall bytes) ≡ stepOutcome answer after
 insert-step b bytes after answer tag e = ap (λ (o : Option Decoded). step b o) (tag-insert bytes tag) ∙ e
+
+-- the removal at the front, likewise
+pub remove-did : (b bytes after : List ℕ) (number : ℕ) → getD bytes 1 0 + 2 ≤ length bytes
+    → answered b (removing (take (getD bytes 1 0 + 2 - 2) (drop 2 bytes))) ≡ numbered number after
+    → step b (decodeRemove bytes) ≡ stepOutcome (Stepped.Did (getD bytes 1 0 + 2) number) after
+remove-did b bytes after number h done =
+    let size : getD bytes 1 0 + 2 - 2 ≡ getD bytes 1 0 = omega arith in
+    step-did b (decodeRemove bytes) after number _ (remove-there bytes h)
+    (ap (λ (n : ℕ). answered b (removing (take n (drop 2 bytes)))) (sym size) ∙ done)
+
+pub remove-step : (b bytes after : List ℕ) (answer : Stepped) → getD bytes 0 0 ≡ 5 → step b (decodeRemove bytes) ≡ stepOutcome answer after
+    → step b (decodeCall bytes) ≡ stepOutcome answer after
+remove-step b bytes after answer tag e = ap (λ (o : Option Decoded). step b o) (tag-remove bytes tag) ∙ e
 
 -- the call on a slot at the front
 pub slot-did : (call : ℕ → Call) (b bytes after : List ℕ) (slot number : ℕ) → decodeCall bytes ≡ decodeSlot call bytes → slot ≡ wordAt bytes 1

@@ -12,8 +12,8 @@ use borrow.Author.Tests.{le-leb, lt-leb, leb-true, ne-eqb}
 use Rattle.cells.specs.Bytes.{IsBytes}
 use Rattle.cells.specs.Word.{wordAt}
 use Rattle.cells.proofs.Words.{bytes-take, bytes-drop}
-use Rattle.history.specs.Calls.{Call, inserting, snapshotting, restoring, releasing, KeyIsBytes, KeysAreBytes}
-use Rattle.history.specs.Code.Encoded.{Decoded, decodeInsert, decodeSlot, decodeCall, following, decoded}
+use Rattle.history.specs.Calls.{Call, inserting, removing, snapshotting, restoring, releasing, KeyIsBytes, KeysAreBytes}
+use Rattle.history.specs.Code.Encoded.{Decoded, decodeInsert, decodeRemove, decodeSlot, decodeCall, following, decoded}
 
 -- a choice between nothing and nothing
 cond-none : (t : Bool) {a b : Option Decoded} → a ≡ none → b ≡ none → cond t a b ≡ none
@@ -31,6 +31,15 @@ module _ (bytes : List ℕ) where
   unfolding decodeInsert
   insert-there h = rw (le-leb (getD bytes 1 0 + 6) (length bytes) h)
 
+  pub remove-short : length bytes < getD bytes 1 0 + 2 → decodeRemove bytes ≡ none
+  unfolding decodeRemove
+  remove-short h = rw (lt-leb (getD bytes 1 0 + 2) (length bytes) h)
+
+  pub remove-there : getD bytes 1 0 + 2 ≤ length bytes
+      → decodeRemove bytes ≡ some (record { call = removing (take (getD bytes 1 0) (drop 2 bytes)); taken = getD bytes 1 0 + 2 })
+  unfolding decodeRemove
+  remove-there h = rw (le-leb (getD bytes 1 0 + 2) (length bytes) h)
+
   slot-short : (call : ℕ → Call) → length bytes < 5 → decodeSlot call bytes ≡ none
   unfolding decodeSlot
   slot-short call h = rw (lt-leb 5 (length bytes) h)
@@ -39,13 +48,27 @@ module _ (bytes : List ℕ) where
   unfolding decodeSlot
   slot-there call h = rw (le-leb 5 (length bytes) h)
 
-  pub call-short : length bytes < 5 → decodeCall bytes ≡ none
+  -- the tags of calls on a slot, with too few bytes for one
+  slots-short : length bytes < 5 → (rest : Option Decoded) → rest ≡ none
+      → cond (eqb (getD bytes 0 0) 2) (decodeSlot snapshotting bytes)
+      (cond (eqb (getD bytes 0 0) 3) (decodeSlot restoring bytes)
+      (cond (eqb (getD bytes 0 0) 4) (decodeSlot releasing bytes) rest)) ≡ none
+  slots-short h rest e =
+      cond-none (eqb (getD bytes 0 0) 2) (slot-short snapshotting h)
+      (cond-none (eqb (getD bytes 0 0) 3) (slot-short restoring h)
+      (cond-none (eqb (getD bytes 0 0) 4) (slot-short releasing h) e))
+
+  -- too few bytes for any call
+  pub call-short : length bytes < 2 → decodeCall bytes ≡ none
   unfolding decodeCall
   call-short h =
       cond-none (eqb (getD bytes 0 0) 1) (insert-short (omega (arith, h)))
-      (cond-none (eqb (getD bytes 0 0) 2) (slot-short snapshotting h)
-      (cond-none (eqb (getD bytes 0 0) 3) (slot-short restoring h)
-      (cond-none (eqb (getD bytes 0 0) 4) (slot-short releasing h) refl)))
+      (slots-short (omega (arith, h)) _ (cond-none (eqb (getD bytes 0 0) 5) (remove-short (omega (arith, h))) refl))
+
+  -- too few for a call that is neither an insertion nor a removal
+  pub call-on-slot-short : getD bytes 0 0 ≢ 1 → getD bytes 0 0 ≢ 5 → length bytes < 5 → decodeCall bytes ≡ none
+  unfolding decodeCall
+  call-on-slot-short a e h = rw (ne-eqb (getD bytes 0 0) 1 a, ne-eqb (getD bytes 0 0) 5 e) (slots-short h none refl)
 
   -- the tags
   pub tag-insert : getD bytes 0 0 ≡ 1 → decodeCall bytes ≡ decodeInsert bytes
@@ -64,9 +87,14 @@ module _ (bytes : List ℕ) where
   unfolding decodeCall
   tag-release e = rw e
 
-  pub tag-none : getD bytes 0 0 ≢ 1 → getD bytes 0 0 ≢ 2 → getD bytes 0 0 ≢ 3 → getD bytes 0 0 ≢ 4 → decodeCall bytes ≡ none
+  pub tag-remove : getD bytes 0 0 ≡ 5 → decodeCall bytes ≡ decodeRemove bytes
   unfolding decodeCall
-  tag-none a b c d = rw (ne-eqb (getD bytes 0 0) 1 a, ne-eqb (getD bytes 0 0) 2 b, ne-eqb (getD bytes 0 0) 3 c, ne-eqb (getD bytes 0 0) 4 d)
+  tag-remove e = rw e
+
+  pub tag-none : getD bytes 0 0 ≢ 1 → getD bytes 0 0 ≢ 2 → getD bytes 0 0 ≢ 3 → getD bytes 0 0 ≢ 4 → getD bytes 0 0 ≢ 5 → decodeCall bytes ≡ none
+  unfolding decodeCall
+  tag-none a b c d e =
+      rw (ne-eqb (getD bytes 0 0) 1 a, ne-eqb (getD bytes 0 0) 2 b, ne-eqb (getD bytes 0 0) 3 c, ne-eqb (getD bytes 0 0) 4 d, ne-eqb (getD bytes 0 0) 5 e)
 
 -- what holds of a decoded call: it takes some of the bytes, and its key is bytes where they are
 pub record Taken (bytes : List ℕ) (d : Decoded) : Type 0 where
@@ -98,6 +126,14 @@ module _ (bytes : List ℕ) where
       test-taken bytes (size + 6) (length bytes) d
       (λ h. record { least = omega arith; most = h; key = λ all. bytes-take size (drop 2 bytes) (bytes-drop 2 bytes all) })
 
+  remove-taken : TakenIf bytes (decodeRemove bytes)
+  unfolding decodeRemove
+  remove-taken =
+      let size : ℕ = getD bytes 1 0 in
+      let d : Decoded = record { call = removing (take size (drop 2 bytes)); taken = size + 2 } in
+      test-taken bytes (size + 2) (length bytes) d
+      (λ h. record { least = omega arith; most = h; key = λ all. bytes-take size (drop 2 bytes) (bytes-drop 2 bytes all) })
+
   slot-taken : (call : ℕ → Call) → KeyIsBytes (call (wordAt bytes 1)) → TakenIf bytes (decodeSlot call bytes)
   unfolding decodeSlot
   slot-taken call key =
@@ -108,13 +144,15 @@ module _ (bytes : List ℕ) where
   unfolding decodeCall
   call-taken =
       let tag : ℕ = getD bytes 0 0 in
-      let fourth : Option Decoded = cond (eqb tag 4) (decodeSlot releasing bytes) none in
+      let fifth : Option Decoded = cond (eqb tag 5) (decodeRemove bytes) none in
+      let fourth : Option Decoded = cond (eqb tag 4) (decodeSlot releasing bytes) fifth in
       let third : Option Decoded = cond (eqb tag 3) (decodeSlot restoring bytes) fourth in
       let second : Option Decoded = cond (eqb tag 2) (decodeSlot snapshotting bytes) third in
       cond-taken bytes (eqb tag 1) (decodeInsert bytes) second insert-taken
       (cond-taken bytes (eqb tag 2) (decodeSlot snapshotting bytes) third (slot-taken snapshotting tt)
       (cond-taken bytes (eqb tag 3) (decodeSlot restoring bytes) fourth (slot-taken restoring tt)
-      (cond-taken bytes (eqb tag 4) (decodeSlot releasing bytes) none (slot-taken releasing tt) tt)))
+      (cond-taken bytes (eqb tag 4) (decodeSlot releasing bytes) fifth (slot-taken releasing tt)
+      (cond-taken bytes (eqb tag 5) (decodeRemove bytes) none remove-taken tt))))
 
   pub call-takes : (d : Decoded) → decodeCall bytes ≡ some d → Taken bytes d
   call-takes d e = subst (λ (o : Option Decoded). TakenIf bytes o) e call-taken

@@ -5,8 +5,10 @@ use mathlib.Core.Bool.{Bool}
 use mathlib.Core.List.{List, [], _∷_, _++_}
 use Prim.Native.Nat.{ℕ}
 use native.Mathlib.Decide.{ℕ-discrete}
+use lib.Dec.{eqb}
 use lib.ListN.{length, getD, drop}
 use borrow.Author.Tests.{ne-eqb}
+use Rattle.updates.specs.Built.{Built}
 use Rattle.blocks.specs.Trailer.{layoutOf, slots}
 use Rattle.blocks.specs.Refusal.{Changed}
 use Rattle.blocks.proofs.Determined.{beside-told}
@@ -15,11 +17,19 @@ use Rattle.snapshots.proofs.Left.{left-told}
 use Rattle.store.specs.Format.{format}
 use Rattle.store.proofs.Format.{format-law}
 use Rattle.store.proofs.Determined.{laid-told, format-told}
-use Rattle.history.specs.Calls.{Call, inserting, snapshotting, restoring, releasing, Implementation, Outcome, ours, outcome, run, answersOf, KeysAreBytes}
-use Rattle.history.specs.Ledger.{Ledger, emptyLedger, noteInsert, noteCall, ledgerAnswers, gotNoRoom, fedBy}
-use Rattle.history.specs.Demand3.{AtKind, AtCall, AfterList, Demand3}
+use Rattle.history.specs.Calls.{Call, inserting, removing, snapshotting, restoring, releasing, Implementation, Outcome, ours, outcome, run, answersOf, KeysAreBytes}
+use Rattle.history.specs.Ledger.{Ledger, emptyLedger, noteInsert, noteRemove, noteCall, ledgerAnswers, gotNoRoom, fedBy}
+use Rattle.history.specs.Demand3.{AtBuild, AtKind, AtCall, AfterList, Demand3}
 use Rattle.history.proofs.Beside.{Beside, beside-fresh}
 use Rattle.history.proofs.OneCall.{call-step, call-at}
+
+-- two calls that lay down the same build: where the ledger gives both answers by whether they are 7, they are one
+build-told : (b key : List ℕ) (May : Type 0) (needed : ℕ) (build : Built) (o p : Outcome) → AtBuild b key May needed build o → AtBuild b key May needed build p
+    → (note : Bool → ℕ) → o .answer ≡ note (eqb (o .answer) 7) → p .answer ≡ note (eqb (p .answer) 7) → o .answer ≡ p .answer
+build-told b key May needed build o p x y note e f = elim (ℕ-discrete (o .answer) 7) [
+  | yes seven ↦ seven ∙ sym (y .full (x .lacks seven))
+  | no other ↦ e ∙ ap note (ne-eqb (o .answer) 7 other ∙ sym (ne-eqb (p .answer) 7 (λ seven. other (x .full (y .lacks seven))))) ∙ sym f
+]
 
 module _ (impl : Implementation) (b : List ℕ) where
   -- the answer of a call, where both are the ledger's
@@ -27,12 +37,8 @@ module _ (impl : Implementation) (b : List ℕ) where
       → o .answer ≡ noteCall count l call (gotNoRoom call (o .answer)) .answer → p .answer ≡ noteCall count l call (gotNoRoom call (p .answer)) .answer
       → o .answer ≡ p .answer
   unfolding noteCall gotNoRoom
-  answer-told count l (inserting key value) o p x y e f = elim (ℕ-discrete (o .answer) 7) [
-    | yes seven ↦ seven ∙ sym (y .full (x .lacks seven))
-    | no other ↦
-        let same = ne-eqb (o .answer) 7 other ∙ sym (ne-eqb (p .answer) 7 (λ seven. other (x .full (y .lacks seven)))) in
-        e ∙ ap (λ (t : Bool). noteInsert l key value t .answer) same ∙ sym f
-  ]
+  answer-told count l (inserting key value) o p x y e f = build-told b key _ _ _ o p x y (λ t. noteInsert l key value t .answer) e f
+  answer-told count l (removing key) o p x y e f = build-told b key _ _ _ o p x y (λ t. noteRemove l key t .answer) e f
   answer-told count l (snapshotting slot) o p x y e f = e ∙ sym f
   answer-told count l (restoring slot) o p x y e f = e ∙ sym f
   answer-told count l (releasing slot) o p x y e f = e ∙ sym f
@@ -41,6 +47,7 @@ module _ (impl : Implementation) (b : List ℕ) where
   block-told : (call : Call) (o p : Outcome) → length (o .block) ≡ length (p .block) → AtKind b call o → AtKind b call p
       → o .answer ≡ 0 → p .answer ≡ 0 → o .block ≡ p .block
   block-told (inserting key value) o p same x y e f = laid-told b key _ _ _ _ _ same (x .laid e) (y .laid f)
+  block-told (removing key) o p same x y e f = laid-told b key _ _ _ _ _ same (x .laid e) (y .laid f)
   block-told (snapshotting slot) o p same x y e f = left-told b (o .block) (p .block) (snapshotFields b slot) (x e) (y f)
   block-told (restoring slot) o p same x y e f = left-told b (o .block) (p .block) (restoreFields b slot) (x e) (y f)
   block-told (releasing slot) o p same x y e f = left-told b (o .block) (p .block) (releaseFields b slot) (x e) (y f)
@@ -50,6 +57,7 @@ module _ (impl : Implementation) (b : List ℕ) where
       → outcome impl b call .answer ≡ 0 → outcome ours b call .answer ≡ 0 → outcome impl b call .count ≡ outcome ours b call .count
   unfolding outcome
   count-told (inserting key value) x y e f = x .laid e .counted ∙ sym (y .laid f .counted)
+  count-told (removing key) x y e f = x .laid e .counted ∙ sym (y .laid f .counted)
   count-told (snapshotting slot) x y e f = refl
   count-told (restoring slot) x y e f = refl
   count-told (releasing slot) x y e f = refl

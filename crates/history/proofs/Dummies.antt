@@ -21,13 +21,14 @@ use Rattle.blocks.specs.Refusal.{overLong, badKey, badNewKey, badValue}
 use Rattle.blocks.specs.Read.{shown}
 use Rattle.store.specs.Format.{badNewSize, format}
 use Rattle.store.specs.Insert.{cellsFree, cellsToInsert, blockBuild}
+use Rattle.store.specs.Remove.{blockRemoval}
 use Rattle.snapshots.specs.Computing.{snapshotsOpen}
 use Rattle.store.specs.Computing.{callsOpen}
 use Rattle.store.proofs.Format.{format-done}
-use Rattle.history.specs.Calls.{Call, inserting, snapshotting, restoring, Outcome, outcome, run, answersOf}
-use Rattle.history.specs.Ledger.{emptyLedger, noteInsert, ledgerSlot, noteSnapshot, noteHeld, noteRestore, noteCall, ledgerAfter, ledgerAnswers, gotNoRoom, fedBy}
+use Rattle.history.specs.Calls.{Call, inserting, removing, snapshotting, restoring, Outcome, outcome, run, answersOf}
+use Rattle.history.specs.Ledger.{emptyLedger, noteInsert, noteRemove, ledgerSlot, noteSnapshot, noteHeld, noteRestore, noteCall, ledgerAfter, ledgerAnswers, gotNoRoom, fedBy}
 use Rattle.history.specs.Demand3.{ledgerBeside, Demand3}
-use Rattle.history.specs.Dummies.{alwaysNo, onlyFormats, insertsNothing, rootlessBlock, storesNoRoot, restoresNothing, inventsCount, writesCellZero, copiedInto, restoresByCopy}
+use Rattle.history.specs.Dummies.{alwaysNo, onlyFormats, insertsNothing, rootlessBlock, storesNoRoot, restoresNothing, inventsCount, writesCellZero, copiedInto, restoresByCopy, removesNothing, overcountsRemovals, alwaysMissing}
 use Rattle.blocks.specs.After.{slotShown}
 
 -- a key of one letter, a fresh block of four cells, and the lists of calls
@@ -56,6 +57,9 @@ thenSnapshot = insertOne ∷ snapshotting 1 ∷ []
 
 abbrev thenRestore : List Call
 thenRestore = snapshotting 1 ∷ insertOne ∷ restoring 1 ∷ []
+
+abbrev thenRemove : List Call
+thenRemove = insertOne ∷ removing letter ∷ []
 
 -- always no: formatting must answer 0
 pub always-no-refuted : (number : ℕ) → number ≢ 0 → Demand3 (alwaysNo number) → ⊥
@@ -86,7 +90,7 @@ only-formats-refuted number other d = elim (ℕ-discrete number 7) [
 
 -- what an equation over a list of calls and the ledger beside it unfolds
 listsOpen : Unit {0}
-unfolding callsOpen snapshotsOpen sameKey assign outcome run ledgerSlot noteInsert noteSnapshot noteHeld noteRestore noteCall ledgerAfter gotNoRoom fedBy
+unfolding callsOpen snapshotsOpen sameKey assign outcome run ledgerSlot noteInsert noteRemove noteSnapshot noteHeld noteRestore noteCall ledgerAfter gotNoRoom fedBy
 listsOpen = tt
 
 -- inserting nothing: the ledger has the key, the block does not show it
@@ -187,3 +191,42 @@ restores-by-copy-refuted d =
     d .atCall (zeros 256) (format-done (zeros 256) eight-sized) beforeCopy (restoring 1) [] (letter-bytes, (tt, (letter-bytes, (tt, tt))))
     .kind (restored-by-copy .0) .root in
     omega (arith, root, restored-by-copy .1, restored-by-copy .2)
+
+-- removing nothing: the ledger has struck the key out, the block still shows it
+nothing-removed :
+    (ledgerBeside removesNothing fresh thenRemove .present letter ≡ none)
+    × (shown (run removesNothing fresh thenRemove) letter ≡ some 0)
+unfolding listsOpen removesNothing
+nothing-removed = (refl, refl)
+
+pub removes-nothing-refuted : Demand3 removesNothing → ⊥
+unfolding removesNothing
+removes-nothing-refuted d =
+    never (sym (nothing-removed .0) ∙ sym (d .afterList (zeros 128) formats thenRemove (letter-bytes, (letter-bytes, tt)) .agrees .present letter) ∙ nothing-removed .1)
+
+-- a removal that counts one cell too many: the last key leaves no cell, and one is counted
+removal-overcounted :
+    (outcome overcountsRemovals (run overcountsRemovals fresh (insertOne ∷ [])) (removing letter) .answer ≡ 0)
+    × (outcome overcountsRemovals (run overcountsRemovals fresh (insertOne ∷ [])) (removing letter) .count ≡ 1)
+    × (length (blockRemoval (run overcountsRemovals fresh (insertOne ∷ [])) letter .cells) ≡ 0)
+unfolding listsOpen overcountsRemovals
+removal-overcounted = (refl, refl, refl)
+
+pub overcounts-removals-refuted : Demand3 overcountsRemovals → ⊥
+unfolding overcountsRemovals
+overcounts-removals-refuted d =
+    let laid = d .atCall (zeros 128) formats (insertOne ∷ []) (removing letter) [] (letter-bytes, (letter-bytes, tt)) .kind .laid (removal-overcounted .0) in
+    omega (arith, laid .counted, removal-overcounted .1, removal-overcounted .2)
+
+-- a removal that always answers 11: the ledger has the key and answers 0
+always-eleven :
+    (answersOf alwaysMissing fresh thenRemove ≡ 0 ∷ 11 ∷ [])
+    × (ledgerAnswers (slots (layoutOf fresh)) emptyLedger (fedBy alwaysMissing fresh thenRemove) ≡ 0 ∷ 0 ∷ [])
+unfolding listsOpen answersOf ledgerAnswers alwaysMissing
+always-eleven = (refl, refl)
+
+pub always-missing-refuted : Demand3 alwaysMissing → ⊥
+unfolding alwaysMissing
+always-missing-refuted d =
+    let same = sym (always-eleven .0) ∙ d .afterList (zeros 128) formats thenRemove (letter-bytes, (letter-bytes, tt)) .answers ∙ always-eleven .1 in
+    omega (arith, ap (λ (l : List ℕ). getD l 1 0) same)

@@ -16,15 +16,17 @@ use Rattle.trees.specs.Lookup.{Table}
 use Rattle.trees.proofs.Assign.{assign-alike}
 use Rattle.blocks.specs.Trailer.{layoutOf, validSlot, inUse}
 use Rattle.blocks.specs.Sound.{reachable}
-use Rattle.blocks.specs.Refusal.{badNewKey, badValue}
-use Rattle.blocks.specs.Read.{shown}
+use Rattle.blocks.specs.Refusal.{badKey, badNewKey, badValue}
+use Rattle.blocks.specs.Read.{missing, shown}
 use Rattle.store.specs.Insert.{cellsToInsert, noRoom, blockBuild, insert}
-use Rattle.store.specs.Laid.{MayInsert}
+use Rattle.store.specs.Remove.{cellsToRemove, noRoomToRemove, blockRemoval, remove}
+use Rattle.store.specs.Laid.{MayInsert, MayRemove}
 use Rattle.snapshots.specs.Snapshots.{snapshot, restore, release}
 use Rattle.store.proofs.InsertCall.{insert-after, insert-laid, insert-answer, insert-seven, insert-refused, insert-refused-count}
+use Rattle.store.proofs.RemoveCall.{remove-after, remove-laid, remove-answer, remove-seven, remove-refused, remove-refused-count}
 use Rattle.snapshots.proofs.SnapshotCalls.{snapshot-law, snapshot-left, snapshot-answer, snapshot-refused, restore-law, restore-left, restore-answer, restore-refused, release-law, release-left, release-answer, release-refused}
-use Rattle.history.specs.Calls.{Call, inserting, snapshotting, restoring, releasing, ours, outcome, counted, KeyIsBytes}
-use Rattle.history.specs.Ledger.{Ledger, Noted, unaltered, done, withHeld, noteInsert, ledgerSlot, noteSnapshot, noteHeld, noteRestore, noteRelease, noteCall, gotNoRoom}
+use Rattle.history.specs.Calls.{Call, inserting, removing, snapshotting, restoring, releasing, ours, outcome, counted, KeyIsBytes}
+use Rattle.history.specs.Ledger.{Ledger, Noted, unaltered, done, withHeld, noteInsert, noteRemove, ledgerSlot, noteSnapshot, noteHeld, noteRestore, noteRelease, noteCall, gotNoRoom}
 use Rattle.history.specs.Demand3.{AtBuild, AtKind, AtCall}
 use Rattle.history.proofs.Beside.{Beside, SlotHolds, holds-some, holds-replaced, holds-dropped, slot-holds, beside-after}
 use Rattle.blocks.specs.After.{After, slotShown}
@@ -58,14 +60,14 @@ module _ (count : ℕ) (b : List ℕ) (l : Ledger) (beside : Beside count b l) (
   step-done present used held e a l′ shows holds =
       record { answers = e; beside = beside-after count b b′ (beside .counts) present used held a l′ shows holds; kept = a .kept; size = a .same-length; refused = refused }
 
-  -- the ways of an insertion, by whether 3, 4 and 7 apply
-  insert-ways : (x y z : Bool) (l′ : Ledger) → answer ≡ cond x 3 (cond y 4 (cond z 7 0)) → (answer ≡ 0 → Step count b answer b′ (done l′))
-      → Step count b answer b′ (cond x (unaltered 3 l) (cond y (unaltered 4 l) (cond (eqb answer 7) (unaltered 7 l) (done l′))))
-  insert-ways true y z l′ e new = step-refused 3 (omega arith) e
-  insert-ways false true z l′ e new = step-refused 4 (omega arith) e
-  insert-ways false false true l′ e new =
+  -- the ways of an insertion or a removal, by whether 3, a second answer (4 or 11) and 7 apply
+  build-ways : (k : ℕ) → k ≢ 0 → (x y z : Bool) (l′ : Ledger) → answer ≡ cond x 3 (cond y k (cond z 7 0)) → (answer ≡ 0 → Step count b answer b′ (done l′))
+      → Step count b answer b′ (cond x (unaltered 3 l) (cond y (unaltered k l) (cond (eqb answer 7) (unaltered 7 l) (done l′))))
+  build-ways k other true y z l′ e new = step-refused 3 (omega arith) e
+  build-ways k other false true z l′ e new = step-refused k other e
+  build-ways k other false false true l′ e new =
       subst (λ (a : ℕ). Step count b answer b′ (cond (eqb a 7) (unaltered 7 l) (done l′))) (sym e) (step-refused 7 (omega arith) e)
-  insert-ways false false false l′ e new =
+  build-ways k other false false false l′ e new =
       subst (λ (a : ℕ). Step count b answer b′ (cond (eqb a 7) (unaltered 7 l) (done l′))) (sym e) (new e)
 
   -- of a snapshot, by whether the slot is valid
@@ -91,10 +93,22 @@ module _ (count : ℕ) (b : List ℕ) (l : Ledger) (beside : Beside count b l) w
       → Step count b (insert b key value .answer) (insert b key value .block) (noteInsert l key value (eqb (insert b key value .answer) 7))
   unfolding noteInsert
   insert-step key value is-bytes =
-      insert-ways count b l beside _ _ (insert-refused b key value) (badNewKey key) (badValue value) (noRoom b key) _
+      build-ways count b l beside _ _ (insert-refused b key value) 4 (omega arith) (badNewKey key) (badValue value) (noRoom b key) _
       (insert-answer b key value (beside .agrees .size) (beside .agrees .valid))
       (λ e. step-done count b l beside _ _ (insert-refused b key value) _ _ _ e (insert-after b key value (beside .bytes) is-bytes e) _
       (assign-alike (shown b) (l .present) key (some value) (beside .agrees .present))
+      (slot-holds count b l beside))
+
+  -- a removal: the ledger has no value at the key exactly where the block shows none
+  pub remove-step : (key : List ℕ) → IsBytes key
+      → Step count b (remove b key .answer) (remove b key .block) (noteRemove l key (eqb (remove b key .answer) 7))
+  unfolding noteRemove
+  remove-step key is-bytes =
+      build-ways count b l beside _ _ (remove-refused b key) 11 (omega arith) (badKey key) (missing (l .present key)) (noRoomToRemove b key) _
+      (remove-answer b key (beside .agrees .size) (beside .agrees .valid)
+      ∙ ap (λ (o : Option ℕ). cond (badKey key) 3 (cond (missing o) 11 (cond (noRoomToRemove b key) 7 0))) (beside .agrees .present key))
+      (λ e. step-done count b l beside _ _ (remove-refused b key) _ _ _ e (remove-after b key (beside .bytes) is-bytes e) _
+      (assign-alike (shown b) (l .present) key none (beside .agrees .present))
       (slot-holds count b l beside))
 
   module _ (slot : ℕ) where
@@ -145,6 +159,7 @@ pub call-step : (count : ℕ) (b : List ℕ) (l : Ledger) → Beside count b l �
     → Step count b (outcome ours b call .answer) (outcome ours b call .block) (noteCall count l call (gotNoRoom call (outcome ours b call .answer)))
 unfolding outcome ours noteCall gotNoRoom
 call-step count b l beside (inserting key value) is-bytes = insert-step count b l beside key value is-bytes
+call-step count b l beside (removing key) is-bytes = remove-step count b l beside key is-bytes
 call-step count b l beside (snapshotting slot) is-bytes = snapshot-step count b l beside slot
 call-step count b l beside (restoring slot) is-bytes = restore-step count b l beside slot
 call-step count b l beside (releasing slot) is-bytes = release-step count b l beside slot
@@ -155,9 +170,16 @@ pub insert-at : (b key : List ℕ) (value : ℕ) → IsBytes b → IsBytes key
 insert-at b key value bytes is-bytes =
     record { laid = insert-laid b key value bytes is-bytes; lacks = insert-seven b key value .only; full = insert-seven b key value .given }
 
+-- what is said of a removal
+pub remove-at : (b key : List ℕ) → IsBytes b → IsBytes key
+    → AtBuild b key (MayRemove b key) (cellsToRemove b key) (blockRemoval b key) (counted (remove b key))
+remove-at b key bytes is-bytes =
+    record { laid = remove-laid b key bytes is-bytes; lacks = remove-seven b key .only; full = remove-seven b key .given }
+
 pub kind-at : (b : List ℕ) → IsBytes b → (call : Call) → KeyIsBytes call → AtKind b call (outcome ours b call)
 unfolding outcome ours
 kind-at b bytes (inserting key value) is-bytes = insert-at b key value bytes is-bytes
+kind-at b bytes (removing key) is-bytes = remove-at b key bytes is-bytes
 kind-at b bytes (snapshotting slot) is-bytes = snapshot-left b slot bytes
 kind-at b bytes (restoring slot) is-bytes = restore-left b slot bytes
 kind-at b bytes (releasing slot) is-bytes = release-left b slot bytes
@@ -166,6 +188,7 @@ kind-at b bytes (releasing slot) is-bytes = release-left b slot bytes
 no-count : (b : List ℕ) (call : Call) → outcome ours b call .answer ≢ 0 → outcome ours b call .count ≡ 0
 unfolding outcome ours
 no-count b (inserting key value) = insert-refused-count b key value
+no-count b (removing key) = remove-refused-count b key
 no-count b (snapshotting slot) = λ other. refl
 no-count b (restoring slot) = λ other. refl
 no-count b (releasing slot) = λ other. refl

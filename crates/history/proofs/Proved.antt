@@ -1,4 +1,4 @@
--- Demand 3 of 00, proved of the calls as 01 defines them: from every fresh block and for every list of calls. And whatever meets it
+-- Demand 3 of 00, proved of the calls as 01 and 02 define them: from every fresh block and for every list of calls. And whatever meets it
 -- does at every call what they do.
 use mathlib.Core.Path.{_≡_}
 use mathlib.Core.List.{List, [], _∷_, _++_}

@@ -1,4 +1,4 @@
--- Demand 3 of 00, as one statement over every list of calls and any implementation.
+-- Demand 3 of 00, with removals as 02, 1 asks, as one statement over every list of calls and any implementation.
 use mathlib.Core.Path.{_≡_}
 use mathlib.Core.Logic.{_≢_}
 use mathlib.Core.Bool.{true, false}
@@ -16,9 +16,10 @@ use Rattle.blocks.specs.Read.{shown}
 use Rattle.blocks.specs.Left.{SlotFields, SlotLeft}
 use Rattle.snapshots.specs.Tables.{snapshotFields, restoreFields, releaseFields}
 use Rattle.store.specs.Insert.{cellsToInsert, blockBuild}
-use Rattle.store.specs.Laid.{Laid, Lacks, MayInsert}
+use Rattle.store.specs.Remove.{cellsToRemove, blockRemoval}
+use Rattle.store.specs.Laid.{Laid, Lacks, MayInsert, MayRemove}
 use Rattle.store.specs.Tables.{FormatTable}
-use Rattle.history.specs.Calls.{Call, inserting, snapshotting, restoring, releasing, Implementation, Outcome, outcome, run, answersOf, KeysAreBytes}
+use Rattle.history.specs.Calls.{Call, inserting, removing, snapshotting, restoring, releasing, Implementation, Outcome, outcome, run, answersOf, KeysAreBytes}
 use Rattle.history.specs.Ledger.{Ledger, emptyLedger, ledgerAfter, ledgerAnswers, fedBy}
 
 -- 00: "A mark is held exactly when the ledger holds a table in its slot, and shows exactly that table"
@@ -58,6 +59,7 @@ AtSlot block fields o = o .answer ≡ 0 → SlotLeft block (o .block) fields
 -- what is claimed of a call by its kind
 abbrev pub AtKind : List ℕ → Call → Outcome → Type 0
 AtKind block (inserting key value) o = AtBuild block key (MayInsert key value) (cellsToInsert block key) (blockBuild block key value) o
+AtKind block (removing key) o = AtBuild block key (MayRemove block key) (cellsToRemove block key) (blockRemoval block key) o
 -- 01: "Marking sets a slot to the present root (a held slot is overwritten)."
 AtKind block (snapshotting slot) o = AtSlot block (snapshotFields block slot) o
 -- 01: "Going back sets the root to a held mark, which stays held."

@@ -13,6 +13,7 @@ use Rattle.blocks.specs.Refusal.{Changed, changedBy, Counted}
 use Rattle.store.specs.Format.{format}
 use Rattle.store.specs.Free.{free}
 use Rattle.store.specs.Insert.{insert}
+use Rattle.store.specs.Remove.{remove}
 use Rattle.snapshots.specs.Snapshots.{withBit, slotRefusals, usedSlotRefusals, snapshotBlock, snapshot, restore, release}
 use Rattle.history.specs.Calls.{Implementation}
 
@@ -20,16 +21,17 @@ use Rattle.history.specs.Calls.{Implementation}
 abbrev refuses : ℕ → List ℕ → Changed
 refuses number block = record { answer = number; block = block }
 
--- a refused insertion
-abbrev refusesInsert : ℕ → List ℕ → Counted
-refusesInsert number block = record { answer = number; count = 0; block = block }
+-- a refusal of a call that counts cells
+abbrev refusesChange : ℕ → List ℕ → Counted
+refusesChange number block = record { answer = number; count = 0; block = block }
 
 -- 01: "the book that always says no"; the first will not even format
 unfoldable pub alwaysNo : ℕ → Implementation
 alwaysNo number =
     record {
       formatCall = refuses number;
-      insertCall = λ block key value. refusesInsert number block;
+      insertCall = λ block key value. refusesChange number block;
+      removeCall = λ block key. refusesChange number block;
       snapshotCall = λ block slot. refuses number block;
       restoreCall = λ block slot. refuses number block;
       releaseCall = λ block slot. refuses number block;
@@ -40,7 +42,8 @@ unfoldable pub onlyFormats : ℕ → Implementation
 onlyFormats number =
     record {
       formatCall = format;
-      insertCall = λ block key value. refusesInsert number block;
+      insertCall = λ block key value. refusesChange number block;
+      removeCall = λ block key. refusesChange number block;
       snapshotCall = λ block slot. refuses number block;
       restoreCall = λ block slot. refuses number block;
       releaseCall = λ block slot. refuses number block;
@@ -52,7 +55,7 @@ insertNothing block key value = let i = insert block key value in record { answe
 
 -- all other calls as ours
 unfoldable pub insertsNothing : Implementation
-insertsNothing = record { formatCall = format; insertCall = insertNothing; snapshotCall = snapshot; restoreCall = restore; releaseCall = release }
+insertsNothing = record { formatCall = format; insertCall = insertNothing; removeCall = remove; snapshotCall = snapshot; restoreCall = restore; releaseCall = release }
 
 -- 01: "marks that store no root": the slot is in use, with the word 0
 unfoldable pub rootlessBlock : Layout → List ℕ → ℕ → List ℕ
@@ -64,7 +67,7 @@ rootlessSnapshot block slot = changedBy (slotRefusals block slot) block (rootles
 
 -- all other calls as ours
 unfoldable pub storesNoRoot : Implementation
-storesNoRoot = record { formatCall = format; insertCall = insert; snapshotCall = rootlessSnapshot; restoreCall = restore; releaseCall = release }
+storesNoRoot = record { formatCall = format; insertCall = insert; removeCall = remove; snapshotCall = rootlessSnapshot; restoreCall = restore; releaseCall = release }
 
 -- 01: "a going back that alters nothing": the answer as ours
 abbrev restoreNothing : List ℕ → ℕ → Changed
@@ -72,7 +75,7 @@ restoreNothing block slot = record { answer = restore block slot .answer; block 
 
 -- all other calls as ours
 unfoldable pub restoresNothing : Implementation
-restoresNothing = record { formatCall = format; insertCall = insert; snapshotCall = snapshot; restoreCall = restoreNothing; releaseCall = release }
+restoresNothing = record { formatCall = format; insertCall = insert; removeCall = remove; snapshotCall = snapshot; restoreCall = restoreNothing; releaseCall = release }
 
 -- 01: "an invented cell count": all else as ours
 abbrev insertOvercounted : List ℕ → List ℕ → ℕ → Counted
@@ -80,7 +83,7 @@ insertOvercounted block key value = let i = insert block key value in record { a
 
 -- all other calls as ours
 unfoldable pub inventsCount : Implementation
-inventsCount = record { formatCall = format; insertCall = insertOvercounted; snapshotCall = snapshot; restoreCall = restore; releaseCall = release }
+inventsCount = record { formatCall = format; insertCall = insertOvercounted; removeCall = remove; snapshotCall = snapshot; restoreCall = restore; releaseCall = release }
 
 -- a snapshot that, where it is done, also sets byte 0; 01: "Cell 0 is never used."
 abbrev cellZeroSnapshot : List ℕ → ℕ → Changed
@@ -88,7 +91,7 @@ cellZeroSnapshot block slot = changedBy (slotRefusals block slot) block (set (sn
 
 -- all other calls as ours
 unfoldable pub writesCellZero : Implementation
-writesCellZero = record { formatCall = format; insertCall = insert; snapshotCall = cellZeroSnapshot; restoreCall = restore; releaseCall = release }
+writesCellZero = record { formatCall = format; insertCall = insert; removeCall = remove; snapshotCall = cellZeroSnapshot; restoreCall = restore; releaseCall = release }
 
 -- a restore that, where it is done, copies the cell that the slot's word names into the first free cell and sets the root to the copy,
 -- of the same kind; as ours where the table is empty or no cell is free. The block is sound and shows the slot's table, and every
@@ -107,4 +110,34 @@ restoreByCopy block slot =
 
 -- all other calls as ours
 unfoldable pub restoresByCopy : Implementation
-restoresByCopy = record { formatCall = format; insertCall = insert; snapshotCall = snapshot; restoreCall = restoreByCopy; releaseCall = release }
+restoresByCopy = record { formatCall = format; insertCall = insert; removeCall = remove; snapshotCall = snapshot; restoreCall = restoreByCopy; releaseCall = release }
+
+-- 02, 1, in the same spirit: a removal that does nothing, its answer and its count as ours
+abbrev removeNothing : List ℕ → List ℕ → Counted
+removeNothing block key = let r = remove block key in record { answer = r .answer; count = r .count; block = block }
+
+-- all other calls as ours
+unfoldable pub removesNothing : Implementation
+removesNothing = record { formatCall = format; insertCall = insert; removeCall = removeNothing; snapshotCall = snapshot; restoreCall = restore; releaseCall = release }
+
+-- a removal that counts one cell too many where it is done: all else as ours
+abbrev removeOvercounted : List ℕ → List ℕ → Counted
+removeOvercounted block key =
+    let r = remove block key in
+    record { answer = r .answer; count = cond (eqb (r .answer) 0) (r .count + 1) (r .count); block = r .block }
+
+-- all other calls as ours
+unfoldable pub overcountsRemovals : Implementation
+overcountsRemovals = record { formatCall = format; insertCall = insert; removeCall = removeOvercounted; snapshotCall = snapshot; restoreCall = restore; releaseCall = release }
+
+-- a removal that always answers 11, as if every key were missing; all other calls as ours
+unfoldable pub alwaysMissing : Implementation
+alwaysMissing =
+    record {
+      formatCall = format;
+      insertCall = insert;
+      removeCall = λ block key. refusesChange 11 block;
+      snapshotCall = snapshot;
+      restoreCall = restore;
+      releaseCall = release;
+    }

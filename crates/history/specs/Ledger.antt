@@ -1,12 +1,13 @@
--- 01, "The ledger of demand 3": "The ledger never looks into the book."
+-- 01, "The ledger of demand 3": "The ledger never looks into the book.", and 02, 1, for removals.
 use mathlib.Core.Bool.{Bool, false, _&&_, cond}
 use mathlib.Core.List.{List, [], _∷_}
 use mathlib.Core.Option.{Option, none, some}
 use Prim.Native.Nat.{ℕ}
 use lib.Dec.{leb, eqb}
-use Rattle.trees.specs.Lookup.{Table, emptyTable, update}
-use Rattle.blocks.specs.Refusal.{badNewKey, badValue}
-use Rattle.history.specs.Calls.{Call, inserting, snapshotting, restoring, releasing, Implementation, outcome}
+use Rattle.trees.specs.Lookup.{Table, emptyTable, update, erase}
+use Rattle.blocks.specs.Refusal.{badKey, badNewKey, badValue}
+use Rattle.blocks.specs.Read.{missing}
+use Rattle.history.specs.Calls.{Call, inserting, removing, snapshotting, restoring, releasing, Implementation, outcome}
 
 -- 01: "It has a present table of labels and values and, for each lawful slot (one that doesn't get 5), a table or nothing."
 pub record Ledger : Type 0 where
@@ -17,7 +18,8 @@ pub record Ledger : Type 0 where
 abbrev pub emptyLedger : Ledger
 emptyLedger = record { present = emptyTable; held = λ _. none }
 
--- 01: "It is fed each call's kind and arguments and, of the answers, only whether an entry got 7."
+-- 01: "It is fed each call's kind and arguments and, of the answers, only whether an entry got 7."; 02, 1: "The ledger is fed a removal's 7
+-- too"
 pub record Fed : Type 0 where
   pub call : Call
   pub noRoom : Bool
@@ -47,6 +49,15 @@ noteInsert ledger key value noRoom =
     (cond (badValue value) (unaltered 4 ledger)
     (cond noRoom (unaltered 7 ledger)
     (done (record { present = update (ledger .present) key value; held = ledger .held }))))
+
+-- 02, 1: "it answers a removal with 3 where that applies, else 11 if its present table lacks the label, else 7 if that was fed, else 0, and
+-- strikes that pair out."
+unfoldable pub noteRemove : Ledger → List ℕ → Bool → Noted
+noteRemove ledger key noRoom =
+    cond (badKey key) (unaltered 3 ledger)
+    (cond (missing (ledger .present key)) (unaltered 11 ledger)
+    (cond noRoom (unaltered 7 ledger)
+    (done (record { present = erase (ledger .present) key; held = ledger .held }))))
 
 -- 01: "each lawful slot (one that doesn't get 5)"
 unfoldable pub ledgerSlot : ℕ → ℕ → Bool
@@ -81,6 +92,7 @@ noteRelease slots ledger slot =
 -- one step of a ledger with so many slots
 unfoldable pub noteCall : ℕ → Ledger → Call → Bool → Noted
 noteCall slots ledger (inserting key value) noRoom = noteInsert ledger key value noRoom
+noteCall slots ledger (removing key) noRoom = noteRemove ledger key noRoom
 noteCall slots ledger (snapshotting slot) noRoom = noteSnapshot slots ledger slot
 noteCall slots ledger (restoring slot) noRoom = noteRestore slots ledger slot
 noteCall slots ledger (releasing slot) noRoom = noteRelease slots ledger slot
@@ -97,9 +109,10 @@ ledgerAnswers slots ledger (f ∷ fs) =
     let noted = noteCall slots ledger (f .call) (f .noRoom) in
     noted .answer ∷ ledgerAnswers slots (noted .ledger) fs
 
--- whether an insertion got 7
+-- whether an insertion or a removal got 7
 unfoldable pub gotNoRoom : Call → ℕ → Bool
 gotNoRoom (inserting key value) answer = eqb answer 7
+gotNoRoom (removing key) answer = eqb answer 7
 gotNoRoom (snapshotting slot) answer = false
 gotNoRoom (restoring slot) answer = false
 gotNoRoom (releasing slot) answer = false

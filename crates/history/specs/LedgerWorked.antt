@@ -1,4 +1,4 @@
--- The ledger alone, computed by the steps that 01 writes out, and what it is fed beside a run.
+-- The ledger alone, computed by the steps that 01 and 02 write out, and what it is fed beside a run.
 use mathlib.Core.Path.{_≡_, refl}
 use mathlib.Core.Bool.{Bool, true, false}
 use mathlib.Core.List.{List, [], _∷_, _++_, map}
@@ -8,17 +8,18 @@ use lib.ListN.{replicate}
 use Rattle.cells.specs.Bytes.{zeros}
 use Rattle.trees.specs.Lookup.{Table, sameKey, assign}
 use Rattle.blocks.specs.Refusal.{overLong, badKey, badNewKey, badValue}
+use Rattle.blocks.specs.Read.{missing}
 use Rattle.store.specs.Format.{format}
 use Rattle.snapshots.specs.Computing.{snapshotsOpen}
 use Rattle.store.specs.Computing.{callsOpen}
-use Rattle.history.specs.Calls.{Call, inserting, snapshotting, restoring, releasing, ours, outcome}
-use Rattle.history.specs.Ledger.{Ledger, emptyLedger, Fed, noteInsert, ledgerSlot, noteSnapshot, noteHeld, noteRestore, noteRelease, noteCall, ledgerAfter, ledgerAnswers, gotNoRoom, fedBy}
+use Rattle.history.specs.Calls.{Call, inserting, removing, snapshotting, restoring, releasing, ours, outcome}
+use Rattle.history.specs.Ledger.{Ledger, emptyLedger, Fed, noteInsert, noteRemove, ledgerSlot, noteSnapshot, noteHeld, noteRestore, noteRelease, noteCall, ledgerAfter, ledgerAnswers, gotNoRoom, fedBy}
 
 -- a call that did not get 7
 abbrev fed : Call → Fed
 fed call = record { call = call; noRoom = false }
 
--- an insertion that got 7
+-- an insertion or a removal that got 7
 abbrev fedSeven : Call → Fed
 fedSeven call = record { call = call; noRoom = true }
 
@@ -96,6 +97,63 @@ pub ledger-tables :
 unfolding heldAt sameKey assign overLong badKey badNewKey badValue noteInsert ledgerSlot noteSnapshot noteHeld noteRestore noteRelease noteCall ledgerAfter
 ledger-tables = refl
 
+-- a key that begins with another one
+abbrev key4142 : List ℕ
+key4142 = 0x41 ∷ 0x42 ∷ []
+
+-- no list inserts it
+abbrev key43 : List ℕ
+key43 = 0x43 ∷ []
+
+-- what the removals are asked of
+abbrev beforeRemovals : List Fed
+beforeRemovals = fed (inserting key41 5) ∷ fed (inserting key42 8) ∷ fed (inserting key4142 6) ∷ fed (snapshotting 1) ∷ []
+
+-- 02: "it answers a removal with 3 where that applies, else 11 if its present table lacks the label, else 7 if that was fed"
+abbrev refusedRemovals : List Fed
+refusedRemovals =
+    beforeRemovals
+    ++ fedSeven (removing [])
+    ∷ fedSeven (removing (replicate 1000 0x41))
+    ∷ fedSeven (removing key43)
+    ∷ fedSeven (removing key41)
+    ∷ fed (removing [])
+    ∷ fed (removing (replicate 1000 0x41))
+    ∷ fed (removing key43)
+    ∷ []
+
+-- 02: "else 0, and strikes that pair out": it is struck out once
+abbrev removalsAfter : List Fed
+removalsAfter = refusedRemovals ++ fed (removing key41) ∷ fed (removing key41) ∷ fedSeven (removing key41) ∷ []
+
+-- the slot has it still; and a key struck out may be inserted again
+abbrev againAfter : List Fed
+againAfter = removalsAfter ++ fed (restoring 1) ∷ fed (removing key42) ∷ fed (inserting key42 9) ∷ []
+
+-- the answers to all of these
+pub removals-answers :
+    ledgerAnswers 3 emptyLedger againAfter
+    ≡ 0 ∷ 0 ∷ 0 ∷ 0 ∷ 3 ∷ 3 ∷ 11 ∷ 7 ∷ 3 ∷ 3 ∷ 11 ∷ 0 ∷ 11 ∷ 11 ∷ 0 ∷ 0 ∷ 0 ∷ []
+unfolding sameKey assign overLong badKey badNewKey badValue missing noteInsert noteRemove ledgerSlot noteSnapshot noteHeld noteRestore noteCall ledgerAnswers
+removals-answers = refl
+
+-- the present table at the four keys, then slot 1's at 41
+abbrev pub tablesAfter : List Fed → List (Option (Option ℕ))
+tablesAfter feds =
+    let ledger : Ledger = ledgerAfter 3 emptyLedger feds in
+    map (λ key. some (ledger .present key)) (key41 ∷ key42 ∷ key4142 ∷ key43 ∷ []) ++ heldAt key41 (ledger .held 1) ∷ []
+
+-- a removal with another answer than 0 alters nothing; with 0, only that pair is gone, and the slot keeps its table
+pub removals-tables :
+    _≡_ {A = List (List (Option (Option ℕ)))}
+    (map tablesAfter (refusedRemovals ∷ removalsAfter ∷ againAfter ∷ []))
+    ((some (some 5) ∷ some (some 8) ∷ some (some 6) ∷ some none ∷ some (some 5) ∷ [])
+    ∷ (some none ∷ some (some 8) ∷ some (some 6) ∷ some none ∷ some (some 5) ∷ [])
+    ∷ (some (some 5) ∷ some (some 9) ∷ some (some 6) ∷ some none ∷ some (some 5) ∷ [])
+    ∷ [])
+unfolding heldAt sameKey assign overLong badKey badNewKey badValue missing noteInsert noteRemove ledgerSlot noteSnapshot noteHeld noteRestore noteCall ledgerAfter
+removals-tables = refl
+
 -- what was fed of each answer
 abbrev flags : List Call → List Bool
 flags calls = map (λ f. f .noRoom) (fedBy ours (format (zeros 128) .block) calls)
@@ -117,3 +175,20 @@ pub fed-sevens :
     (false ∷ false ∷ false ∷ true ∷ false ∷ false ∷ false ∷ false ∷ false ∷ [])
 unfolding callsOpen snapshotsOpen ours outcome gotNoRoom fedBy
 fed-sevens = refl
+
+-- 02: "The ledger is fed a removal's 7 too": a removal with no free cell; not its 11, its 3 or its 0
+pub fed-removals :
+    _≡_ {A = List Bool}
+    (flags
+    (inserting key41 0
+    ∷ snapshotting 1
+    ∷ inserting key42 1
+    ∷ removing key41
+    ∷ removing key43
+    ∷ removing []
+    ∷ releasing 1
+    ∷ removing key41
+    ∷ []))
+    (false ∷ false ∷ false ∷ true ∷ false ∷ false ∷ false ∷ false ∷ [])
+unfolding callsOpen snapshotsOpen ours outcome gotNoRoom fedBy
+fed-removals = refl

@@ -1,13 +1,15 @@
 -- Lists of calls, computed: while a snapshot holds a cell there is no room; once it is released or overwritten, the cell is used again.
+-- Removals among them: they need free cells too.
 use mathlib.Core.Path.{_≡_, refl}
 use mathlib.Core.List.{List, [], _∷_, _++_}
 use Prim.Native.Nat.{ℕ}
+use lib.ListN.{replicate}
 use Rattle.cells.specs.Bytes.{zeros}
 use Rattle.blocks.specs.Trailer.{layoutOf, rootWord}
 use Rattle.store.specs.Format.{format}
 use Rattle.snapshots.specs.Computing.{snapshotsOpen}
 use Rattle.store.specs.Computing.{callsOpen}
-use Rattle.history.specs.Calls.{Call, inserting, snapshotting, restoring, releasing, ours, outcome, run, answersOf}
+use Rattle.history.specs.Calls.{Call, inserting, removing, snapshotting, restoring, releasing, Outcome, ours, outcome, run, answersOf}
 
 -- a key of one letter
 abbrev letter : List ℕ
@@ -98,3 +100,73 @@ pub refused-left :
     (fresh ∷ run ours fresh held ∷ [])
 unfolding callsOpen snapshotsOpen ours outcome run
 refused-left = refl
+
+-- other keys of one letter
+abbrev letter42 : List ℕ
+letter42 = 0x42 ∷ []
+
+-- one that no list inserts
+abbrev letter43 : List ℕ
+letter43 = 0x43 ∷ []
+
+-- 02: "Removal needs free cells too, so a full book may refuse it until a mark is dropped.": slot 1 holds cell 1, the root has cell 2
+abbrev fullBlock : List Call
+fullBlock = inserting letter 1 ∷ snapshotting 1 ∷ inserting letter42 2 ∷ []
+
+-- 02: "11 before 7 for this call", and 3 before both, with no free cell
+abbrev refusedRemovals : List Call
+refusedRemovals = fullBlock ++ removing letter ∷ removing letter43 ∷ removing [] ∷ removing (replicate 1000 0x41) ∷ []
+
+-- the snapshot released, and 41 removed
+abbrev removedOnce : List Call
+removedOnce = fullBlock ++ releasing 1 ∷ removing letter ∷ []
+
+-- 41 is gone; with the last key the block is empty
+abbrev removedAll : List Call
+removedAll = removedOnce ++ removing letter ∷ removing [] ∷ removing (replicate 1000 0x41) ∷ removing letter42 ∷ removing letter42 ∷ []
+
+-- the last key takes no cell, so it is removed with none free; the slot still has it
+abbrev removedHeld : List Call
+removedHeld = held ++ removing letter ∷ []
+
+-- the answers of each list, then the root words after each
+pub worked-removals :
+    _≡_ {A = List (List ℕ)}
+    (answersOf ours fresh refusedRemovals
+    ∷ answersOf ours fresh removedAll
+    ∷ answersOf ours fresh (removedHeld ++ restoring 1 ∷ [])
+    ∷ (rootOf (run ours fresh refusedRemovals)
+    ∷ rootOf (run ours fresh removedOnce)
+    ∷ rootOf (run ours fresh removedAll)
+    ∷ rootOf (run ours fresh removedHeld)
+    ∷ rootOf (run ours fresh (removedHeld ++ restoring 1 ∷ []))
+    ∷ [])
+    ∷ [])
+    ((0 ∷ 0 ∷ 0 ∷ 7 ∷ 11 ∷ 3 ∷ 3 ∷ [])
+    ∷ (0 ∷ 0 ∷ 0 ∷ 0 ∷ 0 ∷ 11 ∷ 3 ∷ 3 ∷ 0 ∷ 11 ∷ [])
+    ∷ (0 ∷ 0 ∷ 0 ∷ 0 ∷ 0 ∷ [])
+    ∷ (0x5E ∷ 0x3B ∷ 0 ∷ 0 ∷ 0x3B ∷ [])
+    ∷ [])
+unfolding callsOpen snapshotsOpen ours outcome run answersOf
+worked-removals = refl
+
+-- a call's answer and count after a list
+abbrev answerAndCount : List Call → Call → List ℕ
+answerAndCount calls call = let o : Outcome = outcome ours (run ours fresh calls) call in o .answer ∷ o .count ∷ []
+
+-- 02: "The answer counts the cells taken.": one for what is left of two keys, none for the last key, none where the answer is a no
+pub removals-counted :
+    _≡_ {A = List (List ℕ)}
+    (answerAndCount fullBlock (removing letter)
+    ∷ answerAndCount (fullBlock ++ releasing 1 ∷ []) (removing letter)
+    ∷ answerAndCount removedOnce (removing letter)
+    ∷ answerAndCount removedOnce (removing letter42)
+    ∷ [])
+    ((7 ∷ 0 ∷ []) ∷ (0 ∷ 1 ∷ []) ∷ (11 ∷ 0 ∷ []) ∷ (0 ∷ 0 ∷ []) ∷ [])
+unfolding callsOpen snapshotsOpen ours outcome run
+removals-counted = refl
+
+-- 01: "the book stays byte for byte": refused removals leave a block with no free cell
+pub removals-left : run ours fresh refusedRemovals ≡ run ours fresh fullBlock
+unfolding callsOpen snapshotsOpen ours outcome run
+removals-left = refl

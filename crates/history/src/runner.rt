@@ -2,8 +2,8 @@
 ghost use mathlib.Core.Path.{_≡_};
 ghost use Prim.Native.Nat.{_≤_};
 ghost use lib.ListN.{length};
-ghost use Rattle.history.specs.Calls.{inserting, snapshotting, restoring, releasing};
-ghost use Rattle.history.specs.Code.Encoded.{decodeCall, decodeInsert};
+ghost use Rattle.history.specs.Calls.{inserting, removing, snapshotting, restoring, releasing};
+ghost use Rattle.history.specs.Code.Encoded.{decodeCall, decodeInsert, decodeRemove};
 ghost use Rattle.history.specs.Code.Running.{numbered, answered, step, stepOutcome, runOutcome, Meets};
 use blocks::answer::ChangeAnswer;
 use blocks::answer::change_number;
@@ -14,6 +14,7 @@ use snapshots::restore;
 use snapshots::snapshot;
 use store::formatting::format;
 use store::inserting::insert;
+use store::removing::remove;
 
 // Why a run stopped: the bytes are at their end, they encode no call, or there is no room for one more answer.
 pub enum Stop {
@@ -41,6 +42,13 @@ fn run_insert(block: &mut [u8], key: &[u8], value: u32) -> u8
     count_number(insert(block, key, value))
 }
 
+// A removal, with its answer number.
+fn run_remove(block: &mut [u8], key: &[u8]) -> u8
+    ensures { λ r. ⌜ answered (now (block .entry)) (removing (now (key .entry))) ≡ numbered r (now (block .exit)) ⌝ }
+{
+    count_number(remove(block, key))
+}
+
 // A snapshot, with its answer number.
 fn run_snapshot(block: &mut [u8], slot: u32) -> u8
     ensures { λ r. ⌜ answered (now (block .entry)) (snapshotting slot) ≡ numbered r (now (block .exit)) ⌝ }
@@ -64,7 +72,7 @@ fn run_release(block: &mut [u8], slot: u32) -> u8
 
 // Runs the insertion at the front of some bytes.
 fn step_insert(block: &mut [u8], bytes: &[u8]) -> Stepped
-    requires { ⌜ 5 ≤ length (now bytes) ⌝ }
+    requires { ⌜ 2 ≤ length (now bytes) ⌝ }
     ensures { λ r. ⌜ step (now (block .entry)) (decodeInsert (now (bytes .entry))) ≡ stepOutcome r (now (block .exit)) ⌝ }
 {
     let size = bytes[1] as usize;
@@ -78,16 +86,36 @@ fn step_insert(block: &mut [u8], bytes: &[u8]) -> Stepped
     Stepped::Did(taken, number)
 }
 
-// Runs the call at the front of some bytes.
+// Runs the removal at the front of some bytes.
+fn step_remove(block: &mut [u8], bytes: &[u8]) -> Stepped
+    requires { ⌜ 2 ≤ length (now bytes) ⌝ }
+    ensures { λ r. ⌜ step (now (block .entry)) (decodeRemove (now (bytes .entry))) ≡ stepOutcome r (now (block .exit)) ⌝ }
+{
+    let size = bytes[1] as usize;
+    let taken = size + 2;
+    if bytes.len() < taken {
+        return Stepped::Nothing;
+    }
+    let number = run_remove(block, &bytes[2..taken]);
+    Stepped::Did(taken, number)
+}
+
+// Runs the call at the front of some bytes: the shortest, a removal, has two.
 fn step_call(block: &mut [u8], bytes: &[u8]) -> Stepped
     ensures { λ r. ⌜ step (now (block .entry)) (decodeCall (now (bytes .entry))) ≡ stepOutcome r (now (block .exit)) ⌝ }
 {
-    if bytes.len() < 5 {
+    if bytes.len() < 2 {
         return Stepped::Nothing;
     }
     let tag = bytes[0];
     if tag == 1 {
         return step_insert(block, bytes);
+    }
+    if tag == 5 {
+        return step_remove(block, bytes);
+    }
+    if bytes.len() < 5 {
+        return Stepped::Nothing;
     }
     let slot = word_at(bytes, 1);
     if tag == 2 {

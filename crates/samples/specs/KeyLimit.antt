@@ -6,11 +6,12 @@ use Rattle.cells.specs.Bytes.{zeros}
 use Rattle.blocks.specs.Computing.{nextOpen}
 use Rattle.blocks.specs.Read.{Next, get, nextKey}
 use Rattle.store.specs.Insert.{insert}
+use Rattle.store.specs.Remove.{remove}
 use Rattle.store.specs.Computing.{callsOpen}
 use Rattle.dosing.specs.Verdict.{verdict}
 use Rattle.dosing.specs.Verdicts.{verdictOpen, warm, five, on}
 use Rattle.dosing.specs.declared.temperature.Reading.the-variants.{Celsius}
-use Rattle.samples.specs.Calls.{fresh, sampleA}
+use Rattle.samples.specs.Calls.{fresh, sampleA, rootOf}
 use Rattle.samples.specs.Pinned.{label}
 
 -- the longest label in a block of four cells, with 7 March 2025
@@ -25,6 +26,14 @@ pub asked-labels :
     (0 ∷ 3 ∷ 3 ∷ 11 ∷ 0 ∷ 3 ∷ 3 ∷ 11 ∷ [])
 unfolding callsOpen verdictOpen fresh longest
 asked-labels = refl
+
+-- the same of a removal, which is done for 48 bytes and leaves the root 0
+pub removed-labels :
+    _≡_ {A = List ℕ}
+    (map (λ size. remove longest (label size) .answer) (48 ∷ 49 ∷ 0 ∷ 47 ∷ []) ++ (rootOf (remove longest (label 48) .block) ∷ []))
+    (0 ∷ 3 ∷ 3 ∷ 11 ∷ 0 ∷ [])
+unfolding callsOpen fresh longest
+removed-labels = refl
 
 -- a next key's answer, length and bytes
 abbrev told : Next → List ℕ

@@ -2,9 +2,9 @@
 use crate::change_number;
 use crate::insert_count;
 use crate::insert_number;
-use crate::print;
 use blocks::validate::validate;
 use cells::word_at;
+use printing::lines;
 use store::formatting::format;
 use store::inserting::insert;
 
@@ -13,7 +13,7 @@ fn label_root(name: &[u8], label: &[u8]) {
     let mut block = [0u8; 128];
     format(&mut block);
     insert(&mut block, label, 0);
-    print::word(name, word_at(&block, 96));
+    lines::word(name, word_at(&block, 96));
 }
 
 // Labels of 28, 29, 48 and 49 bytes in a fresh block of four cells.
@@ -24,7 +24,7 @@ pub fn labels() {
     label_root(b"48 bytes root ", &label[..48]);
     let mut block = [0u8; 128];
     format(&mut block);
-    print::number(
+    lines::number(
         b"49 bytes answer ",
         insert_number(insert(&mut block, &label, 0)),
     );
@@ -32,7 +32,7 @@ pub fn labels() {
 
 // Enters one child and writes how many cells it took.
 fn child(block: &mut [u8], key: &[u8], value: u32) {
-    print::number(b"child count ", insert_count(insert(block, key, value)));
+    lines::number(b"child count ", insert_count(insert(block, key, value)));
 }
 
 // The seven children that make a split.
@@ -46,15 +46,15 @@ pub fn seven_children() {
     child(&mut block, b"C", 4);
     child(&mut block, b"P", 5);
     child(&mut block, b"Q", 6);
-    print::word(b"split root ", word_at(&block, 480));
+    lines::word(b"split root ", word_at(&block, 480));
 }
 
 // Blocks of 3 and of 2,049 cells.
 pub fn sizes() {
     let mut small = [0u8; 96];
-    print::number(b"3 cells answer ", change_number(format(&mut small)));
+    lines::number(b"3 cells answer ", change_number(format(&mut small)));
     let mut large = [0u8; 65568];
-    print::number(b"2049 cells answer ", change_number(format(&mut large)));
+    lines::number(b"2049 cells answer ", change_number(format(&mut large)));
 }
 
 // A cell visited twice: a chain whose end leads into its own cell.
@@ -62,7 +62,7 @@ pub fn visited_twice() {
     let mut block = [0u8; 128];
     format(&mut block);
     insert(&mut block, b"A", 0);
-    print::number(b"visited once answer ", change_number(validate(&block)));
+    lines::number(b"visited once answer ", change_number(validate(&block)));
     cells::put_word(&mut block, 60, 0x3B);
-    print::number(b"visited twice answer ", change_number(validate(&block)));
+    lines::number(b"visited twice answer ", change_number(validate(&block)));
 }

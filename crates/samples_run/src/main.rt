@@ -1,11 +1,11 @@
 // Runs the bench samples of the specification and its "Also run" cases on the code, and writes what they give.
 mod also;
-mod print;
 mod verdicts;
 
 use blocks::answer::ChangeAnswer;
 use blocks::answer::CountAnswer;
 use cells::word_at;
+use printing::lines;
 use snapshots::restore;
 use snapshots::snapshot;
 use store::formatting::format;
@@ -39,16 +39,16 @@ pub fn change_number(answer: ChangeAnswer) -> u32 {
 fn four_cells() {
     let mut block = [0xA5u8; 128];
     format(&mut block);
-    print::number(b"A count ", insert_count(insert(&mut block, b"A", 0)));
-    print::bytes(b"A block ", &block);
+    lines::number(b"A count ", insert_count(insert(&mut block, b"A", 0)));
+    lines::bytes(b"A block ", &block);
     snapshot(&mut block, 1);
     insert(&mut block, b"A", 1);
-    print::word(b"B root ", word_at(&block, 96));
-    print::number(b"C answer ", insert_number(insert(&mut block, b"A", 2)));
+    lines::word(b"B root ", word_at(&block, 96));
+    lines::number(b"C answer ", insert_number(insert(&mut block, b"A", 2)));
     restore(&mut block, 1);
     insert(&mut block, b"A", 2);
-    print::bytes(b"D cell 2 ", &block[64..96]);
-    print::word(b"D root ", word_at(&block, 96));
+    lines::bytes(b"D cell 2 ", &block[64..96]);
+    lines::word(b"D root ", word_at(&block, 96));
 }
 
 // Samples E to G, on a block of eight cells.
@@ -56,13 +56,13 @@ fn eight_cells() {
     let mut block = [0xA5u8; 256];
     format(&mut block);
     insert(&mut block, b"CHA", 0);
-    print::word(b"E root ", word_at(&block, 224));
+    lines::word(b"E root ", word_at(&block, 224));
     insert(&mut block, b"A", 1);
-    print::word(b"F root ", word_at(&block, 224));
-    print::bytes(b"F cell 2 ", &block[64..96]);
+    lines::word(b"F root ", word_at(&block, 224));
+    lines::bytes(b"F cell 2 ", &block[64..96]);
     insert(&mut block, b"5", 2);
-    print::word(b"G root ", word_at(&block, 224));
-    print::bytes(b"G order word ", &block[126..128]);
+    lines::word(b"G root ", word_at(&block, 224));
+    lines::bytes(b"G order word ", &block[126..128]);
 }
 
 // Sample H, on a block of eight cells.
@@ -70,9 +70,9 @@ fn prefix_cell() {
     let mut block = [0xA5u8; 256];
     format(&mut block);
     insert(&mut block, b"CHA", 0);
-    print::number(b"H count ", insert_count(insert(&mut block, b"C", 5)));
-    print::word(b"H link of cell 2 ", word_at(&block, 92));
-    print::word(b"H root ", word_at(&block, 224));
+    lines::number(b"H count ", insert_count(insert(&mut block, b"C", 5)));
+    lines::word(b"H link of cell 2 ", word_at(&block, 92));
+    lines::word(b"H root ", word_at(&block, 224));
 }
 
 fn main() {

@@ -1,5 +1,4 @@
 // Samples I to L, and limits met exactly.
-use crate::print;
 use calendar::Date;
 use calendar::Day;
 use calendar::Month;
@@ -14,6 +13,7 @@ use dosing::temperature::to_celsius;
 use dosing::verdict::VerdictAnswer;
 use dosing::verdict::verdict;
 use order_words::is_valid_order;
+use printing::lines;
 use store::formatting::format;
 use store::inserting::insert;
 
@@ -24,11 +24,11 @@ fn flag(holds: bool) -> u32 {
 
 // Sample I.
 pub fn order_words() {
-    print::number(b"I 0006 ", flag(is_valid_order(0x0006)));
-    print::number(b"I 0026 ", flag(is_valid_order(0x0026)));
-    print::number(b"I 8129 ", flag(is_valid_order(0x8129)));
-    print::number(b"I 0001 ", flag(is_valid_order(0x0001)));
-    print::number(b"I 0007 ", flag(is_valid_order(0x0007)));
+    lines::number(b"I 0006 ", flag(is_valid_order(0x0006)));
+    lines::number(b"I 0026 ", flag(is_valid_order(0x0026)));
+    lines::number(b"I 8129 ", flag(is_valid_order(0x8129)));
+    lines::number(b"I 0001 ", flag(is_valid_order(0x0001)));
+    lines::number(b"I 0007 ", flag(is_valid_order(0x0007)));
 }
 
 // The answer number of a verdict.
@@ -74,50 +74,50 @@ fn packed_number(date: Date) -> u32 {
 // Samples J, K and L.
 pub fn dates() {
     let expiry = date_of(Year(2025), Month(3), Day(7));
-    print::number(b"J packed ", packed_number(expiry));
+    lines::number(b"J packed ", packed_number(expiry));
     let room = Reading::Celsius(20.0);
-    print::number(
+    lines::number(
         b"J that day ",
         verdict_number(judged(expiry, TemperatureGate::Any, room)),
     );
     let next = date_of(Year(2025), Month(3), Day(8));
-    print::number(
+    lines::number(
         b"J next day ",
         verdict_number(judged(next, TemperatureGate::Any, room)),
     );
     let july = date_of(Year(2025), Month(7), Day(3));
-    print::number(
+    lines::number(
         b"J 3 July 2025 ",
         verdict_number(judged(july, TemperatureGate::Any, room)),
     );
-    print::number(
+    lines::number(
         b"K 240 ml ",
         flag(gives(judged(expiry, TemperatureGate::Any, room), 240.0)),
     );
-    print::number(b"L 200 degrees ", flag(to_celsius(392.0) == 200.0));
+    lines::number(b"L 200 degrees ", flag(to_celsius(392.0) == 200.0));
 }
 
 // Limits met exactly, and just missed.
 pub fn limits() {
     let day = date_of(Year(2025), Month(3), Day(7));
     let gate = TemperatureGate::Between(5.0, 200.0);
-    print::number(
+    lines::number(
         b"low limit met ",
         verdict_number(judged(day, gate, Reading::Celsius(5.0))),
     );
-    print::number(
+    lines::number(
         b"high limit met ",
         verdict_number(judged(day, gate, Reading::Fahrenheit(392.0))),
     );
-    print::number(
+    lines::number(
         b"low limit missed ",
         verdict_number(judged(day, gate, Reading::Celsius(4.5))),
     );
-    print::number(
+    lines::number(
         b"reading limit met ",
         verdict_number(judged(day, TemperatureGate::Any, Reading::Celsius(400.0))),
     );
-    print::number(
+    lines::number(
         b"reading limit missed ",
         verdict_number(judged(day, TemperatureGate::Any, Reading::Celsius(400.5))),
     );

@@ -1,4 +1,4 @@
-// The cells that an insertion allocates, each written whole into the stage; meaningless bytes are zero.
+// The cells that a call allocates, each written whole into the stage; meaningless bytes are zero.
 ghost use Prim.Native.Nat.{_+_, _*_, _/_, _≤_, _<_};
 ghost use lib.ListN.{length, getD};
 ghost use Rattle.cells.specs.Word.{wordAt, withWord};

@@ -54,7 +54,7 @@ pub fn put_replaced(
 }
 
 // Writes an order word.
-fn put_order(stage: &mut [u8; STAGE_SIZE], at: usize, order: u16)
+pub fn put_order(stage: &mut [u8; STAGE_SIZE], at: usize, order: u16)
     requires { ⌜ at < stageCells ⌝ }
     ensures { λ _. ⌜ Put (now (stage .entry)) (now (stage .exit)) at (withOrder (memoryOf (now (stage .entry)) at) order) ⌝ }
 {

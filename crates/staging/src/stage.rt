@@ -1,4 +1,4 @@
-// The stage: where the cells that one insertion allocates are written, one after the other.
+// The stage: where the cells that one call allocates are written, one after the other.
 ghost use mathlib.Core.Path.{_≡_};
 ghost use Prim.Native.Nat.{_+_, _*_, _≤_, _<_};
 ghost use lib.ListN.{length, getD, set, take};
@@ -14,7 +14,7 @@ use cells::word_at;
 use nodes::layout::KEY_LIMIT;
 use nodes::layout::Layout;
 
-// The most cells that one insertion allocates.
+// The most cells that one call allocates.
 pub const STAGE_CELLS: usize = 4 * KEY_LIMIT + 10;
 
 // The bytes of a stage.

@@ -6,8 +6,10 @@ use mathlib.Core.Bool.{true, false}
 use mathlib.Core.List.{List}
 use mathlib.Core.Option.{Option}
 use Prim.Native.Nat.{ℕ, _+_, _-_, _*_, _/_, _≤_, _<_}
-use lib.Dec.{leb}
+use native.Mathlib.Omega.{arith}
+use lib.Dec.{leb, eqb}
 use lib.ListN.{length}
+use borrow.Author.Tests.{ltb-false, eqb-false}
 use Rattle.cells.specs.Bytes.{IsBytes}
 use Rattle.cells.specs.Word.{withWord}
 use Rattle.cells.specs.Memory.{Memory, memoryOf}
@@ -22,8 +24,9 @@ use Rattle.updates.proofs.BuildBytes.{Whole}
 use Rattle.updates.proofs.ChangeLaw.{KeyChanged}
 use Rattle.blocks.specs.Trailer.{badSize, layoutOf, rootWord, slotWord, inUse}
 use Rattle.blocks.specs.Sound.{sound}
+use Rattle.blocks.specs.Refusal.{overLong, badKey}
 use Rattle.blocks.specs.Read.{shown}
-use Rattle.blocks.proofs.Trailer.{sized, layout-cells, TrailerSays}
+use Rattle.blocks.proofs.Trailer.{sized, layout-cells, either-left, either-right, TrailerSays}
 use Rattle.blocks.proofs.Roots.{RootParts, root-parts, root-valid, root-cells, root-bound, sound-parts}
 use Rattle.store.specs.Free.{free}
 use Rattle.store.specs.Insert.{cellsFree}
@@ -32,6 +35,17 @@ use Rattle.store.specs.Laid.{rootReaches, Laid}
 use Rattle.blocks.proofs.After.{after, slot-root, old-root-kept}
 use Rattle.store.proofs.Committed.{committed-bytes, committed-cells, committed-trailer, committed-kept, committed-says}
 use Rattle.blocks.specs.After.{After, slotShown}
+
+-- a key that is not bad has 1 to as many bytes as the limit
+pub key-some : (key : List ℕ) → badKey key ≡ false → 1 ≤ length key
+unfolding badKey
+key-some key good =
+    let other : length key ≢ 0 = eqb-false (length key) 0 (either-left (eqb (length key) 0) (overLong key) good) in
+    omega (arith, other)
+
+pub key-fits : (key : List ℕ) → badKey key ≡ false → length key ≤ keyLimit
+unfolding badKey overLong
+key-fits key good = ltb-false keyLimit (length key) (either-right (eqb (length key) 0) (overLong key) good)
 
 -- a build for a key of a sound block: it finds room, keeps the bound, and in any memory where its cells stand the key has
 -- what is given, a value or none

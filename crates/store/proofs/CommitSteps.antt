@@ -1,21 +1,25 @@
 -- A build written into a block cell by cell, and then its root word.
 use mathlib.Core.Path.{_≡_, refl, sym, ap, _∙_}
+use mathlib.Core.Bool.{Bool, true, false}
 use mathlib.Core.List.{List, [], _∷_, _++_}
 use Prim.Native.Nat.{ℕ, _+_, _<_}
 use native.Mathlib.Numerals.{add-one}
 use native.Mathlib.Omega.{arith}
-use lib.ListN.{length}
+use lib.ListN.{length, getD}
 use Rattle.cells.specs.Memory.{memoryOf}
 use Rattle.cells.specs.Writes.{written, cellWrites}
 use Rattle.cells.proofs.CellWrites.{written-append}
 use Rattle.nodes.specs.Layout.{Layout}
 use Rattle.updates.specs.Built.{Built}
 use Rattle.updates.specs.Commit.{buildWrites}
+use Rattle.updates.specs.Code.Staged.{builtOf}
 use Rattle.staging.specs.Code.Stage.{staged}
+use Rattle.staging.specs.declared.stage.BuildState.{BuildState}
 use Rattle.staging.proofs.StageLaws.{staged-length}
 use Rattle.blocks.specs.Trailer.{rootAt}
 use Rattle.blocks.specs.TrailerWrites.{withRoot}
 use Rattle.store.specs.Committed.{commitWrites}
+use Rattle.store.specs.Code.Changeable.{stagedOutcome}
 
 module _ (number : ℕ → ℕ) (stage block : List ℕ) where
   -- no cell written yet
@@ -54,3 +58,14 @@ unfolding buildWrites
 writes-same number number′ [] same = refl
 writes-same number number′ (newest ∷ rest) same =
     rw (writes-same number number′ rest (λ i below. same i (omega arith)), same (length rest) (omega arith))
+
+-- what is staged: 7 where it does not fit, else what its commit leaves
+module _ (layout : Layout) (b numbers : List ℕ) (made : BuildState) (stage : List ℕ) (fits : Bool) where
+  pub outcome-lacks : fits ≡ false → stagedOutcome layout b numbers made stage fits ≡ record { answer = 7; count = 0; block = b }
+  unfolding stagedOutcome
+  outcome-lacks lacks = rw lacks
+
+  pub outcome-takes : fits ≡ true → (after : List ℕ) → after ≡ written b (commitWrites layout (λ i. getD numbers i 0) (builtOf made stage))
+      → stagedOutcome layout b numbers made stage fits ≡ record { answer = 0; count = made .count; block = after }
+  unfolding stagedOutcome
+  outcome-takes enough after is = rw enough (λ i. record { answer = 0; count = made .count; block = sym is i })

@@ -1,9 +1,10 @@
 -- The tables of answers leave nothing free: whatever meets the table of a call equals the call, in its answer, its count and
 -- every byte of the block. 01: "Every public call's contract determines its result and every byte of the block"
 use mathlib.Core.Path.{_≡_, refl, sym, ap, _∙_}
+use mathlib.Core.Logic.{_≢_}
 use mathlib.Core.Bool.{Bool, true, false}
 use mathlib.Core.List.{List}
-use Prim.Native.Nat.{ℕ, _-_, _/_, _%_}
+use Prim.Native.Nat.{ℕ, _-_, _/_, _%_, _≤_, _<_}
 use native.Mathlib.Decide.{decLt, ℕ-discrete}
 use native.Mathlib.Omega.{arith}
 use lib.ListN.{length, getD}
@@ -12,16 +13,20 @@ use Rattle.cells.specs.Bytes.{IsBytes}
 use Rattle.cells.specs.Memory.{memoryOf}
 use Rattle.updates.specs.Built.{Built}
 use Rattle.blocks.specs.Trailer.{cellsAt, editionAt}
-use Rattle.blocks.specs.Refusal.{Changed, badNewKey, badValue, Counted}
-use Rattle.blocks.specs.Tables.{PassesKey, Passes}
+use Rattle.blocks.specs.Refusal.{Changed, Counted, badKey, badNewKey, badValue}
+use Rattle.blocks.specs.Read.{missing, shown}
+use Rattle.blocks.specs.Tables.{PassesKey}
 use Rattle.blocks.proofs.Trailer.{byte-in-cell}
 use Rattle.blocks.proofs.Left.{word-or, word-told}
-use Rattle.blocks.proofs.Determined.{both, passes-or, beside-told, changed-told}
+use Rattle.blocks.proofs.Determined.{both, passes-key-or, beside-told, changed-told}
+use Rattle.blocks.proofs.ReadCalls.{missing-none}
 use Rattle.store.specs.Format.{newLayout, badNewSize, format}
-use Rattle.store.specs.Insert.{cellsFree, cellsToInsert, insert}
-use Rattle.store.proofs.WriteCalls.{format-table, insert-table}
+use Rattle.store.specs.Insert.{cellsFree, cellsToInsert, blockBuild, insert}
+use Rattle.store.specs.Remove.{cellsToRemove, blockRemoval, remove}
+use Rattle.store.proofs.RemoveCall.{is-there}
+use Rattle.store.proofs.WriteCalls.{format-table, insert-table, remove-table}
 use Rattle.store.specs.Laid.{Laid}
-use Rattle.store.specs.Tables.{FreshLeft, FormatTable, InsertTable}
+use Rattle.store.specs.Tables.{FreshLeft, FormatTable, InsertTable, RemoveTable}
 
 -- blocks of one length are the same where their cells are
 block-told : (b b′ : List ℕ) → length b ≡ length b′ → ((c : ℕ) → memoryOf b c ≡ memoryOf b′ c) → b ≡ b′
@@ -59,36 +64,75 @@ module _ (b : List ℕ) where
       go true e = both (t .bad-size) (format-table b .bad-size) e
       go false e = both (t .done) (format-table b .done) e
 
-  -- insertion
-  module _ (key : List ℕ) (value : ℕ) (q r : Counted) (t : InsertTable b key value q) (u : InsertTable b key value r) where
+-- enough cells are free, or not
+room-or : (needed free : ℕ) {Goal : Type 0} → (free < needed → Goal) → (needed ≤ free → Goal) → Goal
+room-or needed free lacks fits = elim (decLt free needed) [
+  | yes more ↦ lacks more
+  | no enough ↦ fits (omega arith)
+]
+
+-- what a table says of a call that lays down a build, beside the answers
+record Outcome (b key : List ℕ) (x : Built) (r : Counted) : Type 0 where
+  refused : r .answer ≢ 0 → (r .count ≡ 0) × (r .block ≡ b)
+  same-length : r .answer ≡ 0 → length (r .block) ≡ length b
+  laid : r .answer ≡ 0 → Laid b key x (r .count) (r .block)
+
+-- with the answer it tells the count and the block
+outcome-told : (b key : List ℕ) (x : Built) (q r : Counted) → q .answer ≡ r .answer → Outcome b key x q → Outcome b key x r → q ≡ r
+outcome-told b key x q r same t u =
+    let count : q .count ≡ r .count =
+    beside-told (q .answer) (r .answer) (q .count) (r .count) 0 same (λ e f. t .laid e .counted ∙ sym (u .laid f .counted))
+    (λ no. t .refused no .0) (λ no. u .refused no .0) in
+    let block : q .block ≡ r .block =
+    beside-told (q .answer) (r .answer) (q .block) (r .block) b same
+    (λ e f. laid-told b key x _ _ _ _ (t .same-length e ∙ sym (u .same-length f)) (t .laid e) (u .laid f))
+    (λ no. t .refused no .1) (λ no. u .refused no .1) in
+    λ i. record { answer = same i; count = count i; block = block i }
+
+-- insertion
+module _ (b key : List ℕ) (value : ℕ) where
+  module _ (q r : Counted) (t : InsertTable b key value q) (u : InsertTable b key value r) where
     insert-answer-told : q .answer ≡ r .answer
     insert-answer-told =
-        passes-or b (both (t .bad-size) (u .bad-size)) (both (t .unsound) (u .unsound)) (λ p. known p (badNewKey key) refl)
+        passes-key-or b (badNewKey key) (both (t .bad-size) (u .bad-size)) (both (t .unsound) (u .unsound))
+        (λ k. both (t .bad-key) (u .bad-key) ((k .0, k .1 .0), k .1 .1)) (λ a. valued a (badValue value) refl)
       where
-        enough : PassesKey b (badNewKey key) → badValue value ≡ false → q .answer ≡ r .answer
-        enough a v = elim (decLt (cellsFree b) (cellsToInsert b key)) [
-          | yes more ↦ both (t .no-room) (u .no-room) (a, (v, more))
-          | no fits ↦ both (t .done) (u .done) (a, (v, omega arith))
-        ]
-
         valued : PassesKey b (badNewKey key) → (s : Bool) → badValue value ≡ s → q .answer ≡ r .answer
         valued a true e = both (t .bad-value) (u .bad-value) (a, e)
-        valued a false e = enough a e
+        valued a false e =
+            room-or (cellsToInsert b key) (cellsFree b) (λ more. both (t .no-room) (u .no-room) (a, (e, more))) (λ fits. both (t .done) (u .done) (a, (e, fits)))
 
-        known : Passes b → (s : Bool) → badNewKey key ≡ s → q .answer ≡ r .answer
-        known p true e = both (t .bad-key) (u .bad-key) (p, e)
-        known p false e = valued (record { size = p .0; valid = p .1; key = e }) (badValue value) refl
+  insert-outcome : (r : Counted) → IsBytes b → IsBytes key → InsertTable b key value r → Outcome b key (blockBuild b key value) r
+  insert-outcome r bytes is-bytes t =
+      record { refused = t .refused; same-length = λ e. t .after bytes is-bytes e .same-length; laid = t .laid bytes is-bytes }
 
-    tables-told : IsBytes b → IsBytes key → q ≡ r
-    tables-told bytes is-bytes =
-        let same : q .answer ≡ r .answer = insert-answer-told in
-        let count : q .count ≡ r .count =
-        beside-told (q .answer) (r .answer) (q .count) (r .count) 0 same
-        (λ e f. t .laid bytes is-bytes e .counted ∙ sym (u .laid bytes is-bytes f .counted)) (λ no. t .refused no .0) (λ no. u .refused no .0) in
-        let block : q .block ≡ r .block =
-        beside-told (q .answer) (r .answer) (q .block) (r .block) b same
-        (λ e f. laid-told b key _ _ _ _ _ (t .after bytes is-bytes e .same-length ∙ sym (u .after bytes is-bytes f .same-length)) (t .laid bytes is-bytes e) (u .laid bytes is-bytes f)) (λ no. t .refused no .1) (λ no. u .refused no .1) in
-        λ i. record { answer = same i; count = count i; block = block i }
+  pub insert-told : (r : Counted) → IsBytes b → IsBytes key → InsertTable b key value r → r ≡ insert b key value
+  insert-told r bytes is-bytes t =
+      let u = insert-table b key value in
+      outcome-told b key _ r (insert b key value) (insert-answer-told r (insert b key value) t u) (insert-outcome r bytes is-bytes t)
+      (insert-outcome (insert b key value) bytes is-bytes u)
 
-  pub insert-told : (key : List ℕ) (value : ℕ) (r : Counted) → IsBytes b → IsBytes key → InsertTable b key value r → r ≡ insert b key value
-  insert-told key value r bytes is-bytes t = tables-told key value r (insert b key value) t (insert-table b key value) bytes is-bytes
+-- removal
+module _ (b key : List ℕ) where
+  module _ (q r : Counted) (t : RemoveTable b key q) (u : RemoveTable b key r) where
+    remove-answer-told : q .answer ≡ r .answer
+    remove-answer-told =
+        passes-key-or b (badKey key) (both (t .bad-size) (u .bad-size)) (both (t .unsound) (u .unsound))
+        (λ k. both (t .bad-key) (u .bad-key) ((k .0, k .1 .0), k .1 .1)) (λ a. held a (missing (shown b key)) refl)
+      where
+        held : PassesKey b (badKey key) → (s : Bool) → missing (shown b key) ≡ s → q .answer ≡ r .answer
+        held a true e = both (t .absent) (u .absent) (a, missing-none (shown b key) e)
+        held a false e =
+            let there = is-there (shown b key) e in
+            room-or (cellsToRemove b key) (cellsFree b) (λ more. both (t .no-room) (u .no-room) (a, (there, more)))
+            (λ fits. both (t .done) (u .done) (a, (there, fits)))
+
+  remove-outcome : (r : Counted) → IsBytes b → IsBytes key → RemoveTable b key r → Outcome b key (blockRemoval b key) r
+  remove-outcome r bytes is-bytes t =
+      record { refused = t .refused; same-length = λ e. t .after bytes is-bytes e .same-length; laid = t .laid bytes is-bytes }
+
+  pub remove-told : (r : Counted) → IsBytes b → IsBytes key → RemoveTable b key r → r ≡ remove b key
+  remove-told r bytes is-bytes t =
+      let u = remove-table b key in
+      outcome-told b key _ r (remove b key) (remove-answer-told r (remove b key) t u) (remove-outcome r bytes is-bytes t)
+      (remove-outcome (remove b key) bytes is-bytes u)

@@ -1,15 +1,12 @@
 -- The law of one insertion on any block: it is one change of its key.
-use mathlib.Core.Path.{_≡_, sym, ap, _∙_, subst}
+use mathlib.Core.Path.{_≡_, sym, ap, _∙_}
 use mathlib.Core.Logic.{_≢_}
 use mathlib.Core.Bool.{true, false, cond}
 use mathlib.Core.Option.{some}
 use mathlib.Core.List.{List}
-use Prim.Native.Nat.{ℕ, _-_, _≤_, _<_}
-use native.Mathlib.Decide.{ℕ-discrete}
+use Prim.Native.Nat.{ℕ, _-_, _<_}
 use native.Mathlib.Omega.{arith}
-use lib.Dec.{eqb}
-use lib.ListN.{length}
-use borrow.Author.Tests.{lt-ltb, le-ltb, eq-eqb, ne-eqb, ltb-true, ltb-false, eqb-false, not-false}
+use borrow.Author.Tests.{lt-ltb, le-ltb, ltb-true, ltb-false, not-false}
 use Rattle.cells.specs.Bytes.{IsBytes}
 use Rattle.cells.specs.Memory.{memoryOf}
 use Rattle.cells.specs.Occurrences.{occurrences}
@@ -23,31 +20,22 @@ use Rattle.updates.proofs.Taken.{enough-free}
 use Rattle.updates.proofs.ChangeLaw.{insert-law}
 use Rattle.blocks.specs.Trailer.{badSize, layoutOf, rootWord, inUse}
 use Rattle.blocks.specs.Sound.{sound}
-use Rattle.blocks.specs.Refusal.{firstRefusal, overLong, badKey, badNewKey, badValue, Counted}
+use Rattle.blocks.specs.Refusal.{firstRefusal, badNewKey, badValue}
 use Rattle.blocks.specs.Read.{shown}
 use Rattle.blocks.specs.Tables.{Exactly}
-use Rattle.blocks.proofs.Trailer.{sized, either-left, either-right}
+use Rattle.blocks.proofs.Trailer.{sized}
 use Rattle.blocks.proofs.Roots.{root-reachable}
 use Rattle.store.specs.Free.{free}
 use Rattle.store.specs.Insert.{cellsToInsert, noRoom, insertRefusals, blockBuild, insert}
-use Rattle.store.specs.Committed.{numbering, committed}
+use Rattle.store.specs.Committed.{numbering}
 use Rattle.store.specs.Laid.{Laid, Lacks, Finds, MayInsert}
 use Rattle.store.proofs.CallAnswers.{insert-answers}
 use Rattle.store.proofs.Free.{free-usable, free-once, free-reached}
-use Rattle.store.proofs.ChangeCall.{Change, change-after, change-laid}
+use Rattle.store.proofs.ChangeCall.{key-some, key-fits, Change}
+use Rattle.store.proofs.CountedCall.{doneCall, refusedCall, counted-done, counted-number, counted-refused, counted-refused-as, counted-after, counted-laid}
 use Rattle.blocks.specs.After.{After, slotShown}
 
--- a new key has 1 to as many bytes as the limit, and a value fits
-pub key-some : (key : List ℕ) → badNewKey key ≡ false → 1 ≤ length key
-unfolding badNewKey badKey
-key-some key good =
-    let other : length key ≢ 0 = eqb-false (length key) 0 (either-left (eqb (length key) 0) (overLong key) good) in
-    omega (arith, other)
-
-pub key-fits : (key : List ℕ) → badNewKey key ≡ false → length key ≤ keyLimit
-unfolding badNewKey badKey overLong
-key-fits key good = ltb-false keyLimit (length key) (either-right (eqb (length key) 0) (overLong key) good)
-
+-- a value fits a leaf
 pub value-fits : (value : ℕ) → badValue value ≡ false → value < 2147483648
 unfolding badValue
 value-fits value good = omega (arith, ltb-false 2147483647 value good)
@@ -55,7 +43,7 @@ value-fits value good = omega (arith, ltb-false 2147483647 value good)
 module _ (b key : List ℕ) (value : ℕ) where
   -- an insertion that finds room is one change of its key
   pub inserted-change : IsBytes b → IsBytes key → Finds b (MayInsert key value) (cellsToInsert b key) → Change b key (blockBuild b key value) (some value)
-  unfolding blockBuild
+  unfolding blockBuild badNewKey
   inserted-change bytes is-bytes a =
       let s = sized b (a .size) in
       let layout = layoutOf b in
@@ -79,21 +67,13 @@ module _ (b key : List ℕ) (value : ℕ) where
       }
 
   -- the answer is the first refusal's number; the block and the count are told by it
-  pub insert-done : firstRefusal (insertRefusals b key value) ≡ 0
-      → insert b key value ≡ record { answer = 0; count = length (blockBuild b key value .cells); block = committed b (blockBuild b key value) }
+  pub insert-done : firstRefusal (insertRefusals b key value) ≡ 0 → insert b key value ≡ doneCall b (blockBuild b key value)
   unfolding insert
-  insert-done e = rw (eq-eqb (firstRefusal (insertRefusals b key value)) 0 e)
-
-  insert-not-done : firstRefusal (insertRefusals b key value) ≢ 0
-      → insert b key value ≡ record { answer = firstRefusal (insertRefusals b key value); count = 0; block = b }
-  unfolding insert
-  insert-not-done n = rw (ne-eqb (firstRefusal (insertRefusals b key value)) 0 n)
+  insert-done = counted-done (insertRefusals b key value) b (blockBuild b key value)
 
   pub insert-number : insert b key value .answer ≡ firstRefusal (insertRefusals b key value)
-  insert-number = elim (ℕ-discrete (firstRefusal (insertRefusals b key value)) 0) [
-    | yes e ↦ ap (λ (i : Counted). i .answer) (insert-done e) ∙ sym e
-    | no n ↦ ap (λ (i : Counted). i .answer) (insert-not-done n)
-  ]
+  unfolding insert
+  insert-number = counted-number (insertRefusals b key value) b (blockBuild b key value)
 
   -- 0 exactly where nothing is refused; any other answer leaves the block and counts nothing
   accepted : firstRefusal (insertRefusals b key value) ≡ 0 → Finds b (MayInsert key value) (cellsToInsert b key)
@@ -115,10 +95,16 @@ module _ (b key : List ℕ) (value : ℕ) where
       }
 
   pub insert-refused : insert b key value .answer ≢ 0 → insert b key value .block ≡ b
-  insert-refused n = ap (λ (i : Counted). i .block) (insert-not-done (λ e. n (insert-number ∙ e)))
+  unfolding insert
+  insert-refused n = counted-refused (insertRefusals b key value) b (blockBuild b key value) n .1
 
   pub insert-refused-count : insert b key value .answer ≢ 0 → insert b key value .count ≡ 0
-  insert-refused-count n = ap (λ (i : Counted). i .count) (insert-not-done (λ e. n (insert-number ∙ e)))
+  unfolding insert
+  insert-refused-count n = counted-refused (insertRefusals b key value) b (blockBuild b key value) n .0
+
+  pub insert-refused-as : (k : ℕ) → insert b key value .answer ≡ k → k ≢ 0 → insert b key value ≡ refusedCall k b
+  unfolding insert
+  insert-refused-as = counted-refused-as (insertRefusals b key value) b (blockBuild b key value)
 
   -- 7 exactly where none of 1 to 4 applies and more cells are needed than are free
   pub insert-seven : Exactly (insert b key value .answer) 7 (Lacks b (MayInsert key value) (cellsToInsert b key))
@@ -139,13 +125,13 @@ module _ (b key : List ℕ) (value : ℕ) where
 
   -- the law of one insertion
   module _ (bytes : IsBytes b) (is-bytes : IsBytes key) (done : insert b key value .answer ≡ 0) where
+    changed : Change b key (blockBuild b key value) (some value)
+    changed = inserted-change bytes is-bytes (accepted (sym insert-number ∙ done))
+
     pub insert-after : After b (insert b key value .block) (update (shown b) key value) (inUse (layoutOf b) b) (slotShown b)
-    insert-after =
-        let e : firstRefusal (insertRefusals b key value) ≡ 0 = sym insert-number ∙ done in
-        subst (λ (i : Counted). After b (i .block) (update (shown b) key value) (inUse (layoutOf b) b) (slotShown b)) (sym (insert-done e))
-        (change-after b key (blockBuild b key value) (some value) bytes (inserted-change bytes is-bytes (accepted e)))
+    unfolding insert
+    insert-after = counted-after (insertRefusals b key value) b (blockBuild b key value) key (some value) bytes changed done
 
     pub insert-laid : Laid b key (blockBuild b key value) (insert b key value .count) (insert b key value .block)
-    insert-laid =
-        let e : firstRefusal (insertRefusals b key value) ≡ 0 = sym insert-number ∙ done in
-        subst (λ (i : Counted). Laid b key (blockBuild b key value) (i .count) (i .block)) (sym (insert-done e)) (change-laid b key (blockBuild b key value) (some value) bytes (inserted-change bytes is-bytes (accepted e)))
+    unfolding insert
+    insert-laid = counted-laid (insertRefusals b key value) b (blockBuild b key value) key (some value) bytes changed done

@@ -5,33 +5,28 @@ use mathlib.Core.Bool.{Bool, true, false}
 use Prim.Native.Nat.{ℕ, _≤_}
 use native.Mathlib.Omega.{arith}
 use lib.Dec.{leb}
-use lib.ListN.{length, getD, take}
-use borrow.Author.Tests.{leb-true, leb-false}
+use lib.ListN.{length, take}
 use Rattle.cells.specs.Memory.{memoryOf}
-use Rattle.cells.specs.Writes.{written}
 use Rattle.nodes.specs.Layout.{Layout}
 use Rattle.staging.specs.Numbering.{numberFrom}
 use Rattle.staging.specs.Code.Stage.{stageCells}
 use Rattle.staging.specs.declared.stage.BuildState.{BuildState}
-use Rattle.staging.proofs.StageLaws.{staged-length}
-use Rattle.updates.specs.Built.{Built}
-use Rattle.updates.specs.Build.{build, cellsNeeded}
+use Rattle.updates.specs.Build.{build}
 use Rattle.updates.specs.Code.Staged.{builtOf}
 use Rattle.updates.proofs.Bound.{build-bound}
 use Rattle.updates.proofs.Count.{count-needed}
-use Rattle.updates.proofs.Commit.{numbering-free}
 use Rattle.updates.proofs.Taken.{build-first}
+use Rattle.blocks.specs.Code.Fits.{Fits}
 use Rattle.blocks.specs.Trailer.{layoutOf, rootWord}
 use Rattle.blocks.specs.Refusal.{badNewKey, badValue}
-use Rattle.blocks.proofs.Trailer.{sized}
 use Rattle.store.specs.Free.{free}
-use Rattle.store.specs.Insert.{blockBuild, insert}
-use Rattle.store.specs.Committed.{numbering, commitWrites}
-use Rattle.store.specs.Code.Changeable.{Changeable, InStage}
+use Rattle.store.specs.Insert.{cellsToInsert, blockBuild, insert}
+use Rattle.store.specs.Committed.{numbering}
+use Rattle.store.specs.Code.Changeable.{Changeable, InStage, Inside, stagedOutcome}
 use Rattle.store.proofs.Free.{free-usable}
-use Rattle.store.proofs.ChangeCode.{changeable-fits, fits-same, made-count, committed-as}
-use Rattle.store.proofs.InsertCall.{value-fits, insert-number, insert-done, insert-zero, insert-seven}
-use Rattle.store.proofs.InsertRefused.{refusedInsert, refused-as}
+use Rattle.store.proofs.ChangeCode.{changeable-fits, build-staged, commit-ready, staged-outcome}
+use Rattle.store.proofs.InsertCall.{value-fits, insert-number, insert-done, insert-refused-as, insert-zero, insert-seven}
+use Rattle.store.proofs.TakenZeros.{block-numbering}
 
 module _ (layout : Layout) (b numbers : List ℕ) (count : ℕ) (key : List ℕ) (p : Changeable layout b numbers count key) (value : ℕ) where
   -- the stage has room for the build
@@ -56,47 +51,27 @@ module _ (layout : Layout) (b numbers : List ℕ) (count : ℕ) (key : List ℕ)
       → builtOf made stage ≡ build layout (numberFrom layout (take count numbers)) (memoryOf b) root key value
       → InStage layout b (blockBuild b key value) made stage (leb (made .count) count)
   insertion-staged root root-is made stage built =
-      let is = built ∙ built-is root root-is in
-      let many : made .count ≡ length (blockBuild b key value .cells) = sym (staged-length stage (made .count)) ∙ ap (λ (x : Built). length (x .cells)) is in
-      record { built = is; fitting = fits-same layout b numbers count key p (made .count) (omega (arith, many, build-most)) }
+      build-staged layout b numbers count key p (blockBuild b key value) build-most made stage (built ∙ built-is root root-is)
 
   module _ (made : BuildState) (stage : List ℕ) (fits : Bool) (s : InStage layout b (blockBuild b key value) made stage fits) where
-    many-made : made .count ≡ length (blockBuild b key value .cells)
-    many-made = made-count layout b numbers count key p (blockBuild b key value) made stage fits s
-
-    pub made-most : made .count ≤ stageCells
-    made-most = omega (arith, many-made, build-most)
+    pub insertion-ready : Fits layout (length b) × (made .count ≤ stageCells) × (fits ≡ true → Inside numbers (made .count) (length b))
+    insertion-ready = commit-ready layout b numbers count key p (blockBuild b key value) made stage fits s build-most
 
     module _ (good-key : badNewKey key ≡ false) (good-value : badValue value ≡ false) where
-      -- it has as many cells as are needed
-      made-needed : made .count ≡ cellsNeeded (layoutOf b) (memoryOf b) (rootWord (layoutOf b) b) key
+      -- the build has as many cells as are needed
+      needed : length (blockBuild b key value .cells) ≡ cellsToInsert b key
       unfolding blockBuild
-      made-needed =
-          let z = sized b (p .size) in
-          many-made
-          ∙ count-needed (layoutOf b) (numbering b)
-          (numbering-free (layoutOf b) (free (layoutOf b) b) (λ c h. free-usable (layoutOf b) b c h) (omega (arith, z .least)) (z .most))
-          (memoryOf b) (rootWord (layoutOf b) b) key value (value-fits value good-value)
+      needed =
+          count-needed (layoutOf b) (numbering b) (block-numbering b (p .size)) (memoryOf b) (rootWord (layoutOf b) b) key value (value-fits value good-value)
 
-      fitting-is : leb (made .count) (length (free (layoutOf b) b)) ≡ fits
-      fitting-is = ap (λ (l : Layout). leb (made .count) (length (free l b))) (sym (p .stated)) ∙ sym (s .fitting)
-
-      -- more cells than are free
-      pub insert-lacks : fits ≡ false → insert b key value ≡ refusedInsert 7 b
-      insert-lacks lacks =
-          let more = leb-false (made .count) (length (free (layoutOf b) b)) (fitting-is ∙ lacks) in
-          refused-as b key value 7
+      pub insert-outcome : insert b key value ≡ stagedOutcome layout b numbers made stage fits
+      insert-outcome =
+          staged-outcome layout b numbers count key p (blockBuild b key value) made stage fits s build-most (insert b key value)
+          (λ more.
+          insert-refused-as b key value 7
           (insert-seven b key value .given
-          (record { size = p .size; valid = p .valid; may = record { good-key = good-key; good-value = good-value }; more = omega (arith, more, made-needed) }))
-          (λ e. omega arith)
-
-      -- enough cells are free
-      pub insert-takes : fits ≡ true → (after : List ℕ) → after ≡ written b (commitWrites layout (λ i. getD numbers i 0) (builtOf made stage))
-          → insert b key value ≡ record { answer = 0; count = made .count; block = after }
-      insert-takes enough after is =
-          let within = leb-true (made .count) (length (free (layoutOf b) b)) (fitting-is ∙ enough) in
-          let done = insert-zero b key value .given
-          (record { size = p .size; valid = p .valid; may = record { good-key = good-key; good-value = good-value }; enough = omega (arith, within, made-needed) }) in
-          let writes = committed-as layout b numbers count key p (blockBuild b key value) made stage fits s made-most enough in
-          insert-done b key value (sym (insert-number b key value) ∙ done)
-          ∙ (λ i. record { answer = 0; count = sym many-made i; block = sym (is ∙ ap (written b) writes) i })
+          (record { size = p .size; valid = p .valid; may = record { good-key = good-key; good-value = good-value }; more = omega (arith, more, needed) }))
+          (λ e. omega arith))
+          (λ enough.
+          insert-done b key value (sym (insert-number b key value) ∙ insert-zero b key value .given
+          (record { size = p .size; valid = p .valid; may = record { good-key = good-key; good-value = good-value }; enough = omega (arith, enough, needed) })))

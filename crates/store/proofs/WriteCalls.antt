@@ -1,4 +1,4 @@
--- 01's table of answers for the calls that write a block: each answer is given exactly under its
+-- 01's and 02's tables of answers for the calls that write a block: each answer is given exactly under its
 -- condition, a no leaves the block as it was, and what a yes leaves.
 use mathlib.Core.Path.{refl, ap}
 use mathlib.Core.Bool.{not}
@@ -6,13 +6,16 @@ use mathlib.Core.List.{List}
 use Prim.Native.Nat.{ℕ}
 use borrow.Author.Tests.{not-true, not-false}
 use Rattle.blocks.proofs.Refusals.{refused-block}
-use Rattle.blocks.proofs.ReadCalls.{asked, refusals-none, exactly}
+use Rattle.blocks.specs.Read.{shown}
+use Rattle.blocks.proofs.ReadCalls.{asked, refusals-none, exactly, missing-none, none-missing}
 use Rattle.store.specs.Format.{freshOf, formatRefusals, format}
 use Rattle.store.specs.Insert.{insert}
-use Rattle.store.proofs.CallAnswers.{format-answers, insert-answers}
+use Rattle.store.specs.Remove.{remove}
+use Rattle.store.proofs.CallAnswers.{format-answers, insert-answers, remove-answers}
 use Rattle.store.proofs.Format.{format-law, format-left}
 use Rattle.store.proofs.InsertCall.{insert-number, insert-zero, insert-seven, insert-refused, insert-refused-count, insert-after, insert-laid}
-use Rattle.store.specs.Tables.{FormatTable, InsertTable}
+use Rattle.store.proofs.RemoveCall.{remove-number, remove-zero, remove-seven, remove-refused, remove-refused-count, remove-after, remove-laid}
+use Rattle.store.specs.Tables.{FormatTable, InsertTable, RemoveTable}
 
 pub format-table : (b : List ℕ) → FormatTable b (format b)
 unfolding format
@@ -43,4 +46,25 @@ insert-table b key value =
       refused = λ no. (insert-refused-count b key value no, insert-refused b key value no);
       after = insert-after b key value;
       laid = insert-laid b key value;
+    }
+
+pub remove-table : (b key : List ℕ) → RemoveTable b key (remove b key)
+remove-table b key =
+    let n = remove-number b key in
+    let x = remove-answers b key in
+    record {
+      bad-size = exactly n (x .0) (λ c. c .1) (λ d. (tt, d));
+      unsound = exactly n (x .1 .0) (λ c. (c .0 .0, not-true _ (c .1))) (λ d. ((d .0, tt), ap not (d .1)));
+      bad-key = exactly n (x .1 .1 .0) (λ c. ((c .0 .0, not-false _ (c .0 .1 .0)), c .1)) (λ d. ((d .0 .0, (ap not (d .0 .1), tt)), d .1));
+      absent = exactly n (x .1 .1 .1 .0) (λ c. (asked (c .0), missing-none (shown b key) (c .1)))
+          (λ d. (refusals-none (d .0) tt, none-missing (shown b key) (d .1)));
+      no-room = exactly refl (remove-seven b key)
+          (λ c. (record { size = c .size; valid = c .valid; key = c .may .good-key }, (c .may .there, c .more)))
+          (λ d. record { size = d .0 .size; valid = d .0 .valid; may = record { good-key = d .0 .key; there = d .1 .0 }; more = d .1 .1 });
+      done = exactly refl (remove-zero b key)
+          (λ c. (record { size = c .size; valid = c .valid; key = c .may .good-key }, (c .may .there, c .enough)))
+          (λ d. record { size = d .0 .size; valid = d .0 .valid; may = record { good-key = d .0 .key; there = d .1 .0 }; enough = d .1 .1 });
+      refused = λ no. (remove-refused-count b key no, remove-refused b key no);
+      after = remove-after b key;
+      laid = remove-laid b key;
     }

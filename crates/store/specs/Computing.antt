@@ -13,6 +13,10 @@ use Rattle.updates.specs.Built.{allocate, room, characterBefore, chainWith, cha
 use Rattle.updates.specs.SplitBuild.{branchRow, rows, endRow, midRow, splitOf, splitCopied}
 use Rattle.updates.specs.SetChild.{chainSet, sparseSet, setChild}
 use Rattle.updates.specs.Build.{wordAside, putBack, childOf, pathCopy, valueAt, build, cellsNeeded}
+use Rattle.removals.specs.RisingCell.{charactersFrom, withCharacters, risingOrder, risingCell}
+use Rattle.removals.specs.SplitLeft.{splitLeft}
+use Rattle.removals.specs.LoseChild.{ofKept, splitStays, loseChild}
+use Rattle.removals.specs.Removal.{changeChild, putBackLeft, removal, neededToRemove}
 use Rattle.staging.specs.Numbering.{numberFrom}
 use Rattle.updates.specs.Commit.{buildWrites}
 use Rattle.blocks.specs.Trailer.{validSlot}
@@ -22,14 +26,15 @@ use Rattle.blocks.specs.Computing.{readsOpen}
 use Rattle.store.specs.Free.{countUp, allocationOrder, free}
 use Rattle.store.specs.Format.{formatted, format}
 use Rattle.store.specs.Insert.{blockBuild, insert}
+use Rattle.store.specs.Remove.{blockRemoval, remove}
 use Rattle.store.specs.Committed.{commitWrites}
 
--- the build of an insertion
+-- the builds of an insertion and of a removal
 unfoldable pub buildsOpen : Unit {0}
-unfolding withWord written wordWrites select encode withDigit extendedOrder leafWord positionOf blank chainCell prefixCell pairCell sparsePair withoutCharacters sparseCopy withOrder appendedCell branchCopy headCopy withWords allocate room characterBefore chainWith chainOver branchRow rows endRow midRow splitOf splitCopied chainSet sparseSet setChild wordAside pointerValue putBack childOf pathCopy valueAt build cellsNeeded numberFrom buildWrites
+unfolding withWord written wordWrites select encode withDigit extendedOrder leafWord positionOf blank chainCell prefixCell pairCell sparsePair withoutCharacters sparseCopy withOrder appendedCell branchCopy headCopy withWords allocate room characterBefore chainWith chainOver branchRow rows endRow midRow splitOf splitCopied chainSet sparseSet setChild wordAside pointerValue putBack childOf pathCopy valueAt build cellsNeeded charactersFrom withCharacters risingOrder risingCell splitLeft ofKept splitStays loseChild changeChild putBackLeft removal neededToRemove numberFrom buildWrites
 buildsOpen = tt
 
 -- the calls, with all of these
 unfoldable pub callsOpen : Unit {0}
-unfolding readsOpen buildsOpen validSlot reachedFrom countUp allocationOrder free badNewKey badValue formatted format blockBuild commitWrites insert
+unfolding readsOpen buildsOpen validSlot reachedFrom countUp allocationOrder free badNewKey badValue formatted format blockBuild blockRemoval commitWrites insert remove
 callsOpen = tt

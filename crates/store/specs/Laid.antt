@@ -4,6 +4,7 @@ use mathlib.Core.Path.{_≡_}
 use mathlib.Core.Logic.{_≢_}
 use mathlib.Core.Bool.{true, false}
 use mathlib.Core.List.{List}
+use mathlib.Core.Option.{none}
 use Prim.Native.Nat.{ℕ, _+_, _-_, _*_, _/_, _≤_, _<_}
 use lib.Dec.{leb}
 use lib.ListN.{length}
@@ -15,7 +16,8 @@ use Rattle.updates.specs.Built.{Built}
 use Rattle.updates.specs.Commit.{memoryWith}
 use Rattle.blocks.specs.Trailer.{badSize, layoutOf, rootWord}
 use Rattle.blocks.specs.Sound.{sound}
-use Rattle.blocks.specs.Refusal.{badNewKey, badValue}
+use Rattle.blocks.specs.Refusal.{badKey, badNewKey, badValue}
+use Rattle.blocks.specs.Read.{shown}
 use Rattle.store.specs.Free.{free}
 use Rattle.store.specs.Insert.{cellsFree}
 use Rattle.store.specs.Committed.{numbering}
@@ -55,3 +57,8 @@ pub record Finds (block : List ℕ) (MayAsk : Type 0) (needed : ℕ) : Type 0 wh
 pub record MayInsert (key : List ℕ) (value : ℕ) : Type 0 where
   pub good-key : badNewKey key ≡ false
   pub good-value : badValue value ≡ false
+
+-- a removal to which neither 3 nor 11 applies
+pub record MayRemove (block key : List ℕ) : Type 0 where
+  pub good-key : badKey key ≡ false
+  pub there : shown block key ≢ none

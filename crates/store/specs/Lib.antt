@@ -1,6 +1,7 @@
 pub mod Free
 pub mod Format
 pub mod Insert
+pub mod Remove
 pub mod Laid
 pub mod Tables
 pub mod Computing

@@ -1,19 +1,20 @@
--- 01, "When the answer is no", for making a fresh block and for an insertion: each answer exactly under its condition, and the
--- block that is left.
+-- 01, "When the answer is no", for making a fresh block, for an insertion and for a removal: each answer exactly under its condition,
+-- and the block that is left.
 use mathlib.Core.Path.{_≡_}
 use mathlib.Core.Logic.{_≢_}
 use mathlib.Core.Bool.{true, false}
 use mathlib.Core.List.{List}
+use mathlib.Core.Option.{none}
 use Prim.Native.Nat.{ℕ, _/_, _≤_, _<_}
 use lib.ListN.{length, getD}
 use Rattle.cells.specs.Bytes.{IsBytes}
 use Rattle.cells.specs.Word.{wordAt}
 use Rattle.cells.specs.Occurrences.{occurrences}
 use Rattle.nodes.specs.Layout.{usable}
-use Rattle.trees.specs.Lookup.{emptyTable, update}
+use Rattle.trees.specs.Lookup.{emptyTable, update, erase}
 use Rattle.blocks.specs.Trailer.{cellsAt, editionAt, badSize, layoutOf, inUse}
 use Rattle.blocks.specs.Sound.{sound, reachable}
-use Rattle.blocks.specs.Refusal.{Changed, Counted, badNewKey, badValue}
+use Rattle.blocks.specs.Refusal.{Changed, Counted, badKey, badNewKey, badValue}
 use Rattle.blocks.specs.Read.{shown}
 use Rattle.blocks.specs.Tables.{Exactly, PassesKey, Passes}
 use Rattle.blocks.specs.After.{slotShown, After}
@@ -21,6 +22,7 @@ use Rattle.blocks.specs.Left.{OutsideWord}
 use Rattle.store.specs.Free.{allocationOrder, free}
 use Rattle.store.specs.Format.{newLayout, badNewSize}
 use Rattle.store.specs.Insert.{cellsFree, cellsToInsert, blockBuild}
+use Rattle.store.specs.Remove.{cellsToRemove, blockRemoval}
 use Rattle.store.specs.Laid.{Laid}
 
 -- a fresh block of an edition, made from one of its size
@@ -69,3 +71,19 @@ pub record InsertTable (b key : List ℕ) (value : ℕ) (r : Counted) : Type 0 w
   pub after : IsBytes b → IsBytes key → r .answer ≡ 0 → After b (r .block) (update (shown b) key value) (inUse (layoutOf b) b) (slotShown b)
   -- every byte of it, and the count: that of the cells newly reached
   pub laid : IsBytes b → IsBytes key → r .answer ≡ 0 → Laid b key (blockBuild b key value) (r .count) (r .block)
+
+-- 02's table for a removal
+pub record RemoveTable (b key : List ℕ) (r : Counted) : Type 0 where
+  pub bad-size : Exactly (r .answer) 1 (badSize b ≡ true)
+  pub unsound : Exactly (r .answer) 2 ((badSize b ≡ false) × (sound b ≡ false))
+  pub bad-key : Exactly (r .answer) 3 (Passes b × (badKey key ≡ true))
+  -- 02: "11 before 7 for this call": whether there is room or not
+  pub absent : Exactly (r .answer) 11 (PassesKey b (badKey key) × (shown b key ≡ none))
+  -- 02: "answer 7 is given exactly when none checked before it applies and the removal takes more cells than are free"
+  pub no-room : Exactly (r .answer) 7 (PassesKey b (badKey key) × ((shown b key ≢ none) × (cellsFree b < cellsToRemove b key)))
+  pub done : Exactly (r .answer) 0 (PassesKey b (badKey key) × ((shown b key ≢ none) × (cellsToRemove b key ≤ cellsFree b)))
+  pub refused : r .answer ≢ 0 → (r .count ≡ 0) × (r .block ≡ b)
+  -- 02: "Removing a label that is shown leaves all other pairs.", and each slot shows what it did
+  pub after : IsBytes b → IsBytes key → r .answer ≡ 0 → After b (r .block) (erase (shown b) key) (inUse (layoutOf b) b) (slotShown b)
+  -- every byte of it, and the count: that of the cells newly reached
+  pub laid : IsBytes b → IsBytes key → r .answer ≡ 0 → Laid b key (blockRemoval b key) (r .count) (r .block)

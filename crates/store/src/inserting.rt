@@ -6,7 +6,8 @@ ghost use Rattle.blocks.specs.Refusal.{badNewKey, badValue};
 ghost use Rattle.blocks.specs.Trailer.{rootWord};
 ghost use Rattle.store.specs.Insert.{blockBuild, insert};
 ghost use Rattle.store.specs.Code.Changeable.{Changeable, InStage};
-use crate::committing::commit;
+use crate::committing::Staged;
+use crate::committing::commit_staged;
 use crate::free_cells::free_list;
 use blocks::answer::CountAnswer;
 use blocks::answer::Refusal;
@@ -15,16 +16,9 @@ use blocks::trailer_fields::is_bad_size;
 use blocks::trailer_fields::layout_of;
 use blocks::trailer_fields::root_word;
 use nodes::layout::Layout;
-use staging::stage::BuildState;
 use staging::stage::STAGE_CELLS;
 use staging::stage::STAGE_SIZE;
 use updates::build::build;
-
-// What is built in the stage, and whether as many cells are free.
-pub struct Staged {
-    pub made: BuildState,
-    pub fits: bool,
-}
 
 // Builds an insertion in the stage; the block is only read.
 fn stage_insertion(
@@ -60,13 +54,7 @@ fn insert_valid(
 {
     let mut stage = [0u8; STAGE_SIZE];
     let staged = stage_insertion(layout, block, numbers, free, &mut stage, key, root, value);
-    if !staged.fits {
-        return CountAnswer::Refused(Refusal::NoRoom);
-    }
-    let made = staged.made;
-    let count = made.count;
-    commit(layout, block, &stage, numbers, made);
-    CountAnswer::Done(count as u32)
+    commit_staged(layout, block, &stage, numbers, staged)
 }
 
 // Inserts a pair into a block and tells how many cells it allocated.

@@ -3,3 +3,4 @@ pub mod committing;
 pub mod formatting;
 pub mod free_cells;
 pub mod inserting;
+pub mod removing;

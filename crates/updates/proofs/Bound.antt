@@ -40,13 +40,13 @@ no-position bytes (suc count) from x h = go (eqb x (sparseCharacter bytes from))
     go false h later = later (omega arith)
 
 -- the character is at no position of a sparse cell
-abbrev Lacks : List ℕ → ℕ → Type 0
+abbrev pub Lacks : List ℕ → ℕ → Type 0
 Lacks bytes x = sparseCount bytes ≤ positionOf bytes (sparseCount bytes) 0 x
 
 -- so many cells at least are allocated, and so many at most
-record Sized (least most : ℕ) (b : Built) : Type 0 where
-  low : least ≤ length (b .cells)
-  high : length (b .cells) ≤ most
+pub record Sized (least most : ℕ) (b : Built) : Type 0 where
+  pub low : least ≤ length (b .cells)
+  pub high : length (b .cells) ≤ most
 
 cond-sized : (t : Bool) (least most : ℕ) {a b : Built} → Sized least most a → Sized least most b → Sized least most (cond t a b)
 cond-sized true least most p q = p
@@ -57,11 +57,11 @@ three-more : (n : ℕ) {b : Built} → Sized 1 (1 + n) b → Sized 1 (n + 3) b
 three-more n h = record { low = h .low; high = omega (arith, h .high) }
 
 -- within the first bound, or within the second where something holds
-abbrev SizedOr : Type 0 → ℕ → ℕ → ℕ → Built → Type 0
+abbrev pub SizedOr : Type 0 → ℕ → ℕ → ℕ → Built → Type 0
 SizedOr Else least most most′ b = Sized least most b ⊎ (Else × Sized least most′ b)
 
 -- the least cells of a child set: one, but for the pointers whose children are not set
-unfoldable leastSet : Pointer → ℕ
+unfoldable pub leastSet : Pointer → ℕ
 leastSet nothing = 1
 leastSet (leaf v) = 1
 leastSet (chain c k) = 1
@@ -72,7 +72,7 @@ leastSet invalid = 0
 
 module _ (number : ℕ → ℕ) where
   -- one more cell
-  allocate-sized : (kind : ℕ) (bytes : List ℕ) (cells : List (List ℕ)) → Sized 1 (1 + length cells) (allocate number kind bytes cells)
+  pub allocate-sized : (kind : ℕ) (bytes : List ℕ) (cells : List (List ℕ)) → Sized 1 (1 + length cells) (allocate number kind bytes cells)
   unfolding allocate
   allocate-sized kind bytes cells = record { low = omega arith; high = omega arith }
 
@@ -82,7 +82,7 @@ module _ (number : ℕ → ℕ) where
   with-sized x word (suc place) [] = allocate-sized 27 _ []
   with-sized x word (suc place) (newest ∷ rest) = record { low = omega arith; high = omega arith }
 
-  chainOver-sized : (x : ℕ) (b : Built) → Sized 1 (1 + length (b .cells)) (chainOver number x b)
+  pub chainOver-sized : (x : ℕ) (b : Built) → Sized 1 (1 + length (b .cells)) (chainOver number x b)
   unfolding chainOver
   chainOver-sized x b = with-sized x (b .word) (roomOf b) (b .cells)
 
@@ -111,10 +111,10 @@ module _ (number : ℕ → ℕ) where
 
   module _ (layout : Layout) (m : Memory) where
     -- a child set is at most three cells, but for a sparse cell that lacks the character
-    abbrev LacksAt : Pointer → ℕ → Type 0
+    abbrev pub LacksAt : Pointer → ℕ → Type 0
     LacksAt p x = (c : ℕ) × (p ≡ sparse c) × Lacks (m c) x
 
-    setChild-sized : (p : Pointer) (x : ℕ) (b : Built)
+    pub setChild-sized : (p : Pointer) (x : ℕ) (b : Built)
         → SizedOr (LacksAt p x) (leastSet p) (length (b .cells) + 3) (length (b .cells) + 13) (setChild layout number m p x b)
     unfolding setChild splitCopied allocate leastSet
     setChild-sized nothing x b = inl (three-more (length (b .cells)) (chainOver-sized x b))
@@ -125,7 +125,7 @@ module _ (number : ℕ → ℕ) where
     setChild-sized (prefix c) x b = inl (record { low = omega arith; high = omega arith })
     setChild-sized invalid x b = inl (record { low = omega arith; high = omega arith })
 
-    putBack-most : (value : Option ℕ) (b : Built) → length (putBack layout number value b .cells) ≤ 1 + length (b .cells)
+    pub putBack-most : (value : Option ℕ) (b : Built) → length (putBack layout number value b .cells) ≤ 1 + length (b .cells)
     unfolding putBack allocate
     putBack-most none b = omega arith
     putBack-most (some v) b = omega arith
@@ -135,7 +135,7 @@ module _ (number : ℕ → ℕ) where
     sparse-lacks c x X h e =
         ap (λ (Y : Node). Y .child x) (sym (sparse-cut layout m c X e .1)) ∙ no-position (m c) (sparseCount (m c)) 0 x (omega arith)
 
-    node-lacks : (word c x : ℕ) (X : Node) (p : Pointer) → pointer layout word ≡ p → pointer layout (wordAside layout m p word) ≡ sparse c → Lacks (m c) x
+    pub node-lacks : (word c x : ℕ) (X : Node) (p : Pointer) → pointer layout word ≡ p → pointer layout (wordAside layout m p word) ≡ sparse c → Lacks (m c) x
         → readAt layout m p ≡ some X → X .child x ≡ 0
     unfolding wordAside readAt
     node-lacks word c x X nothing is beside h e = let same : childless none ≡ X = cc in ap (λ (Y : Node). Y .child x) (sym same)
@@ -148,12 +148,12 @@ module _ (number : ℕ → ℕ) where
         ap (λ (Y : Node). Y .child x) (sym (cut .3)) ∙ sparse-lacks c x (cut .0) h (ap (plain layout m) (sym beside) ∙ cut .2)
     node-lacks word c x X invalid is beside h e = never e
 
-    childOf-zero : (o : Option Node) (x : ℕ) → ((X : Node) → o ≡ some X → X .child x ≡ 0) → childOf o x ≡ 0
+    pub childOf-zero : (o : Option Node) (x : ℕ) → ((X : Node) → o ≡ some X → X .child x ≡ 0) → childOf o x ≡ 0
     unfolding childOf
     childOf-zero none x h = refl
     childOf-zero (some X) x h = h X refl
 
-    word-lacks : (word c x : ℕ) → pointer layout (wordAside layout m (pointer layout word) word) ≡ sparse c → Lacks (m c) x
+    pub word-lacks : (word c x : ℕ) → pointer layout (wordAside layout m (pointer layout word) word) ≡ sparse c → Lacks (m c) x
         → childOf (read layout m word) x ≡ 0
     word-lacks word c x beside h =
         childOf-zero (read layout m word) x

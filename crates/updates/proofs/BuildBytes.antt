@@ -19,7 +19,7 @@ Whole [] = Unit {0}
 Whole (s ∷ rest) = IsCell s × Whole rest
 
 -- what a build writes is 32 bytes, where the memory's cells and the key's characters are bytes
-whole-contents : (m : Memory) → ((c : ℕ) → IsCell (m c)) → Contents m (λ x. x < 256) IsCell
+pub whole-contents : (m : Memory) → ((c : ℕ) → IsCell (m c)) → Contents m (λ x. x < 256) IsCell
 whole-contents m each =
     record {
       chain = λ x w near. chain-cell x w near;
@@ -33,18 +33,18 @@ whole-contents m each =
       prefixed = λ v w. prefix-cell v w;
     }
 
-key-characters : (key : List ℕ) → IsBytes key → Characters (λ x. x < 256) key
+pub key-characters : (key : List ℕ) → IsBytes key → Characters (λ x. x < 256) key
 key-characters [] is-bytes = tt
 key-characters (x ∷ key) is-bytes = (is-bytes .below 0, key-characters key (bytes-tail x key is-bytes))
 
 -- a build beside itself: the words are the same, and each cell is 32 bytes
-abbrev SameWord : ℕ → ℕ → ℕ → Type 0
+abbrev pub SameWord : ℕ → ℕ → ℕ → Type 0
 SameWord count word word′ = word ≡ word′
 
-abbrev WholeCell : ℕ → List ℕ → List ℕ → Type 0
+abbrev pub WholeCell : ℕ → List ℕ → List ℕ → Type 0
 WholeCell place s s′ = IsCell s
 
-whole : (number : ℕ → ℕ) → Relation number number IsCell SameWord WholeCell
+pub whole : (number : ℕ → ℕ) → Relation number number IsCell SameWord WholeCell
 whole number =
     record {
       old = λ count w. refl;
@@ -64,7 +64,7 @@ whole-cells [] (s′ ∷ rest′) h = absurd h
 whole-cells (s ∷ rest) [] h = absurd h
 whole-cells (s ∷ rest) (s′ ∷ rest′) h = (h .0, whole-cells rest rest′ (h .1))
 
-whole-built : (b b′ : Built) → Related SameWord WholeCell b b′ → Whole (b .cells)
+pub whole-built : (b b′ : Built) → Related SameWord WholeCell b b′ → Whole (b .cells)
 whole-built b b′ r = whole-cells (b .cells) (b′ .cells) (r .cells)
 
 -- the build of one insertion

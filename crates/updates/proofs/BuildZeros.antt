@@ -28,7 +28,7 @@ use Rattle.updates.proofs.Zeros.SplitZeros.{splitCopied-clean}
 
 module _ (number : ℕ → ℕ) (n : Numbering number) (layout : Layout) (m : Memory) (whole : (c : ℕ) → length (m c) ≡ 32) where
   -- a child set, by the node's kind
-  setChild-clean : (p : Pointer) (Y : Node) → readAt layout m p ≡ some Y → (x : ℕ) → x < 256 → (b : Built) → CleanBuilt number n b
+  pub setChild-clean : (p : Pointer) (Y : Node) → readAt layout m p ≡ some Y → (x : ℕ) → x < 256 → (b : Built) → CleanBuilt number n b
       → CleanBuilt number n (setChild layout number m p x b)
   unfolding setChild readAt
   setChild-clean nothing Y reads x near b built = chainOver-clean number n x b built
@@ -39,7 +39,7 @@ module _ (number : ℕ → ℕ) (n : Numbering number) (layout : Layout) (m : Me
   setChild-clean (prefix c) Y reads x near b built = built
   setChild-clean invalid Y reads x near b built = built
 
-  putBack-clean : (value : Option ℕ) (b : Built) → CleanBuilt number n b → CleanBuilt number n (putBack layout number value b)
+  pub putBack-clean : (value : Option ℕ) (b : Built) → CleanBuilt number n b → CleanBuilt number n (putBack layout number value b)
   unfolding putBack
   putBack-clean none b built = built
   putBack-clean (some v) b built = prefix-over number n v b built

@@ -32,7 +32,7 @@ room-same c c′ k false small small′ h = refl
 room-same c c′ k true small small′ h =
     rw (lt-ltb (c * 32 + k) 2147483648 (omega arith), kind-of-made c k h, lt-ltb (c′ * 32 + k) 2147483648 (omega arith), kind-of-made c′ k h)
 
-room-leaf : (value : ℕ) (own : Bool) → value < 2147483648 → room own (leafWord value) ≡ 0
+pub room-leaf : (value : ℕ) (own : Bool) → value < 2147483648 → room own (leafWord value) ≡ 0
 unfolding room leafWord
 room-leaf value false clear = refl
 room-leaf value true clear = rw (le-ltb (4294967295 - value) 2147483648 (omega arith))
@@ -44,16 +44,16 @@ first-same c c′ k false small small′ h = refl
 first-same c c′ k true small small′ h =
     rw (lt-ltb (c * 32 + k) 2147483648 (omega arith), kind-of-made c k h, lt-ltb (c′ * 32 + k) 2147483648 (omega arith), kind-of-made c′ k h)
 
-first-leaf : (value : ℕ) (own : Bool) → value < 2147483648 → firstUsed own (leafWord value) ≡ 0
+pub first-leaf : (value : ℕ) (own : Bool) → value < 2147483648 → firstUsed own (leafWord value) ≡ 0
 unfolding firstUsed room leafWord
 first-leaf value false clear = refl
 first-leaf value true clear = rw (le-ltb (4294967295 - value) 2147483648 (omega arith))
 
 -- nothing is asked of a cell's bytes or of a key's characters
-abbrev Any : {A : Type 0} → A → Type 0
+abbrev pub Any : {A : Type 0} → A → Type 0
 Any x = Unit {0}
 
-any-contents : (m : Memory) → Contents m Any Any
+pub any-contents : (m : Memory) → Contents m Any Any
 any-contents m =
     record {
       chain = λ x w _. tt;
@@ -67,28 +67,28 @@ any-contents m =
       prefixed = λ v w. tt;
     }
 
-any-characters : (key : List ℕ) → Characters Any key
+pub any-characters : (key : List ℕ) → Characters Any key
 any-characters [] = tt
 any-characters (x ∷ key) = (tt, any-characters key)
 
 -- two words both NONE or both not, with equal room and first byte used, and the same where so many cells are within a limit
-record WordsAlike (Within : ℕ → Type 0) (count word word′ : ℕ) : Type 0 where
-  bothNone : eqb word 0 ≡ eqb word′ 0
-  room : (own : Bool) → room own word ≡ room own word′
-  firstUsed : (own : Bool) → firstUsed own word ≡ firstUsed own word′
-  same : Within count → word ≡ word′
+pub record WordsAlike (Within : ℕ → Type 0) (count word word′ : ℕ) : Type 0 where
+  pub bothNone : eqb word 0 ≡ eqb word′ 0
+  pub room : (own : Bool) → room own word ≡ room own word′
+  pub firstUsed : (own : Bool) → firstUsed own word ≡ firstUsed own word′
+  pub same : Within count → word ≡ word′
 
 -- two cells of a place that are the same where the count past it is within a limit
-abbrev CellsAlike : (ℕ → Type 0) → ℕ → List ℕ → List ℕ → Type 0
+abbrev pub CellsAlike : (ℕ → Type 0) → ℕ → List ℕ → List ℕ → Type 0
 CellsAlike Within place s s′ = Within (suc place) → s ≡ s′
 
-word-nonzero : (c k : ℕ) → 1 ≤ c → eqb (wordTo c k) 0 ≡ false
+pub word-nonzero : (c k : ℕ) → 1 ≤ c → eqb (wordTo c k) 0 ≡ false
 word-nonzero c k low = let some-word : c * 32 + k ≢ 0 = omega arith in ne-eqb (c * 32 + k) 0 some-word
 
 -- both numberings give the same numbers to the places within a limit
 module _ (number number′ : ℕ → ℕ) (n : Numbering number) (n′ : Numbering number′) (Within : ℕ → Type 0)
     (fewer : (i k : ℕ) → i ≤ k → Within k → Within i) (agree : (i : ℕ) → Within (suc i) → number i ≡ number′ i) where
-  alike : Relation number number′ Any (WordsAlike Within) (CellsAlike Within)
+  pub alike : Relation number number′ Any (WordsAlike Within) (CellsAlike Within)
   alike =
       record {
         old = λ count w. record { bothNone = refl; room = λ own. refl; firstUsed = λ own. refl; same = λ _. refl };
@@ -126,7 +126,7 @@ build-numbers number number′ n n′ limit agree layout m root key value fits =
     (build-alike number number′ n n′ Within fewer agree′ layout m root key value value
     (alike number number′ n n′ Within fewer agree′ .old 0 (leafWord value)) (λ _. refl)) fits
 
-leaf-nonzero : (value : ℕ) → value < 2147483648 → eqb (leafWord value) 0 ≡ false
+pub leaf-nonzero : (value : ℕ) → value < 2147483648 → eqb (leafWord value) 0 ≡ false
 unfolding leafWord
 leaf-nonzero value clear = let some-word : 4294967295 - value ≢ 0 = omega arith in ne-eqb (4294967295 - value) 0 some-word
 

@@ -32,7 +32,7 @@ use Rattle.staging.specs.NewCells.{blank, branchCopy, headCopy, prefixCell}
 use Rattle.updates.specs.Built.{Built, allocate}
 use Rattle.updates.specs.SplitBuild.{splitCopied}
 use Rattle.updates.specs.SetChild.{chainSet, sparseSet, setChild}
-use Rattle.updates.specs.Build.{wordAside, putBack, childOf, nodeCopy, valueAt, insertedAt, build, cellsNeeded}
+use Rattle.updates.specs.Build.{wordAside, putBack, childOf, nodeCopy, pathCopy, valueAt, insertedAt, build, cellsNeeded}
 use Rattle.updates.proofs.Related.{EachCell, Related, same-built, Along, paths-related}
 use Rattle.updates.proofs.PrefixNodes.Aside.{child-of}
 use mathlib.Core.Bool.{cond}
@@ -46,10 +46,10 @@ copied number x b head mid end =
 
 module _ (layout : Layout) (m m′ : Memory) where
   -- the cell that the word of an end or mid names is alike
-  abbrev Same : ℕ → Type 0
+  abbrev pub Same : ℕ → Type 0
   Same w = w ≢ 0 → m (w / 32) ≡ m′ (w / 32)
 
-  copy-same : (w : ℕ) → Same w → branchCopy m′ w ≡ branchCopy m w
+  pub copy-same : (w : ℕ) → Same w → branchCopy m′ w ≡ branchCopy m w
   unfolding branchCopy
   copy-same w same = elim (ℕ-discrete w 0) [
     | yes zero-word ↦ rw (eq-eqb w 0 zero-word)
@@ -146,54 +146,64 @@ module _ (layout : Layout) (m m′ : Memory) where
   valueAt-frame number value w invalid X e agree = refl
 
 -- what related builds are here: the same
-abbrev SameWord : ℕ → ℕ → ℕ → Type 0
+abbrev pub SameWord : ℕ → ℕ → ℕ → Type 0
 SameWord count word word′ = word ≡ word′
 
-abbrev SameCell : ℕ → List ℕ → List ℕ → Type 0
+abbrev pub SameCell : ℕ → List ℕ → List ℕ → Type 0
 SameCell place s s′ = s ≡ s′
 
-each-same : (cells : List (List ℕ)) → EachCell SameWord SameCell cells cells
+pub each-same : (cells : List (List ℕ)) → EachCell SameWord SameCell cells cells
 each-same [] = tt
 each-same (s ∷ rest) = (refl, each-same rest)
 
-as-related : {b b′ : Built} → b ≡ b′ → Related SameWord SameCell b b′
+pub as-related : {b b′ : Built} → b ≡ b′ → Related SameWord SameCell b b′
 as-related {b} same = subst (Related SameWord SameCell b) same (record { own = refl; word = refl; cells = each-same (b .cells) })
 
-as-same : {b b′ : Built} → Related SameWord SameCell b b′ → b ≡ b′
+pub as-same : {b b′ : Built} → Related SameWord SameCell b b′ → b ≡ b′
 as-same {b} {b′} r =
     same-built SameWord SameCell (λ _. Unit {0}) (λ i k less h. tt) (λ n w w′ e h. e) (λ n s s′ e h. e) b b′ r tt
 
 module _ (layout : Layout) (small : layout .cells ≤ cellLimit) (m : Memory) (bytes : (c : ℕ) → IsBytes (m c)) (m′ : Memory) where
-  -- memories that are alike on a tree copy its paths alike
-  along-memories : (number : ℕ → ℕ) (value : ℕ) (key : List ℕ) → IsBytes key → (d w : ℕ) (cs : List ℕ) → length key ≤ d
-      → tree layout m d w ≡ some cs → Agree m m′ cs
-      → Along SameWord SameCell layout m m′ (nodeCopy layout number m) (nodeCopy layout number m′) (insertedAt layout number m value) (insertedAt layout number m′ value) w key
-  along-memories number value [] is-bytes d w cs fits found agree =
-      let q = tree-cut layout m d w cs found in
-      let here = agree-less m m′ cs (q .0 .footprint) (footprint-in layout small m bytes d w cs (q .0) found (q .2)) agree in
-      as-related (sym (valueAt-frame layout m m′ number value w (pointer layout w) (q .0) (sym (read-is layout m w _ refl) ∙ q .2) here))
-  along-memories number value (x ∷ key) is-bytes zero w cs fits found agree = absurd (omega arith)
-  along-memories number value (x ∷ key) is-bytes (suc d) w cs fits found agree =
-      let near : x < 256 = is-bytes .below 0 in
-      let q = tree-cut layout m (suc d) w cs found in
-      let here = agree-less m m′ cs (q .0 .footprint) (footprint-in layout small m bytes (suc d) w cs (q .0) found (q .2)) agree in
-      let f = node-frame layout small m bytes m′ (suc d) w cs (q .0) found agree (q .2) in
-      let l = tree-below layout m d w x cs (q .0) near found (q .2) in
-      let old : childOf (read layout m w) x ≡ q .0 .child x = child-of (read layout m w) (q .0) x (q .2) in (
-        old ∙ f .2 .child x near ∙ sym (child-of (read layout m′ w) (f .0) x (f .1)),
-        λ b b′ r.
-            as-related (sym (nodeCopy-frame layout m m′ number x near b w (q .0) (q .2) here)
-            ∙ ap (nodeCopy layout number m′ w x) (as-same r)),
-        along-memories number value key (bytes-tail x key is-bytes) d (childOf (read layout m w) x) (l .0) (omega arith) (ap (tree layout m d) old ∙ l .1)
-            (agree-less m m′ cs (l .0) (λ c h. omega (arith, l .2 c)) agree),
-      )
+  -- a rule copies a node that is alike in both memories alike, and so does the rule at the key's end
+  module _ (copy copy′ : ℕ → ℕ → Built → Built) (atEnd atEnd′ : ℕ → Built)
+      (nodes : (w x : ℕ) → x < 256 → (b : Built) (X : Node) → read layout m w ≡ some X → Agree m m′ (X .footprint) → copy′ w x b ≡ copy w x b)
+      (ends : (w : ℕ) (X : Node) → read layout m w ≡ some X → Agree m m′ (X .footprint) → atEnd′ w ≡ atEnd w) where
+    -- memories that are alike on a tree copy its paths alike
+    along-memories : (key : List ℕ) → IsBytes key → (d w : ℕ) (cs : List ℕ) → length key ≤ d → tree layout m d w ≡ some cs → Agree m m′ cs
+        → Along SameWord SameCell layout m m′ copy copy′ atEnd atEnd′ w key
+    along-memories [] is-bytes d w cs fits found agree =
+        let q = tree-cut layout m d w cs found in
+        let here = agree-less m m′ cs (q .0 .footprint) (footprint-in layout small m bytes d w cs (q .0) found (q .2)) agree in
+        as-related (sym (ends w (q .0) (q .2) here))
+    along-memories (x ∷ key) is-bytes zero w cs fits found agree = absurd (omega arith)
+    along-memories (x ∷ key) is-bytes (suc d) w cs fits found agree =
+        let near : x < 256 = is-bytes .below 0 in
+        let q = tree-cut layout m (suc d) w cs found in
+        let here = agree-less m m′ cs (q .0 .footprint) (footprint-in layout small m bytes (suc d) w cs (q .0) found (q .2)) agree in
+        let f = node-frame layout small m bytes m′ (suc d) w cs (q .0) found agree (q .2) in
+        let l = tree-below layout m d w x cs (q .0) near found (q .2) in
+        let old : childOf (read layout m w) x ≡ q .0 .child x = child-of (read layout m w) (q .0) x (q .2) in (
+          old ∙ f .2 .child x near ∙ sym (child-of (read layout m′ w) (f .0) x (f .1)),
+          λ b b′ r. as-related (sym (nodes w x near b (q .0) (q .2) here) ∙ ap (copy′ w x) (as-same r)),
+          along-memories key (bytes-tail x key is-bytes) d (childOf (read layout m w) x) (l .0) (omega arith) (ap (tree layout m d) old ∙ l .1)
+              (agree-less m m′ cs (l .0) (λ c h. omega (arith, l .2 c)) agree),
+        )
+
+    -- the framing law of any path copied
+    pub path-frame : (key : List ℕ) → IsBytes key → (d w : ℕ) (cs : List ℕ) → length key ≤ d → tree layout m d w ≡ some cs → Agree m m′ cs
+        → pathCopy layout m′ copy′ atEnd′ w key ≡ pathCopy layout m copy atEnd w key
+    path-frame key is-bytes d w cs fits found agree =
+        sym (as-same (paths-related SameWord SameCell layout m m′ _ _ _ _ w key (along-memories key is-bytes d w cs fits found agree)))
 
   -- the build framing law
   pub build-frame : (number : ℕ → ℕ) (value : ℕ) (key : List ℕ) → IsBytes key → (d w : ℕ) (cs : List ℕ) → length key ≤ d
       → tree layout m d w ≡ some cs → Agree m m′ cs → build layout number m′ w key value ≡ build layout number m w key value
   unfolding build
   build-frame number value key is-bytes d w cs fits found agree =
-      sym (as-same (paths-related SameWord SameCell layout m m′ _ _ _ _ w key (along-memories number value key is-bytes d w cs fits found agree)))
+      path-frame (nodeCopy layout number m) (nodeCopy layout number m′) (insertedAt layout number m value) (insertedAt layout number m′ value)
+      (λ w x near b X node here. nodeCopy-frame layout m m′ number x near b w X node here)
+      (λ w X node here. valueAt-frame layout m m′ number value w (pointer layout w) X (sym (read-is layout m w _ refl) ∙ node) here)
+      key is-bytes d w cs fits found agree
 
   -- the cells needed are as many
   pub needed-frame : (key : List ℕ) → IsBytes key → (d w : ℕ) (cs : List ℕ) → length key ≤ d → tree layout m d w ≡ some cs → Agree m m′ cs

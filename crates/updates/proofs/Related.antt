@@ -57,7 +57,7 @@ pub record Relation (number number′ : ℕ → ℕ) (Content : List ℕ → Typ
   pub ofCell : (n : ℕ) (s s′ : List ℕ) (f : List ℕ → List ℕ) → ((t : List ℕ) → Content t → Content (f t)) → Cells n s s′ → Cells n (f s) (f s′)
 
 -- words that are NONE at the same places have a pointer among them together
-some-same : (words words′ : ℕ → ℕ) → ((y : ℕ) → eqb (words y) 0 ≡ eqb (words′ y) 0) → (count from : ℕ) → someWord words count from ≡ someWord words′ count from
+pub some-same : (words words′ : ℕ → ℕ) → ((y : ℕ) → eqb (words y) 0 ≡ eqb (words′ y) 0) → (count from : ℕ) → someWord words count from ≡ someWord words′ count from
 unfolding someWord
 some-same words words′ h zero from = refl
 some-same words words′ h (suc count) from = rw (h from, some-same words words′ h count (from + 1))
@@ -76,12 +76,12 @@ module _ (Words : ℕ → ℕ → ℕ → Type 0) (Cells : ℕ → List ℕ → 
     pub cells : EachCell (b .cells) (b′ .cells)
 
   -- the same of rows made after some cells
-  record RowsRelated (before : ℕ) (r r′ : Row) : Type 0 where
-    more : before ≤ length (r .cells)
-    words : (y : ℕ) → Words (length (r .cells)) (r .words y) (r′ .words y)
-    cells : EachCell (r .cells) (r′ .cells)
+  pub record RowsRelated (before : ℕ) (r r′ : Row) : Type 0 where
+    pub more : before ≤ length (r .cells)
+    pub words : (y : ℕ) → Words (length (r .cells)) (r .words y) (r′ .words y)
+    pub cells : EachCell (r .cells) (r′ .cells)
 
-  each-count : (cells cells′ : List (List ℕ)) → EachCell cells cells′ → length cells ≡ length cells′
+  pub each-count : (cells cells′ : List (List ℕ)) → EachCell cells cells′ → length cells ≡ length cells′
   each-count [] [] h = refl
   each-count [] (s′ ∷ rest′) h = absurd h
   each-count (s ∷ rest) [] h = absurd h
@@ -130,28 +130,28 @@ module _ (Words : ℕ → ℕ → ℕ → Type 0) (Cells : ℕ → List ℕ → 
 
   module _ (number number′ : ℕ → ℕ) (m : Memory) (Character : ℕ → Type 0) (Content : List ℕ → Type 0)
       (contents : Contents m Character Content) (relation : Relation number number′ Content Words Cells) where
-    cond-related : (t : Bool) {a b a′ b′ : Built} → Related a a′ → Related b b′ → Related (cond t a b) (cond t a′ b′)
+    pub cond-related : (t : Bool) {a b a′ b′ : Built} → Related a a′ → Related b b′ → Related (cond t a b) (cond t a′ b′)
     cond-related true p q = p
     cond-related false p q = q
 
-    cond-words : (n : ℕ) (t : Bool) (u v u′ v′ : ℕ) → Words n u u′ → Words n v v′ → Words n (cond t u v) (cond t u′ v′)
+    pub cond-words : (n : ℕ) (t : Bool) (u v u′ v′ : ℕ) → Words n u u′ → Words n v v′ → Words n (cond t u v) (cond t u′ v′)
     cond-words n true u v u′ v′ p q = p
     cond-words n false u v u′ v′ p q = q
 
     -- the word of a new cell, where as many are allocated before it
-    new-word : (kind : ℕ) (cells cells′ : List (List ℕ)) → kind < 32 → EachCell cells cells′
+    pub new-word : (kind : ℕ) (cells cells′ : List (List ℕ)) → kind < 32 → EachCell cells cells′
         → Words (suc (length cells)) (wordTo (number (length cells)) kind) (wordTo (number′ (length cells′)) kind)
     new-word kind cells cells′ h e =
         subst (λ n. Words (suc (length cells)) (wordTo (number (length cells)) kind) (wordTo (number′ n) kind)) (each-count cells cells′ e)
         (relation .new (length cells) kind h)
 
-    allocate-related : (kind : ℕ) (s s′ : List ℕ) (cells cells′ : List (List ℕ)) → kind < 32 → Cells (length cells) s s′ → EachCell cells cells′
+    pub allocate-related : (kind : ℕ) (s s′ : List ℕ) (cells cells′ : List (List ℕ)) → kind < 32 → Cells (length cells) s s′ → EachCell cells cells′
         → Related (allocate number kind s cells) (allocate number′ kind s′ cells′)
     unfolding allocate
     allocate-related kind s s′ cells cells′ h newest e = record { own = refl; word = new-word kind cells cells′ h e; cells = (newest, e) }
 
     -- a cell with one word of the build below in it
-    over-related : (kind : ℕ) (f : ℕ → List ℕ) (b b′ : Built) → kind < 32 → ((u : ℕ) → Content (f u)) → Related b b′
+    pub over-related : (kind : ℕ) (f : ℕ → List ℕ) (b b′ : Built) → kind < 32 → ((u : ℕ) → Content (f u)) → Related b b′
         → Related (allocate number kind (f (b .word)) (b .cells)) (allocate number′ kind (f (b′ .word)) (b′ .cells))
     over-related kind f b b′ h content r =
         allocate-related kind _ _ (b .cells) (b′ .cells) h (relation .ofWord (length (b .cells)) (b .word) (b′ .word) f content (r .word)) (r .cells)
@@ -173,7 +173,7 @@ module _ (Words : ℕ → ℕ → ℕ → Type 0) (Cells : ℕ → List ℕ → 
           cells = after .cells;
         }
 
-    branch-related : (words words′ : ℕ → ℕ) (cells cells′ : List (List ℕ)) → ((y : ℕ) → Words (length cells) (words y) (words′ y))
+    pub branch-related : (words words′ : ℕ → ℕ) (cells cells′ : List (List ℕ)) → ((y : ℕ) → Words (length cells) (words y) (words′ y))
         → EachCell cells cells′ → RowsRelated (length cells) (branchRow number words cells) (branchRow number′ words′ cells′)
     unfolding branchRow
     branch-related words words′ cells cells′ h e =
@@ -283,7 +283,7 @@ module _ (Words : ℕ → ℕ → ℕ → Type 0) (Cells : ℕ → List ℕ → 
         over-related 28 (withWord (headCopy (m c)) (16 + 4 * (x / 64))) _ _ (omega arith) (λ w. contents .headCopied c (16 + 4 * (x / 64)) w) withMid
 
     module _ (layout : Layout) where
-      setChild-related : (p : Pointer) (x : ℕ) (b b′ : Built) → Character x → Related b b′
+      pub setChild-related : (p : Pointer) (x : ℕ) (b b′ : Built) → Character x → Related b b′
           → Related (setChild layout number m p x b) (setChild layout number′ m p x b′)
       unfolding setChild
       setChild-related nothing x b b′ is r = chainOver-related x b b′ is r
@@ -294,7 +294,7 @@ module _ (Words : ℕ → ℕ → ℕ → Type 0) (Cells : ℕ → List ℕ → 
       setChild-related (prefix c) x b b′ is r = r
       setChild-related invalid x b b′ is r = r
 
-      putBack-related : (value : Option ℕ) (b b′ : Built) → Related b b′ → Related (putBack layout number value b) (putBack layout number′ value b′)
+      pub putBack-related : (value : Option ℕ) (b b′ : Built) → Related b b′ → Related (putBack layout number value b) (putBack layout number′ value b′)
       unfolding putBack
       putBack-related none b b′ r = r
       putBack-related (some v) b b′ r = over-related 31 (prefixCell v) b b′ (omega arith) (λ w. contents .prefixed v w) r

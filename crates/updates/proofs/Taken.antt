@@ -10,10 +10,11 @@ use Rattle.cells.specs.Memory.{Memory}
 use Rattle.cells.specs.Occurrences.{occurrences, select}
 use Rattle.cells.proofs.Occurrences.{occurrences-here, occurrences-later, occurrences-append}
 use Rattle.nodes.specs.Layout.{Layout, usable, cellLimit}
+use Rattle.updates.specs.Built.{Built}
 use Rattle.updates.specs.Build.{build, cellsNeeded}
 use Rattle.staging.specs.Numbering.{numberFrom}
 use Rattle.updates.proofs.Claims.{numbers}
-use Rattle.updates.proofs.Count.{build-numbers, count-needed}
+use Rattle.updates.proofs.Count.{Numbering, build-numbers, count-needed}
 use Rattle.updates.proofs.Commit.{numbers-taken, numbering-free}
 
 -- how many elements pass a test
@@ -61,18 +62,32 @@ pub enough-free : (layout : Layout) → 2 ≤ layout .cells → layout .cells �
 enough-free layout some-cells small free each m w key value clear fits =
     omega (arith, fits, count-needed layout (numberFrom layout free) (numbering-free layout free each some-cells small) m w key value clear)
 
--- a build that takes no more than so many cells is the same from the first so many free ones
-pub build-first : (layout : Layout) → 2 ≤ layout .cells → layout .cells ≤ cellLimit → (free : List ℕ)
-    → ((c : ℕ) → 1 ≤ occurrences c free → usable layout c ≡ true) → (limit : ℕ) (m : Memory) (w : ℕ) (key : List ℕ) (value : ℕ)
-    → length (build layout (numberFrom layout free) m w key value .cells) ≤ limit
-    → build layout (numberFrom layout free) m w key value ≡ build layout (numberFrom layout (take limit free)) m w key value
-build-first layout some-cells small free each limit m w key value fits =
-    build-numbers (numberFrom layout free) (numberFrom layout (take limit free))
+-- a build, by its numbering, that asks only for the numbers that it takes
+abbrev pub AsksTaken : ((ℕ → ℕ) → Built) → Type 0
+AsksTaken make =
+    (number number′ : ℕ → ℕ) → Numbering number → Numbering number′ → (limit : ℕ) → ((i : ℕ) → i < limit → number i ≡ number′ i)
+    → length (make number .cells) ≤ limit → make number ≡ make number′
+
+-- one that takes no more than so many cells is the same from the first so many free ones
+pub first-free : (layout : Layout) → 2 ≤ layout .cells → layout .cells ≤ cellLimit → (free : List ℕ)
+    → ((c : ℕ) → 1 ≤ occurrences c free → usable layout c ≡ true) → (make : (ℕ → ℕ) → Built) → AsksTaken make → (limit : ℕ)
+    → length (make (numberFrom layout free) .cells) ≤ limit → make (numberFrom layout free) ≡ make (numberFrom layout (take limit free))
+first-free layout some-cells small free each make asks limit fits =
+    asks (numberFrom layout free) (numberFrom layout (take limit free))
     (numbering-free layout free each some-cells small)
     (numbering-free layout (take limit free) (λ c h. each c (omega (arith, taken-less c))) some-cells small)
-    limit (λ i low. unfold numberFrom in sym (getD-take limit free i (layout .cells - 1) low)) layout m w key value fits
+    limit (λ i low. unfold numberFrom in sym (getD-take limit free i (layout .cells - 1) low)) fits
   where
     taken-less : (c : ℕ) → occurrences c (take limit free) ≤ occurrences c free
     taken-less c =
         let cut = ap (occurrences c) (sym (take-append-drop limit free)) ∙ occurrences-append c (take limit free) (drop limit free) in
         omega (arith, cut)
+
+-- and so is an insertion's
+pub build-first : (layout : Layout) → 2 ≤ layout .cells → layout .cells ≤ cellLimit → (free : List ℕ)
+    → ((c : ℕ) → 1 ≤ occurrences c free → usable layout c ≡ true) → (limit : ℕ) (m : Memory) (w : ℕ) (key : List ℕ) (value : ℕ)
+    → length (build layout (numberFrom layout free) m w key value .cells) ≤ limit
+    → build layout (numberFrom layout free) m w key value ≡ build layout (numberFrom layout (take limit free)) m w key value
+build-first layout some-cells small free each limit m w key value fits =
+    first-free layout some-cells small free each (λ number. build layout number m w key value)
+    (λ number number′ n n′ limit agree. build-numbers number number′ n n′ limit agree layout m w key value) limit fits

@@ -50,7 +50,7 @@ fn child_word(layout: Layout, block: &[u8], word: u32, x: u8) -> u32
 }
 
 // A node's word without its value: NONE for a leaf, the node linked for a prefix.
-fn word_aside(layout: Layout, block: &[u8], word: u32) -> u32
+pub fn word_aside(layout: Layout, block: &[u8], word: u32) -> u32
     requires { ⌜ layout .cells * 32 ≤ length (now block) ⌝ }
     ensures { λ r. ⌜ r ≡ wordAside layout (memoryOf (now (block .entry))) (pointer layout word) word ⌝ }
 {
@@ -63,7 +63,7 @@ fn word_aside(layout: Layout, block: &[u8], word: u32) -> u32
 }
 
 // A child of a node with no value set, by the node's kind.
-fn set_child(
+pub fn set_child(
     layout: Layout,
     block: &[u8],
     numbers: &[u16; STAGE_CELLS],
@@ -117,7 +117,13 @@ fn put_word_of(path: &mut [u32; KEY_LIMIT], at: usize, word: u32)
 }
 
 // Down by a key: the word of the node before each character, and the word at the key's end.
-fn descend(layout: Layout, block: &[u8], key: &[u8], word: u32, path: &mut [u32; KEY_LIMIT]) -> u32
+pub fn descend(
+    layout: Layout,
+    block: &[u8],
+    key: &[u8],
+    word: u32,
+    path: &mut [u32; KEY_LIMIT],
+) -> u32
     requires { ⌜ Covered layout (now block) × (length (now key) ≤ keyLimit) × Grown layout (memoryOf (now block)) keyLimit word ⌝ }
     ensures { λ r. ⌜ (r ≡ reached layout (memoryOf (now (block .entry))) word (now (key .entry)) (length (now (key .entry)))) × Path layout (memoryOf (now (block .entry))) word (now (key .entry)) (length (now (key .entry))) (now (path .exit)) ⌝ }
 {

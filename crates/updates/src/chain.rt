@@ -40,7 +40,7 @@ fn room_before(own: bool, word: u32) -> usize
 }
 
 // A chain of one character in a new cell.
-fn new_chain(
+pub fn new_chain(
     layout: Layout,
     numbers: &[u16; STAGE_CELLS],
     free: usize,

@@ -39,7 +39,7 @@ fn some_of(words: &[u32], base: usize) -> bool
 }
 
 // A cell of eight words if one of them is a pointer.
-fn branch_row(
+pub fn branch_row(
     layout: Layout,
     numbers: &[u16; STAGE_CELLS],
     free: usize,

@@ -23,7 +23,7 @@ use staging::stage::STAGE_SIZE;
 use staging::stage::allocated_as;
 
 // A word of the mid or end that a word names, NONE where that is NONE.
-fn word_below(block: &[u8], word: u32, i: usize) -> u32
+pub fn word_below(block: &[u8], word: u32, i: usize) -> u32
     requires { ⌜ (word / 32 * 32 + 32 ≤ length (now block)) × (i < 8) ⌝ }
     ensures { λ r. ⌜ r ≡ wordBelow (memoryOf (now (block .entry))) word i ⌝ }
 {
@@ -55,7 +55,7 @@ fn branch_set(
 }
 
 // A head copied to a new cell, with one word replaced by that of a build.
-fn head_set(
+pub fn head_set(
     layout: Layout,
     block: &[u8],
     numbers: &[u16; STAGE_CELLS],

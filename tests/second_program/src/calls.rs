@@ -1,9 +1,10 @@
-//! Every call of the specification on a block, its answers tried in rising order of their numbers.
+//! Every call of the specification on a block, its answers tried in the order in which they are to be given.
 
-use crate::coverage::Coverage;
+use crate::coverage::{BuildCase, Change, Coverage};
 use crate::encode::{entered, fresh_cells, Cases, Layer};
 use crate::limits::{held_limits, limits_met};
-use crate::model::{put_word, word_at, Store, CELL, LONGEST_KEY};
+use crate::model::{put_word, word_at, Node, Store, CELL, LONGEST_KEY};
+use crate::removal::without;
 use crate::verdict::{verdict, Question};
 use std::ops::Bound;
 
@@ -19,6 +20,7 @@ pub enum Call {
     Restore { slot: u32 },
     Release { slot: u32 },
     Verdict(Question),
+    Remove { key: Vec<u8> },
 }
 
 /// An answer number with every value that goes beside it; the dose by its bits.
@@ -55,6 +57,7 @@ impl Call {
             Call::Restore { .. } => 6,
             Call::Release { .. } => 7,
             Call::Verdict(_) => 8,
+            Call::Remove { .. } => 9,
         }
     }
 }
@@ -86,6 +89,7 @@ fn answer(block: &mut [u8], call: &Call, coverage: &mut Coverage) -> Outcome {
     match call {
         Call::Format | Call::Validate => Outcome::bare(0),
         Call::Insert { key, value } => insert(block, store, key, *value, coverage),
+        Call::Remove { key } => remove(block, store, key, coverage),
         Call::Get { key } => get(&store, key),
         Call::NextKey { key } => next_key(&store, key),
         Call::Snapshot { slot } => snapshot(block, *slot),
@@ -131,15 +135,43 @@ fn insert(block: &mut [u8], store: Store, key: &[u8], value: u32, coverage: &mut
     let free = store.free_cells();
     let mut cases = Cases::new();
     let tree = entered(store.root.top, key, value, &mut cases);
-    let count = fresh_cells(&tree);
-    coverage.room(count, free.len());
+    lay_down(block, free, Some(tree), (Change::Insertion, cases), coverage)
+}
+
+/// Takes one key out of the root's table; the number is the count of cells taken, which may be none.
+fn remove(block: &mut [u8], store: Store, key: &[u8], coverage: &mut Coverage) -> Outcome {
+    if !valid_key(key) {
+        return Outcome::bare(3);
+    }
+    if !store.root.table().contains_key(key) {
+        return Outcome::bare(11);
+    }
+    let free = store.free_cells();
+    let mut cases = Cases::new();
+    let tree = without(store.root.top.expect("the root shows a key"), key, &mut cases);
+    lay_down(block, free, tree, (Change::Removal, cases), coverage)
+}
+
+/// Writes a new tree and its root word, where the free cells are enough; the number is the count of cells taken.
+fn lay_down(
+    block: &mut [u8],
+    free: Vec<usize>,
+    tree: Option<Node>,
+    (change, mut cases): (Change, Cases),
+    coverage: &mut Coverage,
+) -> Outcome {
+    let count = tree.as_ref().map_or(0, fresh_cells);
+    coverage.room(change, count, free.len());
     if count > free.len() {
         return Outcome::bare(7);
     }
-    coverage.built(&cases);
+    if count == 0 {
+        cases.push(BuildCase::NothingTaken);
+    }
+    coverage.built(change, &cases);
     let trailer = block.len() - CELL;
     let mut layer = Layer { block, free: free.into_iter() };
-    let root = layer.lay(&tree);
+    let root = tree.map_or(0, |tree| layer.lay(&tree));
     put_word(block, trailer, root);
     Outcome::done(count as u32)
 }

@@ -4,11 +4,11 @@ use crate::limits::{all_limits, Limit};
 use std::collections::BTreeMap;
 
 /// The calls, in the order of `Call::number`.
-pub const CALLS: [&str; 9] =
-    ["format", "validate", "insert", "get", "next_key", "snapshot", "restore", "release", "verdict"];
+pub const CALLS: [&str; 10] =
+    ["format", "validate", "insert", "get", "next_key", "snapshot", "restore", "release", "verdict", "remove"];
 
 /// The answers that each call can give.
-const REACHABLE: [&[usize]; 9] = [
+const REACHABLE: [&[usize]; 10] = [
     &[0, 1],
     &[0, 1, 2],
     &[0, 1, 2, 3, 4, 7],
@@ -18,11 +18,12 @@ const REACHABLE: [&[usize]; 9] = [
     &[0, 1, 2, 5, 6],
     &[0, 1, 2, 5, 6],
     &[0, 1, 2, 3, 8, 9, 10, 11, 12, 13, 14],
+    &[0, 1, 2, 3, 7, 11],
 ];
 
 /// The answers that the calls of a list can give: its block is fresh, so none of its own calls gets 1 or 2.
-const LISTED: [(usize, &[usize]); 5] =
-    [(0, &[0, 1]), (2, &[0, 3, 4, 7]), (5, &[0, 5]), (6, &[0, 5, 6]), (7, &[0, 5, 6])];
+const LISTED: [(usize, &[usize]); 6] =
+    [(0, &[0, 1]), (2, &[0, 3, 4, 7]), (5, &[0, 5]), (6, &[0, 5, 6]), (7, &[0, 5, 6]), (9, &[0, 3, 7, 11])];
 
 /// Declares an enum of things to be counted, with its number of cases and their names.
 macro_rules! counted {
@@ -54,21 +55,87 @@ counted! {
 }
 
 counted! {
-    /// The cases of the build that the specification lays down for an insertion.
+    /// The cases of the build that the specification lays down for an insertion or a removal.
     BuildCase: Leaf, PrefixReplaced, PrefixAdded, NewChain, FullChain, CharacterBefore, ChainPair, SparseReplaced,
-    SparseAppended, SeventhChild, SplitEndPresent, SplitEndAbsent, SplitMidAbsent, ValuePutBack,
+    SparseAppended, SeventhChild, SplitEndPresent, SplitEndAbsent, SplitMidAbsent, ValuePutBack, LeafGone,
+    PrefixToLinked, ValueToLeaf, OldChainNotJoined, KeptGrown, SplitReplaced, FewReplaced, NoneKept, OneKept, TwoKept,
+    ThreeToFiveKept, SixKept, SevenKept, MoreKept, OrderRewritten, SplitToNone, SplitToChain, SplitToSparse, EndEmptied,
+    MidEmptied, NothingTaken,
+}
+
+use BuildCase::*;
+
+/// The cases that each change can go through, in the order of `Change`; every one must be met, and no other.
+const BUILT: [(&str, &[BuildCase]); 2] = [
+    (
+        "build cases of insertions",
+        &[
+            Leaf,
+            PrefixReplaced,
+            PrefixAdded,
+            NewChain,
+            FullChain,
+            CharacterBefore,
+            ChainPair,
+            SparseReplaced,
+            SparseAppended,
+            SeventhChild,
+            SplitEndPresent,
+            SplitEndAbsent,
+            SplitMidAbsent,
+            ValuePutBack,
+        ],
+    ),
+    (
+        "build cases of removals",
+        &[
+            NewChain,
+            FullChain,
+            CharacterBefore,
+            SparseReplaced,
+            ValuePutBack,
+            LeafGone,
+            PrefixToLinked,
+            ValueToLeaf,
+            OldChainNotJoined,
+            KeptGrown,
+            SplitReplaced,
+            FewReplaced,
+            NoneKept,
+            OneKept,
+            TwoKept,
+            ThreeToFiveKept,
+            SixKept,
+            SevenKept,
+            MoreKept,
+            OrderRewritten,
+            SplitToNone,
+            SplitToChain,
+            SplitToSparse,
+            EndEmptied,
+            MidEmptied,
+            NothingTaken,
+        ],
+    ),
+];
+
+/// The two calls that build a new tree.
+#[derive(Clone, Copy)]
+pub enum Change {
+    Insertion,
+    Removal,
 }
 
 counted! {
-    /// How closely an insertion meets the free cells: it takes all, or lacks a single one.
+    /// How closely a change meets the free cells: it takes all, one at least, or lacks a single one.
     Room: TookLastFree, OneShort,
 }
 
 counted! {
     /// How a list of calls ends, what is left over there, and what stands in it.
     ListCase: AtEnd, BadSize, NoCall, Full, EndAsAnswersFill, NothingAtAll, AnswersLeftOver, NoAnswerByte,
-    FullBeforeNoCall, OtherTag, InsertCut, SlotCut, OneByteShort, KeyOf0, KeyOf48, KeyOf49, KeyOf255, LongList,
-    LargeBlock,
+    FullBeforeNoCall, OtherTag, InsertCut, SlotCut, RemoveCut, OneByteShort, KeyOf0, KeyOf48, KeyOf49, KeyOf255,
+    RemovedOf0, RemovedOf48, RemovedOf49, RemovedOf255, LongList, LargeBlock,
 }
 
 /// The shapes and order words of one block.
@@ -97,11 +164,11 @@ impl Met {
 pub struct Coverage {
     pub calls: u64,
     pub large_calls: u64,
-    answers: [[u64; 15]; 9],
+    answers: [[u64; 15]; CALLS.len()],
     shapes: [u64; Shape::NAMES.len()],
-    cases: [u64; BuildCase::NAMES.len()],
+    cases: [[u64; BuildCase::NAMES.len()]; 2],
     flaws: [u64; Flaw::NAMES.len()],
-    rooms: [u64; Room::NAMES.len()],
+    rooms: [[u64; Room::NAMES.len()]; 2],
     orders: BTreeMap<u16, u64>,
     limits: BTreeMap<Limit, u64>,
     lists: [u64; ListCase::NAMES.len()],
@@ -113,11 +180,11 @@ impl Coverage {
         Coverage {
             calls: 0,
             large_calls: 0,
-            answers: [[0; 15]; 9],
+            answers: [[0; 15]; CALLS.len()],
             shapes: [0; Shape::NAMES.len()],
-            cases: [0; BuildCase::NAMES.len()],
+            cases: [[0; BuildCase::NAMES.len()]; 2],
             flaws: [0; Flaw::NAMES.len()],
-            rooms: [0; Room::NAMES.len()],
+            rooms: [[0; Room::NAMES.len()]; 2],
             orders: BTreeMap::new(),
             limits: all_limits().into_iter().map(|limit| (limit, 0)).collect(),
             lists: [0; ListCase::NAMES.len()],
@@ -146,17 +213,18 @@ impl Coverage {
         self.flaws[flaw as usize] += 1;
     }
 
-    /// Counts the build cases of an accepted insertion.
-    pub fn built(&mut self, cases: &[BuildCase]) {
+    /// Counts the build cases of an accepted change.
+    pub fn built(&mut self, change: Change, cases: &[BuildCase]) {
         for case in cases {
-            self.cases[*case as usize] += 1;
+            self.cases[change as usize][*case as usize] += 1;
         }
     }
 
-    /// Counts an insertion whose cells meet the free ones closely.
-    pub fn room(&mut self, count: usize, free: usize) {
-        self.rooms[Room::TookLastFree as usize] += u64::from(count == free);
-        self.rooms[Room::OneShort as usize] += u64::from(count == free + 1);
+    /// Counts a change whose cells meet the free ones closely.
+    pub fn room(&mut self, change: Change, count: usize, free: usize) {
+        let rooms = &mut self.rooms[change as usize];
+        rooms[Room::TookLastFree as usize] += u64::from(count == free && count > 0);
+        rooms[Room::OneShort as usize] += u64::from(count == free + 1);
     }
 
     /// Counts a limit that a call met, if it is one of those that are asked for.
@@ -190,8 +258,10 @@ impl Coverage {
             short += self.report_answers(call, reachable, least);
         }
         short += print_counts("shapes", Shape::NAMES, &self.shapes, least);
-        short += print_counts("build cases", BuildCase::NAMES, &self.cases, least);
-        short += print_counts("room", Room::NAMES, &self.rooms, least);
+        for (change, (title, cases)) in BUILT.iter().enumerate() {
+            short += self.report_cases(change, title, cases, least);
+            short += print_counts("room", Room::NAMES, &self.rooms[change], least);
+        }
         short += print_counts("broken rules", Flaw::NAMES, &self.flaws, least);
         short += self.report_limits();
         let words = self.orders.len();
@@ -216,6 +286,15 @@ impl Coverage {
         let inside: u64 = reachable.iter().map(|answer| answers[*answer]).sum();
         let few = reachable.iter().filter(|answer| answers[**answer] < least).count();
         few + usize::from(inside != answers.iter().sum())
+    }
+
+    /// Prints a change's build cases and gives the number of those that fall short; a case that is not its own is one too.
+    fn report_cases(&self, change: usize, title: &str, own: &[BuildCase], least: u64) -> usize {
+        let counts = &self.cases[change];
+        let names: Vec<&str> = own.iter().map(|case| BuildCase::NAMES[*case as usize]).collect();
+        let own_counts: Vec<u64> = own.iter().map(|case| counts[*case as usize]).collect();
+        let strays = usize::from(own_counts.iter().sum::<u64>() != counts.iter().sum());
+        strays + print_counts(title, &names, &own_counts, least)
     }
 
     /// Prints how often the rarest limit was met and gives the number of those that fall short.

@@ -1,10 +1,10 @@
-//! An insertion: the owned tree rebuilt along the key's path, then its new cells numbered and written.
+//! An insertion: the owned tree rebuilt along the key's path; and how the new cells of a tree are numbered and written.
 
 use crate::coverage::BuildCase as Case;
 use crate::model::{put_word, order_word, pointer, End, Mid, Node, Place, CELL};
 use std::collections::BTreeMap;
 
-/// The build cases that one insertion went through, in the order met.
+/// The build cases that one insertion or removal went through, in the order met.
 pub type Cases = Vec<Case>;
 
 /// The most characters that one chain cell holds.
@@ -64,7 +64,7 @@ fn with_value(node: Option<Node>, value: u32, cases: &mut Cases) -> Node {
 }
 
 /// What a chain leads to by its first character: the rest of its run in the same cell, or its child.
-fn after_first(place: Place, run: &[u8], child: Box<Node>) -> Node {
+pub fn after_first(place: Place, run: &[u8], child: Box<Node>) -> Node {
     match run {
         [_] => *child,
         _ => Node::Chain { place, run: run[1..].to_vec(), child },
@@ -72,7 +72,7 @@ fn after_first(place: Place, run: &[u8], child: Box<Node>) -> Node {
 }
 
 /// A character set before a new child: in the child's own chain cell while there is room, else in a new one.
-fn before(character: u8, child: Node, cases: &mut Cases) -> Node {
+pub fn before(character: u8, child: Node, cases: &mut Cases) -> Node {
     match child {
         Node::Chain { place: Place::Fresh, mut run, child } if run.len() < LONGEST_RUN => {
             cases.push(Case::CharacterBefore);
@@ -81,7 +81,7 @@ fn before(character: u8, child: Node, cases: &mut Cases) -> Node {
         }
         other => {
             cases.push(Case::NewChain);
-            if matches!(other, Node::Chain { .. }) {
+            if matches!(other, Node::Chain { place: Place::Fresh, .. }) {
                 cases.push(Case::FullChain);
             }
             Node::Chain { place: Place::Fresh, run: vec![character], child: Box::new(other) }

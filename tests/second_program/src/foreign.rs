@@ -32,8 +32,8 @@ struct Planter<'a> {
 }
 
 /// How often a child is a leaf, in hundredths, and how a node's kind is drawn: chain, sparse, split.
-const WEIGHTS: [[usize; 4]; 6] =
-    [[40, 30, 20, 10], [30, 60, 10, 0], [2, 96, 1, 1], [45, 5, 45, 5], [45, 10, 5, 40], [60, 5, 5, 90]];
+const WEIGHTS: [[usize; 4]; 7] =
+    [[40, 30, 20, 10], [30, 60, 10, 0], [2, 96, 1, 1], [45, 5, 45, 5], [45, 10, 5, 40], [60, 5, 5, 90], [90, 3, 2, 95]];
 
 /// A foreign block of so many cells; it is sound when the depth limit is the specification's.
 pub fn foreign_block(cells: usize, limit: usize, scene: &Scene, random: &mut Random) -> Vec<u8> {
@@ -262,7 +262,7 @@ impl Planter<'_> {
     fn split(&mut self, depth: usize) -> Option<Planted> {
         let width = self.random.pick(&[8, 64, 256, 256]);
         let first = self.random.below(256 / width) * width;
-        let count = self.random.pick(&[1, 2, 3, 6, 7, 8, 12, 30, 256]);
+        let count = self.random.pick(&[1, 1, 1, 2, 2, 2, 3, 6, 7, 8, 12, 30, 256]);
         let mut ends: BTreeMap<u8, Vec<u8>> = BTreeMap::new();
         for character in self.characters(count, first, width) {
             ends.entry(character >> 3).or_default().push(character & 7);

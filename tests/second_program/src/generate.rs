@@ -3,20 +3,23 @@
 use crate::calls::Call;
 use crate::random::Random;
 use crate::verdict::{celsius, days_in_month, Question, CELSIUS, FAHRENHEIT, GATE_ANY, GATE_AT_LEAST, GATE_BETWEEN};
+use std::collections::BTreeSet;
 
 /// How often each call comes, in the order of `Call::number`.
-pub type Weights = [usize; 9];
+pub type Weights = [usize; 10];
 
-/// Calls of a history from a formatted block.
-pub const HISTORY: Weights = [1, 3, 36, 10, 12, 9, 7, 5, 17];
+/// Calls of a history from a formatted block, while its table grows.
+pub const HISTORY: Weights = [1, 3, 36, 10, 12, 9, 7, 5, 17, 10];
+/// Calls of a history while its table shrinks.
+pub const SHRINKING: Weights = [0, 2, 8, 5, 6, 4, 3, 4, 6, 40];
 /// Calls on a sound block that no history made.
-pub const FOREIGN: Weights = [0, 6, 36, 11, 15, 6, 6, 4, 16];
+pub const FOREIGN: Weights = [0, 6, 36, 11, 15, 6, 6, 4, 16, 30];
 /// Calls on a block that may be unsound.
-pub const HOSTILE: Weights = [1, 20, 16, 10, 10, 9, 9, 9, 16];
+pub const HOSTILE: Weights = [1, 20, 16, 10, 10, 9, 9, 9, 16, 12];
 /// Calls of a list.
-pub const LISTED: Weights = [0, 0, 62, 0, 0, 14, 13, 11, 0];
+pub const LISTED: Weights = [0, 0, 62, 0, 0, 14, 13, 11, 0, 34];
 /// Calls on a block of a bad length.
-pub const BAD_LENGTH: Weights = [1, 1, 1, 1, 1, 1, 1, 1, 1];
+pub const BAD_LENGTH: Weights = [1; 10];
 
 /// The most keys that a scene remembers.
 const REMEMBERED: usize = 64;
@@ -107,6 +110,19 @@ impl Scene {
         }
     }
 
+    /// A key to remove: mostly an earlier one, which is then often forgotten, so that the next is likely shown too.
+    fn key_to_remove(&mut self, random: &mut Random) -> Vec<u8> {
+        let count = self.keys.len();
+        if count == 0 || random.chance(25) {
+            return self.key(random);
+        }
+        let place = random.below(count);
+        match random.chance(60) {
+            true => self.keys.swap_remove(place),
+            false => self.keys[place].clone(),
+        }
+    }
+
     /// A key to start the order walk from, which may be empty and need not be shown.
     fn start_key(&mut self, random: &mut Random) -> Vec<u8> {
         match random.below(10) {
@@ -163,7 +179,8 @@ impl Scene {
             5 => Call::Snapshot { slot: slot(random) },
             6 => Call::Restore { slot: slot(random) },
             7 => Call::Release { slot: slot(random) },
-            _ => Call::Verdict(self.question(random)),
+            8 => Call::Verdict(self.question(random)),
+            _ => Call::Remove { key: self.key_to_remove(random) },
         }
     }
 
@@ -202,6 +219,36 @@ impl Scene {
         let label = self.asked_key(random);
         Question { label, year, month, day, unit, degrees, kind, low, high, section, length }
     }
+}
+
+/// Keys that share all but their ends, in mixed order: children of one node, most of them close together, some with keys
+/// below them; the node may have a value itself.
+pub fn children_of(random: &mut Random) -> Vec<Vec<u8>> {
+    let path = vec![random.byte(); random.pick(&[0, 0, 1, 2, 27, 28, 40])];
+    let first = random.byte();
+    let mask = random.pick(&[0x07, 0x1F, 0x3F, 0x3F, 0xFF]);
+    let mut characters = BTreeSet::new();
+    for number in 0..random.pick(&[3, 8, 9, 10, 12, 14, 18, 24]) {
+        let near = first & !mask | random.byte() & mask;
+        characters.insert(if number < 2 { near ^ random.pick(&[0x40, 0x80, 0xC0]) } else { near });
+    }
+    let mut keys = Vec::new();
+    for character in characters {
+        let mut key = path.clone();
+        key.push(character);
+        if random.chance(10) {
+            keys.push(key.clone());
+        }
+        if random.chance(15) {
+            key.extend((0..random.between(1, 3)).map(|_| random.byte()));
+        }
+        keys.push(key);
+    }
+    if !path.is_empty() && random.chance(40) {
+        keys.push(path);
+    }
+    random.shuffle(&mut keys);
+    keys
 }
 
 /// A number that is the given one or close to it.

@@ -69,12 +69,14 @@ fn check_next(block: &[u8], key: &[u8], outcome: &Outcome) -> Verdict {
 /// Which bytes a mutating call may write.
 fn check_bytes(before: &[u8], after: &[u8], call: &Call, old: &Store, new: &Store, outcome: &Outcome) -> Verdict {
     let trailer = before.len() - CELL;
-    let Call::Insert { key, value } = call else {
-        return demand(before[..trailer] == after[..trailer], "a snapshot's call writes the trailer alone");
+    let (key, least) = match call {
+        Call::Insert { key, .. } => (key, 1),
+        Call::Remove { key } => (key, 0),
+        _ => return demand(before[..trailer] == after[..trailer], "a snapshot's call writes the trailer alone"),
     };
     let count = outcome.number as usize;
     let free = old.free_cells();
-    demand((1..=4 * key.len() + 10).contains(&count), "the count keeps its bound")?;
+    demand((least..=4 * key.len() + 10).contains(&count), "the count keeps its bound")?;
     let taken: Vec<usize> = free.iter().copied().filter(|cell| new.root.entered[*cell].is_some()).collect();
     demand(taken.len() == count, "the count is that of the newly reached cells")?;
     demand(taken == free[..count], "the lowest free cells are taken")?;
@@ -83,28 +85,34 @@ fn check_bytes(before: &[u8], after: &[u8], call: &Call, old: &Store, new: &Stor
     for cell in &taken {
         rebuilt[cell * CELL..][..CELL].fill(0);
     }
-    let top = Store::decode(after).expect("sound").root.top.expect("an insertion leaves a root");
-    let top = as_new(top, &taken);
-    let root = Layer { block: &mut rebuilt, free: taken.clone().into_iter() }.lay(&top);
+    let top = Store::decode(after).expect("sound").root.top;
+    demand(least == 0 || top.is_some(), "an insertion leaves a root")?;
+    let mut layer = Layer { block: &mut rebuilt, free: taken.clone().into_iter() };
+    let root = top.map_or(0, |top| layer.lay(&as_new(top, &taken)));
     demand(root == word_at(after, trailer), "the decoded tree encodes to the same root")?;
     demand(rebuilt == after, "the decoded tree encodes to the same bytes, and no other byte moved")?;
     let path = path_cells(after, key);
     let new_path: Vec<usize> = path.into_iter().filter(|cell| taken.contains(cell)).collect();
     demand(new_path.windows(2).all(|pair| pair[0] > pair[1]), "the deepest node takes its cell first")?;
-    check_enlarged(before, key, *value, count as u32)
+    demand(least == 1 || new_path.len() == count, "a removal takes cells for the key's path alone")?;
+    demand(least == 1 || kept_shapes(before, after, key), "a node is rebuilt by what it keeps")?;
+    check_enlarged(before, call, count as u32)
 }
 
-/// The same insertion with plenty of room takes the same number of cells, whatever the value.
-fn check_enlarged(before: &[u8], key: &[u8], value: u32, count: u32) -> Verdict {
+/// The same change with plenty of room takes the same number of cells, whatever the value.
+fn check_enlarged(before: &[u8], call: &Call, count: u32) -> Verdict {
     let Some(mut enlarged) = enlarge(before) else {
         return Ok(());
     };
-    let call = Call::Insert { key: key.to_vec(), value: value ^ 1 };
+    let mut call = call.clone();
+    if let Call::Insert { value, .. } = &mut call {
+        *value ^= 1;
+    }
     let outcome = perform(&mut enlarged, &call, &mut Coverage::new());
     demand(outcome == Outcome::done(count), "the count depends on the tree and key alone")
 }
 
-/// Answer 7 comes exactly when the same insertion in a larger block takes more cells than were free.
+/// Answer 7 comes exactly when the same change in a larger block takes more cells than were free.
 fn check_no_room(before: &[u8], call: &Call, outcome: &Outcome) -> Verdict {
     let larger = if outcome.answer == 7 { enlarge(before) } else { None };
     let Some(mut enlarged) = larger else {
@@ -116,7 +124,7 @@ fn check_no_room(before: &[u8], call: &Call, outcome: &Outcome) -> Verdict {
     demand(outcome.number as usize > free, "more cells are taken than were free")
 }
 
-/// The same block with 210 more cells before its trailer, more than any insertion takes.
+/// The same block with 210 more cells before its trailer, more than any change takes.
 fn enlarge(block: &[u8]) -> Option<Vec<u8>> {
     let trailer = block.len() - CELL;
     let cells = block.len() / CELL + 210;
@@ -220,4 +228,56 @@ fn path_cells(block: &[u8], key: &[u8]) -> Vec<usize> {
     }
     cells.dedup();
     cells
+}
+
+/// Whether a removal left of the key's end and of each node on its path what the specification asks for, told from the bytes.
+fn kept_shapes(before: &[u8], after: &[u8], key: &[u8]) -> bool {
+    let (end, _) = follow(before, key);
+    let linked = if end >> 31 == 1 { 0 } else { word_at(before, (end / 32) as usize * CELL + 0x1C) };
+    let kept = |depth: usize| {
+        let (old, new) = (bare_node(before, &key[..depth]), bare_node(after, &key[..depth]));
+        let (mut had, keeps) = (characters(before, old), characters(after, new));
+        if had == keeps {
+            return same_shape(before, old, after, new, keeps.len());
+        }
+        had.retain(|character| *character != key[depth]);
+        let written = &after[(new / 32) as usize * CELL + 0x18..][..keeps.len().min(6)];
+        had == keeps
+            && match keeps.len() {
+                0 => new == 0,
+                1 => new % 32 == 0x1B,
+                2..=6 => new % 32 == 0x1E && written == keeps,
+                _ => new % 32 == 0x1C,
+            }
+    };
+    follow(after, key).0 == linked && (0..key.len()).all(kept)
+}
+
+/// Whether two nodes with the same characters are of one layout; a sparse node keeps order and positions too.
+fn same_shape(before: &[u8], old: u32, after: &[u8], new: u32, count: usize) -> bool {
+    let cell = |block: &[u8], word: u32| block[(word / 32) as usize * CELL..][..CELL].to_vec();
+    let (old_cell, new_cell) = (cell(before, old), cell(after, new));
+    match old % 32 {
+        0x1C => new % 32 == 0x1C,
+        0x1E => {
+            let same = |bytes: std::ops::Range<usize>| old_cell[bytes.clone()] == new_cell[bytes];
+            new % 32 == 0x1E && same(0x18..0x18 + count) && same(0x1E..CELL)
+        }
+        _ => new % 32 < 0x1C,
+    }
+}
+
+/// The node at the end of a path without its value, NONE where there is none.
+fn bare_node(block: &[u8], path: &[u8]) -> u32 {
+    match follow(block, path).0 {
+        word if word >> 31 == 1 => 0,
+        word if word % 32 == 0x1F => word_at(block, (word / 32) as usize * CELL + 0x1C),
+        word => word,
+    }
+}
+
+/// The characters by which a node leads on, rising.
+fn characters(block: &[u8], word: u32) -> Vec<u8> {
+    let leads_on = |character: &u8| word != 0 && child_word(block, word, *character, &mut Vec::new()) != 0;
+    (0..=255).filter(leads_on).collect()
 }

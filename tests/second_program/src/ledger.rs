@@ -19,6 +19,7 @@ impl Ledger {
                 Some(0)
             }
             Call::Insert { key, value } => Some(self.insert(key, *value, no_room)),
+            Call::Remove { key } => Some(self.remove(key, no_room)),
             Call::Snapshot { slot } => Some(self.snapshot(*slot)),
             Call::Restore { slot } => Some(self.restore(*slot)),
             Call::Release { slot } => Some(self.release(*slot)),
@@ -52,6 +53,21 @@ impl Ledger {
             return 7;
         }
         self.present.insert(key.to_vec(), value);
+        0
+    }
+
+    /// Remove: 3 by the argument, 11 if the present table lacks the key, 7 if that was fed, else its pair goes.
+    fn remove(&mut self, key: &[u8], no_room: bool) -> u8 {
+        if !valid_key(key) {
+            return 3;
+        }
+        if !self.present.contains_key(key) {
+            return 11;
+        }
+        if no_room {
+            return 7;
+        }
+        self.present.remove(key);
         0
     }
 

@@ -77,8 +77,8 @@ fn packed([year, month, day]: [u32; 3]) -> u32 {
 pub fn all_limits() -> Vec<Limit> {
     let mut limits = Vec::new();
     let blocks = CELLS.into_iter().flat_map(lengths);
-    limits.extend(blocks.flat_map(|bytes| (0..9).map(move |call| Limit::Block(call, bytes))));
-    limits.extend(KEYS.into_iter().flat_map(|bytes| [2, 3, 4, 8].map(|call| Limit::Key(call, bytes))));
+    limits.extend(blocks.flat_map(|bytes| (0..10).map(move |call| Limit::Block(call, bytes))));
+    limits.extend(KEYS.into_iter().flat_map(|bytes| [2, 3, 4, 8, 9].map(|call| Limit::Key(call, bytes))));
     limits.extend(VALUES.map(Limit::Value));
     limits.extend(SLOTS.into_iter().flat_map(|slot| [5, 6, 7].map(|call| Limit::Slot(call, slot))));
     for (number, low, high) in BOUNDS {
@@ -106,7 +106,9 @@ pub fn limits_met(block_length: usize, call: &Call, answer: u8) -> Vec<Limit> {
             limits.push(Limit::Key(number, key.len()));
             limits.extend((answer != 3).then_some(Limit::Value(*value)));
         }
-        Call::Get { key } | Call::NextKey { key } => limits.push(Limit::Key(number, key.len())),
+        Call::Get { key } | Call::NextKey { key } | Call::Remove { key } => {
+            limits.push(Limit::Key(number, key.len()));
+        }
         Call::Snapshot { slot } | Call::Restore { slot } | Call::Release { slot } => {
             limits.push(Limit::Slot(number, *slot));
         }
@@ -191,7 +193,8 @@ fn block_lengths(comparison: &mut Comparison, cells: usize, random: &mut Random)
         let (get, next) = (Call::Get { key: key.clone() }, Call::NextKey { key: key.clone() });
         let (snapshot, restore, release) =
             (Call::Snapshot { slot: 3 }, Call::Restore { slot: 3 }, Call::Release { slot: 3 });
-        let rest = [insert(&key, packed([2025, 3, 7])), get, next, snapshot, restore, release, asked, Call::Format];
+        let (insert, remove) = (insert(&key, packed([2025, 3, 7])), Call::Remove { key });
+        let rest = [insert, get, next, snapshot, restore, release, asked, remove, Call::Format];
         for call in [Call::Validate].iter().chain(&rest) {
             comparison.step(&mut block, call);
         }
@@ -207,7 +210,9 @@ fn arguments(comparison: &mut Comparison, cells: usize, random: &mut Random) {
         comparison.step(&mut block, &insert(&key, packed([2025, 3, 7])));
         comparison.step(&mut block, &Call::Get { key: key.clone() });
         comparison.step(&mut block, &Call::NextKey { key: key.clone() });
-        comparison.step(&mut block, &Call::Verdict(Question { label: key, ..question(2025, 3, 7) }));
+        comparison.step(&mut block, &Call::Verdict(Question { label: key.clone(), ..question(2025, 3, 7) }));
+        comparison.step(&mut block, &Call::Remove { key: key.clone() });
+        comparison.step(&mut block, &insert(&key, packed([2025, 3, 7])));
     }
     for value in VALUES {
         comparison.step(&mut block, &insert(&[random.byte()], value));

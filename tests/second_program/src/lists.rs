@@ -30,14 +30,15 @@ pub struct List {
     pub answers: Vec<u8>,
 }
 
-/// Appends a call: 1, the key's size, the key and the value; or 2, 3, 4 and the slot; numbers highest byte first.
+/// Appends a call: 1, the key's size, the key and the value; 2, 3, 4 and the slot; or 5, the key's size and the key;
+/// numbers highest byte first.
 pub fn encode(call: &Call, bytes: &mut Vec<u8>) {
     let (tag, slot) = match call {
         Call::Insert { key, value } => {
-            bytes.extend([1, u8::try_from(key.len()).expect("a key of up to 255 bytes")]);
-            bytes.extend(key);
+            put_key(1, key, bytes);
             return bytes.extend(value.to_be_bytes());
         }
+        Call::Remove { key } => return put_key(5, key, bytes),
         Call::Snapshot { slot } => (2, slot),
         Call::Restore { slot } => (3, slot),
         Call::Release { slot } => (4, slot),
@@ -47,14 +48,24 @@ pub fn encode(call: &Call, bytes: &mut Vec<u8>) {
     bytes.extend(slot.to_be_bytes());
 }
 
+/// Appends a tag, a key's size and the key.
+fn put_key(tag: u8, key: &[u8], bytes: &mut Vec<u8>) {
+    bytes.extend([tag, u8::try_from(key.len()).expect("a key of up to 255 bytes")]);
+    bytes.extend(key);
+}
+
 /// The call at the front of some bytes, and the bytes past it; nothing where they encode none.
 pub fn decode(bytes: &[u8]) -> Option<(Call, &[u8])> {
     let (tag, rest) = bytes.split_first()?;
-    if *tag == 1 {
+    if *tag == 1 || *tag == 5 {
         let (size, rest) = rest.split_first()?;
         let (key, rest) = rest.split_at_checked(usize::from(*size))?;
+        let key = key.to_vec();
+        if *tag == 5 {
+            return Some((Call::Remove { key }, rest));
+        }
         let (value, rest) = rest.split_first_chunk()?;
-        return Some((Call::Insert { key: key.to_vec(), value: u32::from_be_bytes(*value) }, rest));
+        return Some((Call::Insert { key, value: u32::from_be_bytes(*value) }, rest));
     }
     let (slot, rest) = rest.split_first_chunk()?;
     let slot = u32::from_be_bytes(*slot);
@@ -102,17 +113,23 @@ fn meet(list: &List, rest: &[u8], made: &[Call], ended: Ended, coverage: &mut Co
     coverage.list(ListCase::FullBeforeNoCall, ended.number == FULL && decode(rest).is_none());
     if ended.number == NO_CALL {
         let lacks_one = decode(&[rest, &[0]].concat()).is_some();
-        coverage.list(ListCase::OtherTag, !(1..=4).contains(&rest[0]) && rest.len() >= 5);
+        coverage.list(ListCase::OtherTag, !(1..=5).contains(&rest[0]) && rest.len() >= 5);
         coverage.list(ListCase::InsertCut, rest[0] == 1);
         coverage.list(ListCase::SlotCut, (2..=4).contains(&rest[0]));
+        coverage.list(ListCase::RemoveCut, rest[0] == 5);
         coverage.list(ListCase::OneByteShort, lacks_one);
     }
     for call in made {
-        if let Call::Insert { key, .. } = call {
-            let cases =
-                [(0, ListCase::KeyOf0), (48, ListCase::KeyOf48), (49, ListCase::KeyOf49), (255, ListCase::KeyOf255)];
-            cases.into_iter().for_each(|(size, case)| coverage.list(case, key.len() == size));
-        }
+        let (key, cases) = match call {
+            Call::Insert { key, .. } => {
+                (key, [ListCase::KeyOf0, ListCase::KeyOf48, ListCase::KeyOf49, ListCase::KeyOf255])
+            }
+            Call::Remove { key } => {
+                (key, [ListCase::RemovedOf0, ListCase::RemovedOf48, ListCase::RemovedOf49, ListCase::RemovedOf255])
+            }
+            _ => continue,
+        };
+        [0, 48, 49, 255].into_iter().zip(cases).for_each(|(size, case)| coverage.list(case, key.len() == size));
     }
     coverage.list(ListCase::LongList, made.len() >= 500);
     coverage.list(ListCase::LargeBlock, list.block.len() >= 64 * CELL);
@@ -149,7 +166,7 @@ pub fn drawn_list(number: u64, random: &mut Random) -> List {
 /// A call that a list may hold; its key has at most the 255 bytes that can be encoded.
 fn listed_call(scene: &mut Scene, random: &mut Random) -> Call {
     let mut call = scene.call(&LISTED, random);
-    if let Call::Insert { key, .. } = &mut call {
+    if let Call::Insert { key, .. } | Call::Remove { key } = &mut call {
         key.truncate(255);
     }
     call
@@ -176,13 +193,16 @@ fn damage_bytes(bytes: &mut Vec<u8>, random: &mut Random) {
         0 => bytes.truncate(place),
         1 => drop(bytes.pop()),
         2 => {
-            bytes.push(random.pick(&[0, 5, 6, 0x7F, 0x80, 0xFF]));
+            bytes.push(random.pick(&[0, 6, 7, 0x7F, 0x80, 0xFF]));
             bytes.extend((0..random.below(10)).map(|_| random.byte()));
         }
-        3 => bytes.extend(&[1, 2, 3, 4, 1][..random.between(1, 5)]),
+        3 => {
+            let start = random.below(5);
+            bytes.extend(&[1, 2, 3, 4, 5, 9, 1, 5, 1, 2][start..random.between(start + 1, start + 5)]);
+        }
         4 => bytes.insert(place, random.byte()),
-        5 if place < bytes.len() => bytes[place] = random.pick(&[0, 1, 2, 3, 4, 5, 48, 49, 255]),
-        6 => *bytes = (0..random.below(60)).map(|_| random.pick(&[0, 0, 0, 1, 1, 2, 3, 4, 5])).collect(),
+        5 if place < bytes.len() => bytes[place] = random.pick(&[0, 1, 2, 3, 4, 5, 6, 48, 49, 255]),
+        6 => *bytes = (0..random.below(60)).map(|_| random.pick(&[0, 0, 0, 1, 1, 2, 3, 4, 5, 5, 6])).collect(),
         _ => {}
     }
 }

@@ -18,6 +18,9 @@ mod model;
 #[cfg(not(alone))]
 mod proved;
 mod random;
+mod removal;
+#[cfg(alone)]
+mod removal_test;
 mod schedule;
 #[cfg(alone)]
 mod self_test;

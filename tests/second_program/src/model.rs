@@ -12,7 +12,7 @@ pub const LONGEST_KEY: usize = 48;
 /// The keys that a root shows, each with its value, in the order of unsigned bytes.
 pub type Table = BTreeMap<Vec<u8>, u32>;
 
-/// Where a node stands: in a cell of the block, or in a cell that the insertion has yet to take.
+/// Where a node stands: in a cell of the block, or in a cell that the call has yet to take.
 #[derive(Clone, Copy)]
 pub enum Place {
     Held(usize),

@@ -15,6 +15,7 @@ extern "C" {
         value: u32,
         count: *mut u32,
     ) -> u8;
+    fn exports_remove(block: *mut u8, block_len: usize, key: *const u8, key_len: usize, count: *mut u32) -> u8;
     fn exports_get(block: *const u8, block_len: usize, key: *const u8, key_len: usize, value: *mut u32) -> u8;
     fn exports_next_key(
         block: *const u8,
@@ -115,6 +116,7 @@ fn perform_lent(block: &mut [u8], call: &Call) -> Outcome {
     outcome.answer = unsafe {
         match call {
             Call::Insert { key, value } => exports_insert(start, size, key.as_ptr(), key.len(), *value, number),
+            Call::Remove { key } => exports_remove(start, size, key.as_ptr(), key.len(), number),
             Call::Get { key } => exports_get(start, size, key.as_ptr(), key.len(), number),
             Call::NextKey { key } => {
                 outcome.key = [FILLER; 48];

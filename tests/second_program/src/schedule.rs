@@ -1,10 +1,10 @@
 //! Which blocks are met, in which order, and how many calls each gets.
 
-use crate::calls::Call;
+use crate::calls::{valid_length, Call};
 use crate::compare::Comparison;
 use crate::crafted::crafted_block;
 use crate::foreign::{foreign_block, junk};
-use crate::generate::{Scene, Weights, BAD_LENGTH, FOREIGN, HISTORY, HOSTILE};
+use crate::generate::{children_of, Scene, Weights, BAD_LENGTH, FOREIGN, HISTORY, HOSTILE, SHRINKING};
 use crate::hostile::{bad_length_block, damage, noise_block};
 use crate::ledger::Ledger;
 use crate::lists::drawn_list;
@@ -18,9 +18,11 @@ pub fn run(comparison: &mut Comparison, target: u64) {
         comparison.seed += 1;
         let mut random = Random::seeded(comparison.seed);
         let cells = draw_cells(comparison, &mut random);
-        match random.weighted(&[18, 40, 42]) {
+        match random.weighted(&[18, 40, 42, 11, 14]) {
             0 => history(comparison, cells, &mut random),
             1 => foreign(comparison, cells, &mut random),
+            3 => shrunk(comparison, cells.max(24), &mut random),
+            4 => emptied(comparison, &mut random),
             _ => hostile(comparison, cells, &mut random),
         }
     }
@@ -65,8 +67,21 @@ pub fn calls(
     random: &mut Random,
 ) {
     for _ in 0..count {
-        let call = scene.call(weights, random);
+        let call = aimed(scene.call(weights, random), block, random);
         comparison.step(block, &call);
+    }
+}
+
+/// A call as it was drawn, but that a removal is mostly one of a key that the block shows.
+fn aimed(call: Call, block: &[u8], random: &mut Random) -> Call {
+    if !matches!(call, Call::Remove { .. }) || !valid_length(block.len()) || random.chance(50) {
+        return call;
+    }
+    let shown = Store::decode(block).map(|store| store.root.table()).unwrap_or_default();
+    let place = random.below(shown.len().max(1));
+    match shown.into_keys().nth(place) {
+        Some(key) => Call::Remove { key },
+        None => call,
     }
 }
 
@@ -76,12 +91,34 @@ fn history(comparison: &mut Comparison, cells: usize, random: &mut Random) {
     let mut ledger = Ledger::default();
     let mut block = junk(cells, random);
     comparison.step_with_ledger(&mut block, &Call::Format, &mut ledger);
-    for _ in 0..random.between(20, 160) {
-        let call = scene.call(&HISTORY, random);
-        comparison.step_with_ledger(&mut block, &call, &mut ledger);
+    for _ in 0..random.between(1, 8) {
+        let weights = if random.chance(75) { &HISTORY } else { &SHRINKING };
+        for _ in 0..random.between(10, 25) {
+            let call = aimed(scene.call(weights, random), &block, random);
+            comparison.step_with_ledger(&mut block, &call, &mut ledger);
+        }
     }
     walk(comparison, &mut block, 6);
     damaged(comparison, &block, &mut scene, random);
+}
+
+/// One node that grows to so many children and loses them one by one, with the ledger beside it.
+fn shrunk(comparison: &mut Comparison, cells: usize, random: &mut Random) {
+    let mut ledger = Ledger::default();
+    let mut block = junk(cells, random);
+    comparison.step_with_ledger(&mut block, &Call::Format, &mut ledger);
+    let mut keys = children_of(random);
+    for key in &keys {
+        let call = Call::Insert { key: key.clone(), value: random.word() >> 1 };
+        comparison.step_with_ledger(&mut block, &call, &mut ledger);
+        if random.chance(3) {
+            comparison.step_with_ledger(&mut block, &Call::Snapshot { slot: 1 }, &mut ledger);
+        }
+    }
+    random.shuffle(&mut keys);
+    for key in keys {
+        comparison.step_with_ledger(&mut block, &Call::Remove { key }, &mut ledger);
+    }
 }
 
 /// A foreign block, which must be sound, and calls on it; then copies of it damaged.
@@ -92,9 +129,22 @@ fn foreign(comparison: &mut Comparison, cells: usize, random: &mut Random) {
         comparison.note(&Call::Validate, &block, "a block that was built sound is not");
     }
     remember_shown(&mut scene, &block);
-    calls(comparison, &mut block, &mut scene, &FOREIGN, random.between(6, 24), random);
+    let weights = if random.chance(75) { &FOREIGN } else { &SHRINKING };
+    calls(comparison, &mut block, &mut scene, weights, random.between(6, 24), random);
     walk(comparison, &mut block, 6);
     damaged(comparison, &block, &mut scene, random);
+}
+
+/// A small foreign block that loses its keys one by one, in mixed order.
+fn emptied(comparison: &mut Comparison, random: &mut Random) {
+    let scene = Scene::drawn(random);
+    let mut block = foreign_block(random.between(5, 24), LONGEST_KEY, &scene, random);
+    let shown = Store::decode(&block).map(|store| store.root.table()).unwrap_or_default();
+    let mut keys: Vec<Vec<u8>> = shown.into_keys().collect();
+    random.shuffle(&mut keys);
+    for key in keys.into_iter().take(16) {
+        comparison.step(&mut block, &Call::Remove { key });
+    }
 }
 
 /// Steps through the keys in order from the empty key.

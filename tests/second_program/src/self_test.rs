@@ -25,34 +25,35 @@ pub fn run() {
     arithmetic();
     foreign_tables_rebuilt();
     lists_of_calls();
+    crate::removal_test::run();
     println!("second_program alone: samples A to L and the further cases hold");
 }
 
 /// A call on the model.
-fn make(block: &mut [u8], call: Call) -> Outcome {
+pub fn make(block: &mut [u8], call: Call) -> Outcome {
     perform(block, &call, &mut Coverage::new())
 }
 
 /// A fresh block.
-fn fresh(cells: usize) -> Vec<u8> {
+pub fn fresh(cells: usize) -> Vec<u8> {
     let mut block = vec![0xAA; cells * CELL];
     assert_eq!(make(&mut block, Call::Format), Outcome::bare(0));
     block
 }
 
 /// Inserts, and gives answer and count.
-fn insert(block: &mut [u8], key: &[u8], value: u32) -> (u8, u32) {
+pub fn insert(block: &mut [u8], key: &[u8], value: u32) -> (u8, u32) {
     let outcome = make(block, Call::Insert { key: key.to_vec(), value });
     (outcome.answer, outcome.number)
 }
 
 /// The root word.
-fn root(block: &[u8]) -> u32 {
+pub fn root(block: &[u8]) -> u32 {
     word_at(block, block.len() - CELL)
 }
 
 /// The bytes that hexadecimal digits name; blanks between them are for the eye.
-fn bytes(digits: &str) -> Vec<u8> {
+pub fn bytes(digits: &str) -> Vec<u8> {
     let digits: Vec<u8> = digits.bytes().filter(|digit| *digit != b' ').collect();
     let byte = |pair: &[u8]| u8::from_str_radix(std::str::from_utf8(pair).unwrap(), 16).unwrap();
     digits.chunks(2).map(byte).collect()
@@ -276,12 +277,16 @@ fn lists_of_calls() {
     assert_eq!(with("02 000000", 6), (NO_CALL, 5, vec![0, 0, 3, 6, 0, 0xEE]));
     assert_eq!(with("01 02 41 42 000000", 6), (NO_CALL, 5, vec![0, 0, 3, 6, 0, 0xEE]));
     assert_eq!(with("01 02 41 42 00000000", 6), (AT_END, 6, vec![0, 0, 3, 6, 0, 7]));
+    assert_eq!(with("05 01 41  05 01 41  05 00", 8), (AT_END, 8, vec![0, 0, 3, 6, 0, 0, 11, 3]));
+    assert_eq!(with("05 02 41", 6), (NO_CALL, 5, vec![0, 0, 3, 6, 0, 0xEE]));
+    assert_eq!(with("06 01 41 41 41", 6), (NO_CALL, 5, vec![0, 0, 3, 6, 0, 0xEE]));
     let mut small = List { block: vec![0xAA; 3 * CELL], bytes: encoded, answers: vec![0xEE] };
     assert_eq!(run_list(&mut small, &mut Coverage::new()).0, Ended { number: BAD_SIZE, count: 0 });
     assert_eq!((small.block, small.answers), (vec![0xAA; 3 * CELL], vec![0xEE]));
     let keys = [0, 1, 48, 49, 255].map(|size| Call::Insert { key: vec![0x41; size], value: 0x8765_4321 });
+    let removed = [0, 1, 48, 49, 255].map(|size| Call::Remove { key: vec![0x05; size] });
     let slots = [Call::Snapshot { slot: 1 }, Call::Restore { slot: 0x0102_0304 }, Call::Release { slot: u32::MAX }];
-    for call in keys.iter().chain(&slots) {
+    for call in keys.iter().chain(&removed).chain(&slots) {
         let mut encoded = Vec::new();
         encode(call, &mut encoded);
         let (decoded, past) = decode(&encoded).expect("an encoded call");

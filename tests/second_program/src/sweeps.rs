@@ -32,7 +32,12 @@ pub fn insert(key: &[u8], value: u32) -> Call {
     Call::Insert { key: key.to_vec(), value }
 }
 
-/// The histories of samples A to H, the long labels, the seven children, and a split of all characters.
+/// A removal of a key.
+fn remove(key: &[u8]) -> Call {
+    Call::Remove { key: key.to_vec() }
+}
+
+/// The histories of samples A to H, the long labels, the seven children, and a split of all characters; then removals.
 fn samples() -> Vec<(usize, Vec<Call>)> {
     let (one, two, three) = (insert(b"A", 0), insert(b"A", 1), insert(b"A", 2));
     let (snapshot, restore) = (Call::Snapshot { slot: 1 }, Call::Restore { slot: 1 });
@@ -47,8 +52,30 @@ fn samples() -> Vec<(usize, Vec<Call>)> {
     ];
     for length in [28, 29, 48, 49] {
         histories.push((4, vec![insert(&vec![0x41; length], 1)]));
+        histories.push((6, vec![insert(&vec![0x41; length], 1), insert(b"A", 1), remove(&vec![0x41; length])]));
     }
+    histories.extend(removals());
     histories
+}
+
+/// Histories that end in removals: samples A, G and H, no room, seven children and eight, all characters one by one.
+fn removals() -> Vec<(usize, Vec<Call>)> {
+    let (one, other, long) = (insert(b"A", 0), insert(b"B", 0), insert(b"CHA", 0));
+    let (snapshot, release) = (Call::Snapshot { slot: 1 }, Call::Release { slot: 1 });
+    let children = |characters: &[u8]| characters.iter().map(|character| insert(&[*character], 7)).collect::<Vec<_>>();
+    let all = || (0..=255).map(|character| [character]);
+    vec![
+        (4, vec![one.clone(), remove(b"A"), remove(b"A")]),
+        (4, vec![one, snapshot, other, remove(b"A"), remove(b"C"), release, remove(b"A")]),
+        (8, vec![long.clone(), insert(b"A", 1), insert(b"5", 2), remove(b"A")]),
+        (8, vec![long.clone(), insert(b"C", 5), remove(b"C")]),
+        (8, vec![long, insert(b"C", 5), remove(b"CHA")]),
+        (16, [children(b"35ABCPQ"), vec![remove(b"B")]].concat()),
+        (16, [children(b"35ABCPQR"), vec![remove(b"3")]].concat()),
+        (24, [children(b"3ABCPQRS"), vec![remove(b"3")]].concat()),
+        (2048, all().map(|key| insert(&key, 7)).chain(all().map(|key| remove(&key))).collect()),
+        (2048, all().map(|key| insert(&key, 7)).chain(all().rev().map(|key| remove(&key))).collect()),
+    ]
 }
 
 /// Judges the sparse node of one order word, and uses it where it is sound.

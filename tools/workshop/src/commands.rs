@@ -12,6 +12,7 @@ use std::path::Path;
 pub const USAGE: &str = "\
 workshop new FILE CELLS          make a fresh block in a new file
 workshop enter FILE LABEL DATE   enter a cartridge with its expiry day
+workshop remove FILE LABEL       remove a label, as of a batch that was withdrawn
 workshop list FILE               list all labels in order
 workshop find FILE LABEL         show the expiry day of a label
 workshop next FILE LABEL         show the next label in order
@@ -41,6 +42,7 @@ pub fn perform(arguments: &[OsString]) -> Result<String, Trouble> {
         ("help" | "--help" | "-h", []) => Ok(USAGE.to_string()),
         ("new", [file, cells]) => new(Path::new(file), cells),
         ("enter", [file, label, date]) => enter(Path::new(file), label, date),
+        ("remove", [file, label]) => remove(Path::new(file), label),
         ("list", [file]) => list(Path::new(file)),
         ("find", [file, label]) => find(Path::new(file), label),
         ("next", [file, label]) => next(Path::new(file), label),
@@ -77,8 +79,20 @@ fn enter(file: &Path, label: &OsStr, date: &OsStr) -> Result<String, Trouble> {
     let label = words::label(label)?;
     let date = dates::read_date(words::text(date)?)?;
     let count = block_file::alter(file, |block| proved::insert(block, &label, dates::pack(date)))?;
+    Ok(format!("entered {} {date}, {}\n", words::show_label(&label), taken(count)))
+}
+
+/// Removes a label, whatever its value.
+fn remove(file: &Path, label: &OsStr) -> Result<String, Trouble> {
+    let label = words::label(label)?;
+    let count = block_file::alter(file, |block| proved::remove(block, &label))?;
+    Ok(format!("removed {}, {}\n", words::show_label(&label), taken(count)))
+}
+
+/// How many cells a command took, in words.
+fn taken(count: u32) -> String {
     let cells = if count == 1 { "cell" } else { "cells" };
-    Ok(format!("entered {} {date}, {count} {cells} taken\n", words::show_label(&label)))
+    format!("{count} {cells} taken")
 }
 
 /// Lists all labels in order with their values, from the empty label on.

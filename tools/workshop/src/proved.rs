@@ -14,6 +14,7 @@ extern "C" {
         value: u32,
         count: *mut u32,
     ) -> u8;
+    fn exports_remove(block: *mut u8, block_size: usize, key: *const u8, key_size: usize, count: *mut u32) -> u8;
     fn exports_get(block: *const u8, block_size: usize, key: *const u8, key_size: usize, value: *mut u32) -> u8;
     fn exports_next_key(
         block: *const u8,
@@ -103,6 +104,13 @@ pub fn insert(block: &mut [u8], label: &[u8], value: u32) -> Result<u32, No> {
     let mut count = 0;
     let answer =
         unsafe { exports_insert(block.as_mut_ptr(), block.len(), label.as_ptr(), label.len(), value, &mut count) };
+    result(answer, count)
+}
+
+/// Removes a label and tells how many cells that took.
+pub fn remove(block: &mut [u8], label: &[u8]) -> Result<u32, No> {
+    let mut count = 0;
+    let answer = unsafe { exports_remove(block.as_mut_ptr(), block.len(), label.as_ptr(), label.len(), &mut count) };
     result(answer, count)
 }
 

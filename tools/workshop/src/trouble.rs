@@ -14,7 +14,7 @@ const MEANINGS: [&str; 14] = [
     "the value is over 2,147,483,647",
     "the slot is not 1, 2 or 3",
     "the slot holds no mark",
-    "there are not enough free cells for this entry",
+    "there are not enough free cells for this; dropping a mark may free some",
     "the sheet is wrong: a gate limit is outside -100 to 400, low is above high, the section is outside 0.5 to 100 \
      or the length outside 1 to 10,000",
     "the reading is outside -100 to 400 degrees",

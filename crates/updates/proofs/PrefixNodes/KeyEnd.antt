@@ -31,11 +31,11 @@ use Rattle.updates.proofs.Claims.{numbers, BuildStands, TreeChanged}
 use Rattle.updates.proofs.ChainNodes.Rooms.{unowned-consistent, allocate-numbers}
 use Rattle.updates.proofs.PrefixNodes.Prefixes.{prefix-allocated}
 
-numbers-none : (number : ℕ → ℕ) (c : ℕ) → occurrences c (numbers number []) ≡ 0
+pub numbers-none : (number : ℕ → ℕ) (c : ℕ) → occurrences c (numbers number []) ≡ 0
 unfolding numbers
 numbers-none number c = occurrences-none c
 
-leaf-word-small : (value : ℕ) → leafWord value < 4294967296
+pub leaf-word-small : (value : ℕ) → leafWord value < 4294967296
 unfolding leafWord
 leaf-word-small value = omega arith
 
@@ -57,7 +57,7 @@ plain-small layout small m w invalid Z named e = never e
 module _ (layout : Layout) (small : layout .cells ≤ cellLimit) (number : ℕ → ℕ) (m m′ : Memory) (bytes : (c : ℕ) → IsBytes (m c))
     (d w : ℕ) (cs : List ℕ) (found : tree layout m d w ≡ some cs) (agree : Agree m m′ cs) where
   -- the table of a new node with what is given and with the old children's tables
-  end-table : (given : Option ℕ) (u : ℕ) (N : Node) → read layout m′ u ≡ some N → N .value ≡ given
+  pub end-table : (given : Option ℕ) (u : ℕ) (N : Node) → read layout m′ u ≡ some N → N .value ≡ given
       → ((y : ℕ) (k : List ℕ) → y < 256 → lookup layout m′ (N .child y) k ≡ lookup layout m w (y ∷ k))
       → (k : List ℕ) → lookup layout m′ u k ≡ assign (lookup layout m w) [] given k
   end-table given u N node has children [] = lookup-nil layout m′ u N node ∙ has ∙ sym (assign-own (lookup layout m w) [] given)

@@ -21,7 +21,7 @@ use Rattle.updates.proofs.Claims.{BuildStands, Placed, Rooted, NodeLaw}
 use Rattle.updates.proofs.PrefixNodes.Aside.{aside, node-below-stands, bare-placed, node-changed}
 
 -- a root has no value, and a chain, sparse or split is one
-root-value : (layout : Layout) (m : Memory) (p : Pointer) → isRoot p ≡ true → pointerValue m p ≡ none
+pub root-value : (layout : Layout) (m : Memory) (p : Pointer) → isRoot p ≡ true → pointerValue m p ≡ none
 unfolding isRoot pointerValue
 root-value layout m nothing root = refl
 root-value layout m (leaf v) root = absurd-false root
@@ -31,7 +31,7 @@ root-value layout m (sparse c) root = refl
 root-value layout m (prefix c) root = absurd-false root
 root-value layout m invalid root = refl
 
-plain-root : (layout : Layout) (m : Memory) (p : Pointer) (Z : Node) → plain layout m p ≡ some Z → isRoot p ≡ true
+pub plain-root : (layout : Layout) (m : Memory) (p : Pointer) (Z : Node) → plain layout m p ≡ some Z → isRoot p ≡ true
 unfolding plain isRoot
 plain-root layout m nothing Z e = never e
 plain-root layout m (leaf v) Z e = never e
@@ -42,7 +42,7 @@ plain-root layout m (prefix c) Z e = never e
 plain-root layout m invalid Z e = never e
 
 -- a placed node is a root where no value is put back over it
-bare-root : (layout : Layout) (number : ℕ → ℕ) (m′ : Memory) (value : Option ℕ) → value ≡ none → (Y : Node) (x : ℕ) (b r : Built)
+pub bare-root : (layout : Layout) (number : ℕ → ℕ) (m′ : Memory) (value : Option ℕ) → value ≡ none → (Y : Node) (x : ℕ) (b r : Built)
     → BuildStands layout number m′ (putBack layout number value r) → (BuildStands layout number m′ r → Placed layout number m′ Y x b r)
     → Rooted layout (putBack layout number value r)
 unfolding putBack

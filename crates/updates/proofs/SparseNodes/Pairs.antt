@@ -89,7 +89,7 @@ cond-swap y x a w u different = go (eqb y a) (eqb y x) refl refl
 module _ (layout : Layout) (small : layout .cells ≤ cellLimit) (number : ℕ → ℕ) (m′ : Memory) where
   -- a sparse cell just allocated whose children are those of Y and the new one
   pub sparse-allocated : (Y : Node) (x : ℕ) (b : Built) (bytes : List ℕ) → validSparse bytes ≡ true
-      → ((y : ℕ) → sparseChild bytes y ≡ withChild (Y .child) x (b .word) y)
+      → ((y : ℕ) → y < 256 → sparseChild bytes y ≡ withChild (Y .child) x (b .word) y)
       → BuildStands layout number m′ (allocate number 30 bytes (b .cells)) → Placed layout number m′ Y x b (allocate number 30 bytes (b .cells))
   unfolding byKind
   sparse-allocated Y x b bytes valid child standing =
@@ -102,7 +102,7 @@ module _ (layout : Layout) (small : layout .cells ≤ cellLimit) (number : ℕ �
         reads = ap (plain layout m′) (allocate-names layout small number (b .cells) (stands .free) 30 bytes (omega arith))
             ∙ sparse-join layout m′ c (ap validSparse here ∙ valid);
         value = refl;
-        child = λ y _. ap (λ s. sparseChild s y) here ∙ child y;
+        child = λ y near. ap (λ s. sparseChild s y) here ∙ child y near;
         most = λ z. omega (arith, allocate-numbers number z 30 bytes (b .cells));
         least = λ z. omega (arith, allocate-numbers number z 30 bytes (b .cells));
         consistent = allocate-consistent layout small number (b .cells) (stands .free) 30 bytes (omega arith) (omega arith);
@@ -119,13 +119,13 @@ module _ (layout : Layout) (small : layout .cells ≤ cellLimit) (number : ℕ �
         let is : sparsePair x (b .word) a u ≡ pairCell x (b .word) a u = rw (lt-ltb x a first) in
         sparse-allocated Y x b (sparsePair x (b .word) a u)
         (ap validSparse is ∙ pair-valid x (b .word) a u first nonzero u-nonzero (consistent .small) u-small)
-        (λ y. ap (λ s. sparseChild s y) is ∙ pair-child x (b .word) a u first nonzero u-nonzero (consistent .small) u-small y
+        (λ y _. ap (λ s. sparseChild s y) is ∙ pair-child x (b .word) a u first nonzero u-nonzero (consistent .small) u-small y
         ∙ ap (cond (eqb y x) (b .word)) (sym (child y))) standing
     | no later ↦
         let is : sparsePair x (b .word) a u ≡ pairCell a u x (b .word) = rw (le-ltb x a (omega arith)) in
         let rise : a < x = omega arith in
         sparse-allocated Y x b (sparsePair x (b .word) a u)
         (ap validSparse is ∙ pair-valid a u x (b .word) rise u-nonzero nonzero u-small (consistent .small))
-        (λ y. ap (λ s. sparseChild s y) is ∙ pair-child a u x (b .word) rise u-nonzero nonzero u-small (consistent .small) y
+        (λ y _. ap (λ s. sparseChild s y) is ∙ pair-child a u x (b .word) rise u-nonzero nonzero u-small (consistent .small) y
         ∙ cond-swap y x a (b .word) u different ∙ ap (cond (eqb y x) (b .word)) (sym (child y))) standing
   ]

@@ -56,13 +56,13 @@ module _ (layout : Layout) (small : layout .cells ≤ cellLimit) (number : ℕ �
     replaced-placed inside standing =
         sparse-allocated layout small number m′ (sparseNode (m c) c) x b (replacedCell (m c) (position (m c) x) (b .word))
         (sparse-valid _ _ (replaced-sparse (m c) (whole c) cell (b .word) nonzero (consistent .small) (position (m c) x) inside))
-        (replaced-child (m c) (whole c) cell (b .word) nonzero (consistent .small) (position (m c) x) inside x refl) standing
+        (λ y _. replaced-child (m c) (whole c) cell (b .word) nonzero (consistent .small) (position (m c) x) inside x refl y) standing
 
     appended-placed : sparseCount (m c) ≤ position (m c) x → sparseCount (m c) < 6 → Sets (appended number (m c) x b)
     appended-placed lacks room standing =
         sparse-allocated layout small number m′ (sparseNode (m c) c) x b (appendedCell (m c) x (b .word))
         (sparse-valid _ _ (appended-sparse (m c) (whole c) cell (b .word) nonzero (consistent .small) x room new))
-        (appended-child (m c) (whole c) cell (b .word) nonzero (consistent .small) x room new) standing
+        (λ y _. appended-child (m c) (whole c) cell (b .word) nonzero (consistent .small) x room new y) standing
       where
         new : (r : ℕ) → r < sparseCount (m c) → sparseCharacter (m c) r ≢ x
         new r near = position-first (m c) x (sparseCount (m c)) 0 r (omega arith) (omega arith) (omega (arith, lacks))

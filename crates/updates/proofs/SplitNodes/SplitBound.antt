@@ -99,7 +99,7 @@ module _ (number : ℕ → ℕ) where
       go true h = let r = h refl in omega (arith, r)
       go false h = omega arith
 
-  branch-one : (words : ℕ → ℕ) (cells : List (List ℕ)) → length (branchRow number words cells .cells) ≤ 1 + length cells
+  pub branch-one : (words : ℕ → ℕ) (cells : List (List ℕ)) → length (branchRow number words cells .cells) ≤ 1 + length cells
   unfolding branchRow
   branch-one words cells = go (someWord words 8 0)
     where

@@ -76,7 +76,7 @@ module _ (layout : Layout) (m : Memory) where
   ]
 
   -- the words of an end in a memory that is alike on it
-  end-below : (m′ : Memory) (w k : ℕ) (a : List ℕ) → under (endCells layout m) w ≡ some a → Agree m m′ a → wordBelow m′ w k ≡ wordBelow m w k
+  pub end-below : (m′ : Memory) (w k : ℕ) (a : List ℕ) → under (endCells layout m) w ≡ some a → Agree m m′ a → wordBelow m′ w k ≡ wordBelow m w k
   end-below m′ w k a e agree = elim (ℕ-discrete w 0) [
     | yes zero-word ↦ ap (λ v. wordBelow m′ v k) zero-word ∙ below-zero m′ k ∙ sym (ap (λ v. wordBelow m v k) zero-word ∙ below-zero m k)
     | no other ↦
@@ -154,7 +154,7 @@ module _ (layout : Layout) (small : layout .cells ≤ cellLimit) (number : ℕ �
   branch-copied w p v q inside bounded =
       branch-set (branchCopy m w) p v q (branchCopy-length m w (whole (w / 32))) inside bounded ∙ ap (cond (eqb q p) v) (branchCopy-word m w q)
 
-  head-copied : (c p v q : ℕ) → p < 4 → q < 4 → v < 4294967296
+  pub head-copied : (c p v q : ℕ) → p < 4 → q < 4 → v < 4294967296
       → headWord (withWord (headCopy (m c)) (0x10 + 4 * p) v) q ≡ cond (eqb q p) v (headWord (m c) q)
   head-copied c p v q inside near bounded =
       head-set (headCopy (m c)) p v q (headCopy-cell (m c) .size) inside bounded ∙ ap (cond (eqb q p) v) (headCopy-word (m c) q near (bytes c))

@@ -25,7 +25,7 @@ use Rattle.updates.proofs.SplitNodes.SplitCells.{allocate-older, head-p
 use Rattle.updates.proofs.SplitNodes.SplitRows.{WordMade, branch-below-stands, rows-below-stands, rows-made, branch-made}
 
 -- nothing is found under words that are all NONE
-nothing-found : (found : ℕ → Option (List ℕ)) (words : ℕ → ℕ) (count : ℕ) (cells : List ℕ)
+pub nothing-found : (found : ℕ → Option (List ℕ)) (words : ℕ → ℕ) (count : ℕ) (cells : List ℕ)
     → gather (λ i. under found (words i)) count 0 ≡ some cells → ((i : ℕ) → i < count → words i ≡ 0) → cells ≡ []
 nothing-found found words count cells e blanks =
     let all : gather (λ _. some []) count 0 ≡ some cells =

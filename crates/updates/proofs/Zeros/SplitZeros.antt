@@ -28,31 +28,31 @@ use Rattle.updates.proofs.Count.{Numbering}
 use Rattle.updates.proofs.Zeros.Known.{head-clean, mid-clean, end-clean, ByWord, Either, known-else, clean-each, CleanBuilt, allocate-each}
 
 -- a word made for a mid or an end, and one of several made side by side
-abbrev Made : Use → ℕ → ℕ → ℕ → Type 0
+abbrev pub Made : Use → ℕ → ℕ → ℕ → Type 0
 Made role made to word = (to ≡ part role) × (made ≡ word)
 
 abbrev MadeIn : Use → ℕ → ℕ → (ℕ → ℕ) → ℕ → ℕ → Type 0
 MadeIn role from count words to word = (to ≡ part role) × (j : ℕ) × (from ≤ j) × (j < from + count) × (words j ≡ word)
 
 -- one of eight words leads there
-abbrev Among : Use → (ℕ → ℕ) → ℕ → ℕ → Type 0
+abbrev pub Among : Use → (ℕ → ℕ) → ℕ → ℕ → Type 0
 Among role words to word = (to ≡ partBelow role) × (j : ℕ) × (j < 8) × (words j ≡ word)
 
 -- a mid or an end: its kind, and that it is clean and holds its eight words
-record IsBranch (role : Use) : Type 0 where
+pub record IsBranch (role : Use) : Type 0 where
   kind : kindOf role ≡ 0x1C
   clean : (s : List ℕ) → Clean role s
   holds : (s : List ℕ) (word j : ℕ) → j < 8 → branchWord s j ≡ word → Holds role s word
 
-mid-branch : IsBranch midUse
+pub mid-branch : IsBranch midUse
 mid-branch = record { kind = refl; clean = mid-clean; holds = λ s word j near is. (j, near, is) }
 
-end-branch : IsBranch endUse
+pub end-branch : IsBranch endUse
 end-branch = record { kind = refl; clean = end-clean; holds = λ s word j near is. (j, near, is) }
 
 module _ (number : ℕ → ℕ) (n : Numbering number) where
   -- a mid or an end over cells: what it leads to need not be known any more
-  branch-each : (role : Use) → IsBranch role → (P Q : ℕ → ℕ → Type 0) (words : ℕ → ℕ) (cells : List (List ℕ))
+  pub branch-each : (role : Use) → IsBranch role → (P Q : ℕ → ℕ → Type 0) (words : ℕ → ℕ) (cells : List (List ℕ))
       → ((to word : ℕ) → word ≢ 0 → word < 4294967296 → P to word → Q to word ⊎ Among role words to word)
       → EachClean number P cells
       → EachClean number (Either Q (Made role (branchRow number words cells .words 0))) (branchRow number words cells .cells)

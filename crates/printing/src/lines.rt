@@ -1,4 +1,4 @@
-// What the program writes: one line for each value, its name first.
+// One line for each value, its name first.
 
 // A name and a number in hexadecimal, eight digits at least.
 pub fn word(name: &[u8], value: u32) {

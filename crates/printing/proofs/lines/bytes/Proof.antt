@@ -1,10 +1,10 @@
--- `print::bytes` writes every byte once.
+-- `lines::bytes` writes every byte once.
 use Prim.Native.Nat.{_≤_, _-_}
 use lib.ListN.{length}
 use borrow.Author.Needs.{needs}
 use native.Mathlib.Omega.{arith}
-use Rattle.samples_run.proofs.print.bytes.Statement.{statement}
-use Rattle.samples_run.proofs.print.bytes.Tie as tie
+use Rattle.printing.proofs.lines.bytes.Statement.{statement}
+use Rattle.printing.proofs.lines.bytes.Tie as tie
 
 abbrev Inv-loop : tie.InvT-loop
 Inv-loop name value i₀ t4 i = i ≤ length value

@@ -1,0 +1,2 @@
+// What the programs that run samples write.
+pub mod lines;

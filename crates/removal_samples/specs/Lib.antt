@@ -1,0 +1,4 @@
+pub mod Blocks
+pub mod Pinned
+pub mod Refusals
+pub mod Kept

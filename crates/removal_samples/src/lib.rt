@@ -1,0 +1,1 @@
+// Values of removals, under one proof. No code.

@@ -1,0 +1,14 @@
+pub mod Kept
+pub mod RisingCell
+pub mod SplitLeft
+pub mod LoseLaw
+pub mod LeftNode
+pub mod RemovalLaw
+pub mod RemovalRelated
+pub mod RemovalCount
+pub mod RemovalBytes
+pub mod RemovalNeeded
+pub mod RemovalBound
+pub mod RemovalZeros
+pub mod Proved
+pub mod Stage
