@@ -6,12 +6,13 @@ use Rattle.cells.specs.Bytes.{zeros}
 use Rattle.nodes.specs.Written.{chainBytes, sparseBytes, eightWords, headBytes}
 use Rattle.store.specs.Remove.{remove}
 use Rattle.store.specs.Computing.{callsOpen}
-use Rattle.removal_samples.specs.Blocks.{fresh, inserted, told, sampleA, sampleG, sampleH}
+use Rattle.samples.specs.Calls.{fresh, sampleA, sampleE, sampleF, sampleG, sampleH}
+use Rattle.removal_samples.specs.Blocks.{inserted, told}
 
 -- 02, 1: "none makes NONE": 41, the only key, removed from A: the whole block, cell 1 with its bytes, the root 0; and once more, 11
 pub only-key-removed :
     _≡_ {A = List (List ℕ)}
-    (told (remove sampleA (0x41 ∷ [])) [] ++ (remove sampleA (0x41 ∷ []) .block ∷ []) ++ told (remove (remove sampleA (0x41 ∷ []) .block) (0x41 ∷ [])) [])
+    (told (remove (sampleA .block) (0x41 ∷ [])) [] ++ (remove (sampleA .block) (0x41 ∷ []) .block ∷ []) ++ told (remove (remove (sampleA .block) (0x41 ∷ []) .block) (0x41 ∷ [])) [])
     ((0 ∷ 0 ∷ 0x00000000 ∷ [])
     ∷ (zeros 32 ++ chainBytes 0x00000041 0xFFFFFFFF ++ zeros 32 ++ eightWords 0x00000000 0 0 0 0x00000000 0x00000004 0x00000000 0x00000001)
     ∷ (11 ∷ 0 ∷ 0x00000000 ∷ [])
@@ -20,16 +21,16 @@ unfolding callsOpen fresh sampleA
 only-key-removed = refl
 
 -- "two to six make a sparse written in rising order": 41 removed from G, whose sparse cell has 35 behind 41 and 43
-pub rewritten-rising : _≡_ {A = List (List ℕ)} (told (remove sampleG (0x41 ∷ [])) (2 ∷ [])) ((0 ∷ 1 ∷ 0x0000005E ∷ []) ∷ sparseBytes 0xFFFFFFFD 0x0000003A 0 0x35430000 0x00000006 ∷ [])
-unfolding callsOpen fresh sampleG
+pub rewritten-rising : _≡_ {A = List (List ℕ)} (told (remove (sampleG .block) (0x41 ∷ [])) (2 ∷ [])) ((0 ∷ 1 ∷ 0x0000005E ∷ []) ∷ sparseBytes 0xFFFFFFFD 0x0000003A 0 0x35430000 0x00000006 ∷ [])
+unfolding callsOpen fresh sampleE sampleF sampleG
 rewritten-rising = refl
 
 -- "a prefix its linked node": 43 removed from H; "A value over NONE becomes a leaf": 43 48 41 removed from H
 pub prefix-removed :
     _≡_ {A = List (List ℕ)}
-    (told (remove sampleH (0x43 ∷ [])) (4 ∷ []) ++ told (remove sampleH (0x43 ∷ 0x48 ∷ 0x41 ∷ [])) (4 ∷ []))
+    (told (remove (sampleH .block) (0x43 ∷ [])) (4 ∷ []) ++ told (remove (sampleH .block) (0x43 ∷ 0x48 ∷ 0x41 ∷ [])) (4 ∷ []))
     ((0 ∷ 1 ∷ 0x0000009B ∷ []) ∷ chainBytes 0x00000043 0x0000003A ∷ (0 ∷ 1 ∷ 0x0000009B ∷ []) ∷ chainBytes 0x00000043 0xFFFFFFFA ∷ [])
-unfolding callsOpen fresh sampleH
+unfolding callsOpen fresh sampleE sampleH
 prefix-removed = refl
 
 -- seven children of a split, 42 removed: six in a sparse cell, in rising order

@@ -1,5 +1,6 @@
 // Runs removals from the bench samples of the specification and from splits on the code, and writes what they give.
 use blocks::answer::CountAnswer;
+use blocks::answer::count_number;
 use cells::word_at;
 use printing::lines;
 use snapshots::release;
@@ -8,15 +9,7 @@ use store::formatting::format;
 use store::inserting::insert;
 use store::removing::remove;
 
-// The answer number of a call that counts cells.
-fn answer_number(answer: CountAnswer) -> u32 {
-    match answer {
-        CountAnswer::Done(_) => 0,
-        CountAnswer::Refused(refusal) => blocks::answer::number(refusal) as u32,
-    }
-}
-
-// Its count, 0 where it was refused.
+// The count of a removal, 0 where it was refused.
 fn count_of(answer: CountAnswer) -> u32 {
     match answer {
         CountAnswer::Done(count) => count,
@@ -33,7 +26,7 @@ fn only_key() {
     lines::bytes(b"A without 41 block ", &block);
     lines::number(
         b"41 once more answer ",
-        answer_number(remove(&mut block, b"A")),
+        count_number(remove(&mut block, b"A")) as u32,
     );
 }
 
@@ -112,11 +105,17 @@ fn full_block() {
     insert(&mut block, b"A", 0);
     snapshot(&mut block, 1);
     insert(&mut block, b"B", 1);
-    lines::number(b"full 41 answer ", answer_number(remove(&mut block, b"A")));
-    lines::number(b"full 43 answer ", answer_number(remove(&mut block, b"C")));
+    lines::number(
+        b"full 41 answer ",
+        count_number(remove(&mut block, b"A")) as u32,
+    );
+    lines::number(
+        b"full 43 answer ",
+        count_number(remove(&mut block, b"C")) as u32,
+    );
     lines::number(
         b"full no bytes answer ",
-        answer_number(remove(&mut block, b"")),
+        count_number(remove(&mut block, b"")) as u32,
     );
     release(&mut block, 1);
     lines::number(b"released 41 count ", count_of(remove(&mut block, b"A")));

@@ -31,12 +31,11 @@ use Rattle.blocks.proofs.ValidateSteps.{layout-fits}
 use Rattle.blocks.proofs.Roots.{root-parts, sound-parts}
 use Rattle.store.specs.Free.{free}
 use Rattle.store.specs.Insert.{cellsFree}
-use Rattle.store.specs.Committed.{numbering, commitWrites}
+use Rattle.store.specs.Committed.{numbering, commitWrites, doneCall, refusedCall}
 use Rattle.store.specs.Code.Changeable.{FreeAnswer, Changeable, InStage, Inside, stagedOutcome}
 use Rattle.store.proofs.Free.{free-usable}
 use Rattle.store.proofs.CommitSteps.{writes-same}
 use Rattle.store.proofs.ChangeCall.{key-fits}
-use Rattle.store.proofs.CountedCall.{doneCall, refusedCall}
 
 -- a block that is judged and its free cells listed
 module _ (layout : Layout) (b numbers : List ℕ) (passed : Bool) (count : ℕ) (stated : layout ≡ layoutOf b) (judged : FreeAnswer layout b numbers passed count) where

@@ -1,13 +1,10 @@
 -- A call that commits a build where nothing is refused and counts its cells, whatever the build: its answer, and what is beside it.
 use mathlib.Core.Path.{_≡_, sym, ap, _∙_, subst}
 use mathlib.Core.Logic.{_≢_}
-use mathlib.Core.Bool.{cond}
 use mathlib.Core.List.{List}
 use mathlib.Core.Option.{Option}
 use Prim.Native.Nat.{ℕ}
 use native.Mathlib.Decide.{ℕ-discrete}
-use lib.Dec.{eqb}
-use lib.ListN.{length}
 use Rattle.cells.specs.Bytes.{IsBytes}
 use Rattle.trees.specs.Lookup.{assign}
 use Rattle.updates.specs.Built.{Built}
@@ -16,21 +13,9 @@ use Rattle.blocks.specs.Refusal.{Refusal, firstRefusal, Counted}
 use Rattle.blocks.specs.Read.{shown}
 use Rattle.blocks.specs.After.{After, slotShown}
 use Rattle.blocks.proofs.ReadCalls.{chosen-done, chosen-no}
-use Rattle.store.specs.Committed.{committed}
+use Rattle.store.specs.Committed.{doneCall, refusedCall, countedBy}
 use Rattle.store.specs.Laid.{Laid}
 use Rattle.store.proofs.ChangeCall.{Change, change-after, change-laid}
-
--- a call that is done, by its build
-abbrev pub doneCall : List ℕ → Built → Counted
-doneCall block x = record { answer = 0; count = length (x .cells); block = committed block x }
-
--- a call that is refused: the number, a zero and the block as it was
-abbrev pub refusedCall : ℕ → List ℕ → Counted
-refusedCall number block = record { answer = number; count = 0; block = block }
-
--- the first refusal's number, or else the build committed
-abbrev pub countedBy : List Refusal → List ℕ → Built → Counted
-countedBy refusals block x = cond (eqb (firstRefusal refusals) 0) (doneCall block x) (refusedCall (firstRefusal refusals) block)
 
 module _ (rs : List Refusal) (b : List ℕ) (x : Built) where
   pub counted-done : firstRefusal rs ≡ 0 → countedBy rs b x ≡ doneCall b x

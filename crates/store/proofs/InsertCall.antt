@@ -27,12 +27,12 @@ use Rattle.blocks.proofs.Trailer.{sized}
 use Rattle.blocks.proofs.Roots.{root-reachable}
 use Rattle.store.specs.Free.{free}
 use Rattle.store.specs.Insert.{cellsToInsert, noRoom, insertRefusals, blockBuild, insert}
-use Rattle.store.specs.Committed.{numbering}
+use Rattle.store.specs.Committed.{numbering, doneCall, refusedCall}
 use Rattle.store.specs.Laid.{Laid, Lacks, Finds, MayInsert}
 use Rattle.store.proofs.CallAnswers.{insert-answers}
 use Rattle.store.proofs.Free.{free-usable, free-once, free-reached}
 use Rattle.store.proofs.ChangeCall.{key-some, key-fits, Change}
-use Rattle.store.proofs.CountedCall.{doneCall, refusedCall, counted-done, counted-number, counted-refused, counted-refused-as, counted-after, counted-laid}
+use Rattle.store.proofs.CountedCall.{counted-done, counted-number, counted-refused, counted-refused-as, counted-after, counted-laid}
 use Rattle.blocks.specs.After.{After, slotShown}
 
 -- a value fits a leaf

@@ -11,8 +11,8 @@ use Rattle.blocks.specs.Sound.{sound}
 use Rattle.blocks.specs.Refusal.{badKey, badNewKey, badValue}
 use Rattle.store.specs.Insert.{insert}
 use Rattle.store.specs.Code.Changeable.{FreeAnswer, Changeable}
+use Rattle.store.specs.Committed.{refusedCall}
 use Rattle.store.proofs.CallAnswers.{insert-answers}
-use Rattle.store.proofs.CountedCall.{refusedCall}
 use Rattle.store.proofs.ChangeCode.{judged-sound, judged-changeable}
 use Rattle.store.proofs.InsertCall.{insert-number, insert-refused-as, insert-answer}
 

@@ -30,12 +30,12 @@ use Rattle.blocks.proofs.Roots.{root-reachable}
 use Rattle.blocks.proofs.ReadCalls.{missing-none, none-missing}
 use Rattle.store.specs.Free.{free}
 use Rattle.store.specs.Remove.{cellsToRemove, noRoomToRemove, removeRefusals, blockRemoval, remove}
-use Rattle.store.specs.Committed.{numbering}
+use Rattle.store.specs.Committed.{numbering, doneCall, refusedCall}
 use Rattle.store.specs.Laid.{Laid, Lacks, Finds, MayRemove}
 use Rattle.store.proofs.CallAnswers.{remove-answers}
 use Rattle.store.proofs.Free.{free-usable, free-once, free-reached}
 use Rattle.store.proofs.ChangeCall.{key-some, key-fits, Change}
-use Rattle.store.proofs.CountedCall.{doneCall, refusedCall, counted-done, counted-number, counted-refused, counted-refused-as, counted-after, counted-laid}
+use Rattle.store.proofs.CountedCall.{counted-done, counted-number, counted-refused, counted-refused-as, counted-after, counted-laid}
 
 -- what is not missing is there
 pub is-there : {A : Type 0} (o : Option A) → missing o ≡ false → o ≢ none

@@ -19,8 +19,8 @@ use Rattle.blocks.specs.Read.{shown}
 use Rattle.blocks.proofs.ReadCalls.{none-missing}
 use Rattle.store.specs.Remove.{remove}
 use Rattle.store.specs.Code.Changeable.{FreeAnswer, Changeable}
+use Rattle.store.specs.Committed.{refusedCall}
 use Rattle.store.proofs.CallAnswers.{remove-answers}
-use Rattle.store.proofs.CountedCall.{refusedCall}
 use Rattle.store.proofs.ChangeCode.{judged-sound, judged-changeable, changeable-fits, build-ready}
 use Rattle.store.proofs.RemoveCall.{remove-number, remove-refused-as, remove-answer}
 

@@ -1,17 +1,17 @@
 -- Insertion as a call on a block.
-use mathlib.Core.Bool.{Bool, cond}
+use mathlib.Core.Bool.{Bool}
 use mathlib.Core.List.{List, [], _∷_, _++_}
 use Prim.Native.Nat.{ℕ}
-use lib.Dec.{ltb, eqb}
+use lib.Dec.{ltb}
 use lib.ListN.{length}
 use Rattle.cells.specs.Memory.{memoryOf}
 use Rattle.updates.specs.Built.{Built}
 use Rattle.updates.specs.Build.{build, cellsNeeded}
 use Rattle.blocks.specs.Trailer.{layoutOf, rootWord}
-use Rattle.blocks.specs.Refusal.{Refusal, refusal, firstRefusal, Counted, badNewKey, badValue}
+use Rattle.blocks.specs.Refusal.{Refusal, refusal, Counted, badNewKey, badValue}
 use Rattle.blocks.specs.Read.{blockRefusals}
 use Rattle.store.specs.Free.{free}
-use Rattle.store.specs.Committed.{numbering, committed}
+use Rattle.store.specs.Committed.{numbering, countedBy}
 
 -- how many cells are free in a block, and how many an insertion into it takes
 abbrev pub cellsFree : List ℕ → ℕ
@@ -36,11 +36,6 @@ blockBuild block key value =
     let layout = layoutOf block in
     build layout (numbering block) (memoryOf block) (rootWord layout block) key value
 
--- 01: "The answer counts the cells taken."
+-- the call
 unfoldable pub insert : List ℕ → List ℕ → ℕ → Counted
-insert block key value =
-    let answer = firstRefusal (insertRefusals block key value) in
-    let b = blockBuild block key value in
-    cond (eqb answer 0)
-    (record { answer = 0; count = length (b .cells); block = committed block b })
-    (record { answer = answer; count = 0; block = block })
+insert block key value = countedBy (insertRefusals block key value) block (blockBuild block key value)

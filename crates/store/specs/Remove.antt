@@ -1,17 +1,16 @@
 -- Removal as a call on a block. 02, 1: "A maker withdraws a batch and we must strike labels out."
-use mathlib.Core.Bool.{Bool, cond}
+use mathlib.Core.Bool.{Bool}
 use mathlib.Core.List.{List, [], _∷_, _++_}
 use Prim.Native.Nat.{ℕ}
-use lib.Dec.{ltb, eqb}
-use lib.ListN.{length}
+use lib.Dec.{ltb}
 use Rattle.cells.specs.Memory.{memoryOf}
 use Rattle.updates.specs.Built.{Built}
 use Rattle.removals.specs.Removal.{removal, neededToRemove}
 use Rattle.blocks.specs.Trailer.{layoutOf, rootWord}
-use Rattle.blocks.specs.Refusal.{Refusal, refusal, firstRefusal, Counted, badKey}
+use Rattle.blocks.specs.Refusal.{Refusal, refusal, Counted, badKey}
 use Rattle.blocks.specs.Read.{missing, blockRefusals, shown}
 use Rattle.store.specs.Insert.{cellsFree}
-use Rattle.store.specs.Committed.{numbering, committed}
+use Rattle.store.specs.Committed.{numbering, countedBy}
 
 -- how many cells a removal from a block takes
 abbrev pub cellsToRemove : List ℕ → List ℕ → ℕ
@@ -32,11 +31,6 @@ blockRemoval block key =
     let layout = layoutOf block in
     removal layout (numbering block) (memoryOf block) (rootWord layout block) key
 
--- 02: "The answer counts the cells taken."
+-- the call. 02: "The answer counts the cells taken."
 unfoldable pub remove : List ℕ → List ℕ → Counted
-remove block key =
-    let answer = firstRefusal (removeRefusals block key) in
-    let b = blockRemoval block key in
-    cond (eqb answer 0)
-    (record { answer = 0; count = length (b .cells); block = committed block b })
-    (record { answer = answer; count = 0; block = block })
+remove block key = countedBy (removeRefusals block key) block (blockRemoval block key)

@@ -15,7 +15,7 @@ use Rattle.blocks.specs.Trailer.{badSize, layoutOf}
 use Rattle.blocks.specs.Sound.{soundWith, sound}
 use Rattle.blocks.specs.Refusal.{Counted}
 use Rattle.store.specs.Free.{free}
-use Rattle.store.specs.Committed.{commitWrites}
+use Rattle.store.specs.Committed.{commitWrites, refusedCall}
 use Rattle.store.specs.Code.Unstamped.{Listed}
 
 -- the first free cells of a block, as many as a build can take, stand at the start of an array
@@ -45,7 +45,7 @@ unfoldable pub stagedOutcome : Layout → List ℕ → List ℕ → BuildState �
 stagedOutcome layout block numbers made stage fits =
     cond fits
     (record { answer = 0; count = made .count; block = written block (commitWrites layout (λ i. getD numbers i 0) (builtOf made stage)) })
-    (record { answer = 7; count = 0; block = block })
+    (refusedCall 7 block)
 
 -- the cells of the first so many numbers lie inside so many bytes
 abbrev pub Inside : List ℕ → ℕ → ℕ → Type 0
