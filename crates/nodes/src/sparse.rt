@@ -6,9 +6,9 @@ ghost use Rattle.order_words.specs.Order.{rising};
 ghost use Rattle.nodes.specs.Sparse.{sparseOrder, sparseDigits, sparseCount, sparseCharacter, sparseChild, validSparse};
 use crate::words::some_is;
 use cells::word_at;
+use order_list::is_valid_order;
 use order_words::digit_at;
 use order_words::digit_count;
-use order_words::is_valid_order;
 
 // The order word of a sparse cell.
 fn sparse_order(cell: &[u8]) -> u16
