@@ -1,7 +1,7 @@
 -- The search: the entries looked at one by one, and which entries of the list can be a word at all.
 use mathlib.Core.Path.{_≡_, refl, sym, ap, _∙_}
-use mathlib.Core.Logic.{_≢_}
-use mathlib.Core.Bool.{Bool, true, false}
+use mathlib.Core.Logic.{_≢_, _⊎_, inl, inr}
+use mathlib.Core.Bool.{Bool, true, false, cond}
 use mathlib.Core.List.{List}
 use Prim.Native.Nat.{ℕ, zero, suc, _+_, _-_, _≤_, _<_}
 use native.Mathlib.Decide.{decLt, ℕ-discrete}
@@ -17,18 +17,23 @@ use Rattle.order_list.specs.Code.Search.{listedFrom}
 use Rattle.order_list.proofs.AllWords.{words-rise, words-size}
 use Rattle.order_list.proofs.Listed.{listed, entry-valid}
 
+-- either way it is found
+cond-same : (t : Bool) → cond t true true ≡ true
+cond-same true = refl
+cond-same false = refl
+
 -- one entry: it is the word, or the others decide
 module _ (list : List ℕ) (word : ℕ) where
-  pub search-stop : (count from : ℕ) → count ≡ 0 → listedFrom list word count from ≡ false
+  search-stop : (count from : ℕ) → count ≡ 0 → listedFrom list word count from ≡ false
   unfolding listedFrom
   search-stop count from none = rw none
 
-  pub search-found : (count less from : ℕ) → count ≡ less + 1 → getD list from 0 ≡ word → listedFrom list word count from ≡ true
+  search-found : (count less from : ℕ) → count ≡ less + 1 → getD list from 0 ≡ word → listedFrom list word count from ≡ true
   unfolding listedFrom
   search-found zero less from one same = absurd (omega arith)
   search-found (suc count) less from one same = rw (eq-eqb (getD list from 0) word same)
 
-  pub search-step : (count less from : ℕ) → count ≡ less + 1 → getD list from 0 ≢ word
+  search-step : (count less from : ℕ) → count ≡ less + 1 → getD list from 0 ≢ word
       → listedFrom list word count from ≡ listedFrom list word less (from + 1)
   unfolding listedFrom
   search-step zero less from one other = absurd (omega arith)
@@ -36,14 +41,27 @@ module _ (list : List ℕ) (word : ℕ) where
       let left : count ≡ less = omega arith in
       rw (ne-eqb (getD list from 0) word other, left)
 
+  -- one more entry looked at: found before or here, or left to the others
+  pub search-on : (count less from : ℕ) (found next : Bool) → count ≡ less + 1
+      → (((getD list from 0 ≡ word) × (next ≡ true)) ⊎ ((getD list from 0 ≢ word) × (next ≡ found)))
+      → cond found true (listedFrom list word count from) ≡ cond next true (listedFrom list word less (from + 1))
+  search-on count less from found next one (inl here) =
+      ap (λ t. cond found true t) (search-found count less from one (here .0)) ∙ cond-same found ∙ ap (λ t. cond t true (listedFrom list word less (from + 1))) (sym (here .1))
+  search-on count less from found next one (inr other) =
+      ap (λ t. cond found true t) (search-step count less from one (other .0)) ∙ ap (λ t. cond t true (listedFrom list word less (from + 1))) (sym (other .1))
+
+  pub search-end : (count from : ℕ) (found : Bool) → count ≡ 0 → cond found true (listedFrom list word count from) ≡ found
+  search-end count from true none = refl
+  search-end count from false none = search-stop count from none
+
   -- where no entry is the word, none is found; where one is, it is
-  pub search-none : (count from : ℕ) → ((i : ℕ) → from ≤ i → i < from + count → getD list i 0 ≢ word) → listedFrom list word count from ≡ false
+  search-none : (count from : ℕ) → ((i : ℕ) → from ≤ i → i < from + count → getD list i 0 ≢ word) → listedFrom list word count from ≡ false
   search-none zero from other = search-stop 0 from refl
   search-none (suc count) from other =
       search-step (suc count) count from (omega arith) (other from (omega arith) (omega arith))
       ∙ search-none count (from + 1) (λ i low high. other i (omega arith) (omega arith))
 
-  pub search-some : (count from i : ℕ) → from ≤ i → i < from + count → getD list i 0 ≡ word → listedFrom list word count from ≡ true
+  search-some : (count from i : ℕ) → from ≤ i → i < from + count → getD list i 0 ≡ word → listedFrom list word count from ≡ true
   search-some zero from i low high same = absurd (omega arith)
   search-some (suc count) from i low high same = elim (ℕ-discrete (getD list from 0) word) [
     | yes here ↦ search-found (suc count) count from (omega arith) here

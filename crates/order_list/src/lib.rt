@@ -8,50 +8,51 @@ pub mod words;
 
 use crate::words::order_words;
 
-// Whether a word stands in the list, from an index on and before another.
+// Whether a word stands in the list, from an index on and before another: every entry there is compared, with no early end.
 fn is_listed(list: &[u16; 436], word: u16, from: usize, to: usize) -> bool
     requires { ⌜ (from ≤ to) × (to ≤ 436) ⌝ }
     ensures { λ r. ⌜ r ≡ listedFrom (now (list .entry)) word (to - from) from ⌝ }
 {
+    let mut found = false;
     let mut i = from;
     while i < to {
         if list[i] == word {
-            return true;
+            found = true;
         }
         i += 1;
     }
-    false
+    found
 }
 
-// Whether an order word is valid: the part of the list that can hold it is searched. The parts have constant ends and at most fifty
-// words, so the compiled code compares with constants and lays no list out.
+// Whether an order word is valid: the part of the list that can hold it is searched. The ends of the parts are constants, so the
+// compiled code compares with constants, eight at a time, and lays no list out.
 pub fn is_valid_order(word: u16) -> bool
     ensures { λ r. ⌜ r ≡ validOrder word ⌝ }
 {
     let list = order_words();
-    if word < list[36] {
-        return is_listed(&list, word, 0, 36);
+    if word < list[48] {
+        return is_listed(&list, word, 0, 48);
     }
-    if word < list[86] {
-        return is_listed(&list, word, 36, 86);
+    if word < list[96] {
+        return is_listed(&list, word, 48, 96);
     }
-    if word < list[136] {
-        return is_listed(&list, word, 86, 136);
+    if word < list[144] {
+        return is_listed(&list, word, 96, 144);
     }
-    if word < list[186] {
-        return is_listed(&list, word, 136, 186);
+    if word < list[192] {
+        return is_listed(&list, word, 144, 192);
     }
-    if word < list[236] {
-        return is_listed(&list, word, 186, 236);
+    if word < list[240] {
+        return is_listed(&list, word, 192, 240);
     }
-    if word < list[286] {
-        return is_listed(&list, word, 236, 286);
+    if word < list[288] {
+        return is_listed(&list, word, 240, 288);
     }
     if word < list[336] {
-        return is_listed(&list, word, 286, 336);
+        return is_listed(&list, word, 288, 336);
     }
-    if word < list[386] {
-        return is_listed(&list, word, 336, 386);
+    if word < list[384] {
+        return is_listed(&list, word, 336, 384);
     }
-    is_listed(&list, word, 386, 436)
+    is_listed(&list, word, 384, 436)
 }
