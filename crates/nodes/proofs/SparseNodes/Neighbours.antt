@@ -32,12 +32,6 @@ rising-falls x y zs most = rw (le-ltb x y most)
 pub rest-more : (l : List ℕ) (i : ℕ) → i < length l → drop i l ≡ getD l i 0 ∷ drop (i + 1) l
 rest-more l i inside = rw (add-one i) (drop-cons l i 0 inside)
 
-pub rising-short : (l : List ℕ) → length l ≤ 1 → rising l ≡ true
-unfolding rising all
-rising-short [] short = refl
-rising-short (x ∷ []) short = refl
-rising-short (x ∷ y ∷ zs) short = absurd (omega arith)
-
 -- a rising list rises between any two of its places
 pub rising-at : (l : List ℕ) → rising l ≡ true → (i j : ℕ) → i < j → j < length l → getD l i 0 < getD l j 0
 unfolding rising
