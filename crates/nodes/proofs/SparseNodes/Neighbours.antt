@@ -31,12 +31,6 @@ rising-falls x y zs most = rw (le-ltb x y most)
 pub rest-more : (l : List ℕ) (i : ℕ) → i < length l → drop i l ≡ getD l i 0 ∷ drop (i + 1) l
 rest-more l i inside = rw (add-one i) (drop-cons l i 0 inside)
 
-pub rising-short : (l : List ℕ) → length l ≤ 1 → rising l ≡ true
-unfolding rising all
-rising-short [] short = refl
-rising-short (x ∷ []) short = refl
-rising-short (x ∷ y ∷ zs) short = absurd (omega arith)
-
 -- an element of a list mapped
 pub map-at : (f : ℕ → ℕ) (l : List ℕ) (i : ℕ) → i < length l → getD (map f l) i 0 ≡ f (getD l i 0)
 map-at f [] i inside = absurd (omega arith)
