@@ -2,6 +2,7 @@
 
 mod insertion;
 mod labels;
+mod orders;
 mod plain;
 mod proved;
 mod removal;
@@ -42,6 +43,7 @@ fn main() {
         case.against_plain();
         case.against_map();
     }
+    orders::compare_and_report();
 }
 
 impl Case {
