@@ -1,13 +1,13 @@
 -- What the list, as computed once, says of each word and of each entry.
 use mathlib.Core.Path.{_≡_, refl, sym, ap, _∙_}
 use mathlib.Core.Bool.{Bool, true, false, cond}
-use Prim.Native.Nat.{ℕ, _≤_, _<_}
+use Prim.Native.Nat.{ℕ, _<_}
 use native.Mathlib.Omega.{arith}
-use lib.ListN.{length, getD}
+use lib.ListN.{getD}
 use Rattle.cells.specs.Occurrences.{occurrences, countUp}
 use Rattle.cells.proofs.Selected.{select-passed, select-failed, count-up-within}
 use Rattle.cells.proofs.Occurrences.{occurrences-at}
-use Rattle.order_words.specs.Order.{validOrder, rising}
+use Rattle.order_words.specs.Order.{validOrder}
 use Rattle.order_words.proofs.Steps.{valid-small}
 use Rattle.order_list.specs.Words.{orderWords}
 use Rattle.order_list.proofs.AllWords.{all-words, words-size}

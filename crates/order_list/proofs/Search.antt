@@ -1,106 +1,81 @@
--- The search: the entries looked at one by one, and which entries of the list can be a word at all.
-use mathlib.Core.Path.{_≡_, refl, sym, ap, _∙_}
-use mathlib.Core.Logic.{_≢_, _⊎_, inl, inr}
-use mathlib.Core.Bool.{Bool, true, false, cond}
-use mathlib.Core.List.{List}
-use Prim.Native.Nat.{ℕ, zero, suc, _+_, _-_, _≤_, _<_}
+-- The search: the entries of a part compared one by one, and which part of the list can hold a word at all.
+use mathlib.Core.Path.{_≡_, refl, sym, ap, _∙_, subst}
+use mathlib.Core.Logic.{_≢_}
+use mathlib.Core.Bool.{Bool, true, false, not}
+use mathlib.Core.List.{List, _∷_}
+use Prim.Native.Nat.{ℕ, _+_, _-_, _≤_, _<_}
 use native.Mathlib.Decide.{decLt, ℕ-discrete}
+use native.Mathlib.Numerals.{add-one}
 use native.Mathlib.Omega.{arith}
-use lib.ListN.{length, getD}
+use lib.Dec.{eqb}
+use lib.ListN.{length, getD, take}
+use lib.Seq.{slice, slice-empty, slice-cons, length-slice, getD-take, getD-drop}
 use borrow.Author.Tests.{eq-eqb, ne-eqb}
+use Rattle.cells.specs.Occurrences.{occurrences}
 use Rattle.cells.proofs.Choice.{absurd-bool}
-use Rattle.cells.proofs.Occurrences.{occurrences-index}
+use Rattle.cells.proofs.Occurrences.{occurrences-none, occurrences-same, occurrences-cons-other, occurrences-at, occurrences-index}
 use Rattle.order_words.specs.Order.{validOrder}
 use Rattle.order_words.proofs.Rising.{rising-at}
 use Rattle.order_list.specs.Words.{orderWords}
-use Rattle.order_list.specs.Code.Search.{listedFrom}
 use Rattle.order_list.proofs.AllWords.{words-rise, words-size}
 use Rattle.order_list.proofs.Listed.{listed, entry-valid}
 
--- either way it is found
-cond-same : (t : Bool) → cond t true true ≡ true
-cond-same true = refl
-cond-same false = refl
+-- no entry so far is the word, so those left decide
+pub record Left (word from to i : ℕ) : Type 0 where
+  pub same : occurrences word (slice from to orderWords) ≡ occurrences word (slice i to orderWords)
 
--- one entry: it is the word, or the others decide
-module _ (list : List ℕ) (word : ℕ) where
-  search-stop : (count from : ℕ) → count ≡ 0 → listedFrom list word count from ≡ false
-  unfolding listedFrom
-  search-stop count from none = rw none
+pub none-passed : (word from to : ℕ) → Left word from to from
+none-passed word from to = record { same = refl }
 
-  search-found : (count less from : ℕ) → count ≡ less + 1 → getD list from 0 ≡ word → listedFrom list word count from ≡ true
-  unfolding listedFrom
-  search-found zero less from one same = absurd (omega arith)
-  search-found (suc count) less from one same = rw (eq-eqb (getD list from 0) word same)
+module _ (word from to i : ℕ) (left : Left word from to i) where
+  -- the next entry is the word, or it is not
+  module _ (more : i < to) (inside : to ≤ 436) (entry : ℕ) (is : entry ≡ getD orderWords i 0) where
+    abbrev later : List ℕ
+    later = slice (i + 1) to orderWords
 
-  search-step : (count less from : ℕ) → count ≡ less + 1 → getD list from 0 ≢ word
-      → listedFrom list word count from ≡ listedFrom list word less (from + 1)
-  unfolding listedFrom
-  search-step zero less from one other = absurd (omega arith)
-  search-step (suc count) less from one other =
-      let left : count ≡ less = omega arith in
-      rw (ne-eqb (getD list from 0) word other, left)
+    first : slice i to orderWords ≡ entry ∷ later
+    first =
+        slice-cons i to orderWords 0 more (omega (arith, words-size))
+        ∙ ap (λ k. getD orderWords i 0 ∷ slice k to orderWords) (sym (add-one i)) ∙ ap (λ x. x ∷ later) (sym is)
 
-  -- one more entry looked at: found before or here, or left to the others
-  pub search-on : (count less from : ℕ) (found next : Bool) → count ≡ less + 1
-      → (((getD list from 0 ≡ word) × (next ≡ true)) ⊎ ((getD list from 0 ≢ word) × (next ≡ found)))
-      → cond found true (listedFrom list word count from) ≡ cond next true (listedFrom list word less (from + 1))
-  search-on count less from found next one (inl here) =
-      ap (λ t. cond found true t) (search-found count less from one (here .0)) ∙ cond-same found ∙ ap (λ t. cond t true (listedFrom list word less (from + 1))) (sym (here .1))
-  search-on count less from found next one (inr other) =
-      ap (λ t. cond found true t) (search-step count less from one (other .0)) ∙ ap (λ t. cond t true (listedFrom list word less (from + 1))) (sym (other .1))
+    pub found-here : entry ≡ word → true ≡ not (eqb (occurrences word (slice from to orderWords)) 0)
+    found-here e =
+        sym
+        (ap not
+        (ne-eqb (occurrences word (slice from to orderWords)) 0
+        (omega (arith, left .same, ap (occurrences word) first, occurrences-same word entry later (sym e)))))
 
-  pub search-end : (count from : ℕ) (found : Bool) → count ≡ 0 → cond found true (listedFrom list word count from) ≡ found
-  search-end count from true none = refl
-  search-end count from false none = search-stop count from none
+    pub other-passed : entry ≢ word → Left word from to (i + 1)
+    other-passed other = record {
+      same = left .same ∙ ap (occurrences word) first ∙ occurrences-cons-other word entry later (λ e. other (sym e));
+    }
 
-  -- where no entry is the word, none is found; where one is, it is
-  search-none : (count from : ℕ) → ((i : ℕ) → from ≤ i → i < from + count → getD list i 0 ≢ word) → listedFrom list word count from ≡ false
-  search-none zero from other = search-stop 0 from refl
-  search-none (suc count) from other =
-      search-step (suc count) count from (omega arith) (other from (omega arith) (omega arith))
-      ∙ search-none count (from + 1) (λ i low high. other i (omega arith) (omega arith))
-
-  search-some : (count from i : ℕ) → from ≤ i → i < from + count → getD list i 0 ≡ word → listedFrom list word count from ≡ true
-  search-some zero from i low high same = absurd (omega arith)
-  search-some (suc count) from i low high same = elim (ℕ-discrete (getD list from 0) word) [
-    | yes here ↦ search-found (suc count) count from (omega arith) here
-    | no other ↦
-        search-step (suc count) count from (omega arith) other
-        ∙ search-some count (from + 1) i (later other) (omega arith) same
-  ]
-    where
-      later : getD list from 0 ≢ word → from + 1 ≤ i
-      later other = elim (ℕ-discrete from i) [
-        | yes e ↦ absurd (other (ap (λ k. getD list k 0) e ∙ same))
-        | no n ↦ omega arith
-      ]
+  -- none is left
+  pub none-found : i ≡ to → false ≡ not (eqb (occurrences word (slice from to orderWords)) 0)
+  none-found end =
+      let none : occurrences word (slice i to orderWords) ≡ 0 =
+      ap (λ k. occurrences word (slice k to orderWords)) end ∙ ap (occurrences word) (slice-empty to orderWords) ∙ occurrences-none word in
+      sym (ap not (eq-eqb _ 0 (left .same ∙ none)))
 
 -- the entries before an index are below a word, and those from an index on above it
-abbrev pub Above : ℕ → ℕ → Type 0
+abbrev Above : ℕ → ℕ → Type 0
 Above word from = (i : ℕ) → i < from → getD orderWords i 0 < word
 
-abbrev pub Below : ℕ → ℕ → Type 0
+abbrev Below : ℕ → ℕ → Type 0
 Below word to = (i : ℕ) → to ≤ i → i < 436 → word < getD orderWords i 0
 
-pub above-first : (word : ℕ) → Above word 0
-above-first word i before = absurd (omega arith)
-
-pub below-last : (word : ℕ) → Below word 436
-below-last word i after inside = absurd (omega arith)
-
-pub above-entry : (word from entry : ℕ) → from < 436 → entry ≡ getD orderWords from 0 → entry ≤ word → Above word from
+above-entry : (word from entry : ℕ) → from < 436 → entry ≡ getD orderWords from 0 → entry ≤ word → Above word from
 above-entry word from entry inside is most i before =
     omega (arith, rising-at orderWords words-rise i from before (omega (arith, words-size)))
 
-pub below-entry : (word to entry : ℕ) → entry ≡ getD orderWords to 0 → word < entry → Below word to
+below-entry : (word to entry : ℕ) → entry ≡ getD orderWords to 0 → word < entry → Below word to
 below-entry word to entry is less i after inside = elim (ℕ-discrete to i) [
   | yes e ↦ omega (arith, ap (λ k. getD orderWords k 0) e)
   | no n ↦ omega (arith, rising-at orderWords words-rise to i (omega arith) (omega (arith, words-size)))
 ]
 
--- so a valid word stands between two such indices, and the part of the list between them decides
-module _ (word from to : ℕ) (above : Above word from) (below : Below word to) where
+-- so a valid word stands between two such indices, and the part between them decides
+module _ (word from to : ℕ) (above : Above word from) (below : Below word to) (inside : to ≤ 436) where
   not-before : (i : ℕ) → getD orderWords i 0 ≡ word → from ≤ i
   not-before i is = elim (decLt i from) [
     | yes before ↦ absurd (omega (arith, above i before))
@@ -108,42 +83,59 @@ module _ (word from to : ℕ) (above : Above word from) (below : Below word to) 
   ]
 
   not-after : (i : ℕ) → i < length orderWords → getD orderWords i 0 ≡ word → i < to
-  not-after i inside is = elim (decLt i to) [
+  not-after i within is = elim (decLt i to) [
     | yes before ↦ before
     | no after ↦ absurd (omega (arith, below i (omega arith) (omega (arith, words-size))))
   ]
 
-  pub part-decides : to ≤ 436 → listedFrom orderWords word (to - from) from ≡ validOrder word
-  part-decides inside = go (validOrder word) refl
+  entry-of : (i : ℕ) → from + i < to → getD (slice from to orderWords) i 0 ≡ getD orderWords (from + i) 0
+  entry-of i within = getD-drop from (take to orderWords) i 0 ∙ getD-take to orderWords (from + i) 0 within
+
+  size-of : length (slice from to orderWords) ≡ to - from
+  size-of = length-slice from to orderWords (omega (arith, words-size))
+
+  stands : validOrder word ≡ true → 1 ≤ occurrences word (slice from to orderWords)
+  stands valid =
+      let at = occurrences-index word orderWords (omega (arith, listed word valid)) in
+      let low = not-before (at .0) (at .2) in
+      let high = not-after (at .0) (at .1) (at .2) in
+      let back : from + (at .0 - from) ≡ at .0 = omega arith in
+      let is = entry-of (at .0 - from) (omega arith) ∙ ap (λ k. getD orderWords k 0) back ∙ at .2 in
+      subst (λ w. 1 ≤ occurrences w (slice from to orderWords)) is (occurrences-at (slice from to orderWords) (at .0 - from) 0 (omega (arith, size-of)))
+
+  missing : validOrder word ≡ false → occurrences word (slice from to orderWords) ≡ 0
+  missing other = elim (decLt 0 (occurrences word (slice from to orderWords))) [
+    | yes some ↦
+        let at = occurrences-index word (slice from to orderWords) some in
+        let within : from + at .0 < to = omega (arith, size-of, at .1) in
+        absurd-bool (sym (entry-valid (from + at .0) (omega arith)) ∙ ap validOrder (sym (entry-of (at .0) within) ∙ at .2) ∙ other)
+    | no none ↦ omega arith
+  ]
+
+  part-decides : not (eqb (occurrences word (slice from to orderWords)) 0) ≡ validOrder word
+  part-decides = go (validOrder word) refl
     where
-      go : (t : Bool) → validOrder word ≡ t → listedFrom orderWords word (to - from) from ≡ validOrder word
-      go true valid =
-          let at = occurrences-index word orderWords (omega (arith, listed word valid)) in
-          let low = not-before (at .0) (at .2) in
-          let high = not-after (at .0) (at .1) (at .2) in
-          search-some orderWords word (to - from) from (at .0) low (omega arith) (at .2) ∙ sym valid
-      go false other =
-          search-none orderWords word (to - from) from
-          (λ i low high same. absurd-bool (sym (entry-valid i (omega arith)) ∙ ap validOrder same ∙ other)) ∙ sym other
+      go : (t : Bool) → validOrder word ≡ t → not (eqb (occurrences word (slice from to orderWords)) 0) ≡ validOrder word
+      go true valid = ap not (ne-eqb (occurrences word (slice from to orderWords)) 0 (omega (arith, stands valid))) ∙ sym valid
+      go false other = ap not (eq-eqb _ 0 (missing other)) ∙ sym other
 
 -- the first part, one with entries on both sides, and the last, as they are searched
 module _ (list : List ℕ) (is : list ≡ orderWords) (word : ℕ) where
   same-entry : (i : ℕ) → getD list i 0 ≡ getD orderWords i 0
   same-entry i = ap (λ l. getD l i 0) is
 
-  searched : (from to : ℕ) → Above word from → Below word to → to ≤ 436 → (r : Bool) → r ≡ listedFrom list word (to - from) from → r ≡ validOrder word
-  searched from to above below inside r e = e ∙ ap (λ l. listedFrom l word (to - from) from) is ∙ part-decides word from to above below inside
-
-  pub first-part : (to : ℕ) → to ≤ 436 → word < getD list to 0 → (r : Bool) → r ≡ listedFrom list word (to - 0) 0 → r ≡ validOrder word
-  first-part to inside less r e = searched 0 to (above-first word) (below-entry word to (getD list to 0) (same-entry to) less) inside r e
+  pub first-part : (to : ℕ) → to ≤ 436 → word < getD list to 0
+      → (r : Bool) → r ≡ not (eqb (occurrences word (slice 0 to orderWords)) 0) → r ≡ validOrder word
+  first-part to inside less r e =
+      e ∙ part-decides word 0 to (λ i before. absurd (omega arith)) (below-entry word to (getD list to 0) (same-entry to) less) inside
 
   pub middle-part : (from to : ℕ) → from < 436 → to ≤ 436 → getD list from 0 ≤ word → word < getD list to 0
-      → (r : Bool) → r ≡ listedFrom list word (to - from) from → r ≡ validOrder word
+      → (r : Bool) → r ≡ not (eqb (occurrences word (slice from to orderWords)) 0) → r ≡ validOrder word
   middle-part from to start inside most less r e =
-      searched from to (above-entry word from (getD list from 0) start (same-entry from) most)
-      (below-entry word to (getD list to 0) (same-entry to) less) inside r e
+      e ∙ part-decides word from to (above-entry word from (getD list from 0) start (same-entry from) most)
+      (below-entry word to (getD list to 0) (same-entry to) less) inside
 
   pub last-part : (from : ℕ) → from < 436 → getD list from 0 ≤ word
-      → (r : Bool) → r ≡ listedFrom list word (436 - from) from → r ≡ validOrder word
+      → (r : Bool) → r ≡ not (eqb (occurrences word (slice from 436 orderWords)) 0) → r ≡ validOrder word
   last-part from start most r e =
-      searched from 436 (above-entry word from (getD list from 0) start (same-entry from) most) (below-last word) (omega arith) r e
+      e ∙ part-decides word from 436 (above-entry word from (getD list from 0) start (same-entry from) most) (λ i after within. absurd (omega arith)) (omega arith)

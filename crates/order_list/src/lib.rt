@@ -1,58 +1,67 @@
 // The check of an order word: a search in the list of all that are valid.
 ghost use mathlib.Core.Path.{_≡_};
-ghost use Prim.Native.Nat.{_-_, _≤_};
+ghost use mathlib.Core.Bool.{not};
+ghost use Prim.Native.Nat.{_≤_};
+ghost use lib.Dec.{eqb};
+ghost use lib.Seq.{slice};
+ghost use Rattle.cells.specs.Occurrences.{occurrences};
 ghost use Rattle.order_words.specs.Order.{validOrder};
-ghost use Rattle.order_list.specs.Code.Search.{listedFrom};
+ghost use Rattle.order_list.specs.Words.{orderWords};
 
 pub mod words;
 
 use crate::words::order_words;
 
-// Whether a word stands in the list, from an index on and before another: every entry there is compared, with no early end.
+// Whether a word stands in the list, from an index on and before another.
 fn is_listed(list: &[u16; 436], word: u16, from: usize, to: usize) -> bool
-    requires { ⌜ (from ≤ to) × (to ≤ 436) ⌝ }
-    ensures { λ r. ⌜ r ≡ listedFrom (now (list .entry)) word (to - from) from ⌝ }
+    requires { ⌜ (now list ≡ orderWords) × (from ≤ to) × (to ≤ 436) ⌝ }
+    ensures { λ r. ⌜ r ≡ not (eqb (occurrences word (slice from to orderWords)) 0) ⌝ }
 {
-    let mut found = false;
     let mut i = from;
     while i < to {
         if list[i] == word {
-            found = true;
+            return true;
         }
         i += 1;
     }
-    found
+    false
 }
 
-// Whether an order word is valid: the part of the list that can hold it is searched. The ends of the parts are constants, so the
-// compiled code compares with constants, eight at a time, and lays no list out.
+// Whether an order word is valid: the part of the list that can hold it is searched. The ends of the parts are constants and no part has
+// more than forty words, so the compiled code compares with constants and lays no list out.
 pub fn is_valid_order(word: u16) -> bool
     ensures { λ r. ⌜ r ≡ validOrder word ⌝ }
 {
     let list = order_words();
-    if word < list[48] {
-        return is_listed(&list, word, 0, 48);
+    if word < list[40] {
+        return is_listed(&list, word, 0, 40);
     }
-    if word < list[96] {
-        return is_listed(&list, word, 48, 96);
+    if word < list[80] {
+        return is_listed(&list, word, 40, 80);
     }
-    if word < list[144] {
-        return is_listed(&list, word, 96, 144);
+    if word < list[120] {
+        return is_listed(&list, word, 80, 120);
     }
-    if word < list[192] {
-        return is_listed(&list, word, 144, 192);
+    if word < list[160] {
+        return is_listed(&list, word, 120, 160);
+    }
+    if word < list[200] {
+        return is_listed(&list, word, 160, 200);
     }
     if word < list[240] {
-        return is_listed(&list, word, 192, 240);
+        return is_listed(&list, word, 200, 240);
     }
-    if word < list[288] {
-        return is_listed(&list, word, 240, 288);
+    if word < list[280] {
+        return is_listed(&list, word, 240, 280);
     }
-    if word < list[336] {
-        return is_listed(&list, word, 288, 336);
+    if word < list[320] {
+        return is_listed(&list, word, 280, 320);
     }
-    if word < list[384] {
-        return is_listed(&list, word, 336, 384);
+    if word < list[360] {
+        return is_listed(&list, word, 320, 360);
     }
-    is_listed(&list, word, 384, 436)
+    if word < list[400] {
+        return is_listed(&list, word, 360, 400);
+    }
+    is_listed(&list, word, 400, 436)
 }
