@@ -7,9 +7,8 @@ use Prim.Native.Nat.{ℕ, _+_, _-_, _≤_, _<_}
 use native.Mathlib.Decide.{decLt, ℕ-discrete}
 use native.Mathlib.Numerals.{add-one}
 use native.Mathlib.Omega.{arith}
-use lib.Dec.{eqb}
 use lib.ListN.{length, getD, take}
-use lib.Seq.{slice, slice-empty, slice-cons, length-slice, getD-take, getD-drop}
+use lib.Seq.{slice-empty, slice-cons, length-slice, getD-take, getD-drop}
 use borrow.Author.Tests.{eq-eqb, ne-eqb}
 use Rattle.cells.specs.Occurrences.{occurrences}
 use Rattle.cells.proofs.Choice.{absurd-bool}
@@ -17,12 +16,13 @@ use Rattle.cells.proofs.Occurrences.{occurrences-none, occurrences-same, occurr
 use Rattle.order_words.specs.Order.{validOrder}
 use Rattle.order_words.proofs.Rising.{rising-at}
 use Rattle.order_list.specs.Words.{orderWords}
+use Rattle.order_list.specs.Code.Part.{part, inPart}
 use Rattle.order_list.proofs.AllWords.{words-rise, words-size}
 use Rattle.order_list.proofs.Listed.{listed, entry-valid}
 
 -- no entry so far is the word, so those left decide
 pub record Left (word from to i : ℕ) : Type 0 where
-  pub same : occurrences word (slice from to orderWords) ≡ occurrences word (slice i to orderWords)
+  pub same : occurrences word (part from to) ≡ occurrences word (part i to)
 
 pub none-passed : (word from to : ℕ) → Left word from to from
 none-passed word from to = record { same = refl }
@@ -31,18 +31,18 @@ module _ (word from to i : ℕ) (left : Left word from to i) where
   -- the next entry is the word, or it is not
   module _ (more : i < to) (inside : to ≤ 436) (entry : ℕ) (is : entry ≡ getD orderWords i 0) where
     abbrev later : List ℕ
-    later = slice (i + 1) to orderWords
+    later = part (i + 1) to
 
-    first : slice i to orderWords ≡ entry ∷ later
+    first : part i to ≡ entry ∷ later
     first =
         slice-cons i to orderWords 0 more (omega (arith, words-size))
-        ∙ ap (λ k. getD orderWords i 0 ∷ slice k to orderWords) (sym (add-one i)) ∙ ap (λ x. x ∷ later) (sym is)
+        ∙ ap (λ k. getD orderWords i 0 ∷ part k to) (sym (add-one i)) ∙ ap (λ x. x ∷ later) (sym is)
 
-    pub found-here : entry ≡ word → true ≡ not (eqb (occurrences word (slice from to orderWords)) 0)
+    pub found-here : entry ≡ word → true ≡ inPart word from to
     found-here e =
         sym
         (ap not
-        (ne-eqb (occurrences word (slice from to orderWords)) 0
+        (ne-eqb (occurrences word (part from to)) 0
         (omega (arith, left .same, ap (occurrences word) first, occurrences-same word entry later (sym e)))))
 
     pub other-passed : entry ≢ word → Left word from to (i + 1)
@@ -51,10 +51,10 @@ module _ (word from to i : ℕ) (left : Left word from to i) where
     }
 
   -- none is left
-  pub none-found : i ≡ to → false ≡ not (eqb (occurrences word (slice from to orderWords)) 0)
+  pub none-found : i ≡ to → false ≡ inPart word from to
   none-found end =
-      let none : occurrences word (slice i to orderWords) ≡ 0 =
-      ap (λ k. occurrences word (slice k to orderWords)) end ∙ ap (occurrences word) (slice-empty to orderWords) ∙ occurrences-none word in
+      let none : occurrences word (part i to) ≡ 0 =
+      ap (λ k. occurrences word (part k to)) end ∙ ap (occurrences word) (slice-empty to orderWords) ∙ occurrences-none word in
       sym (ap not (eq-eqb _ 0 (left .same ∙ none)))
 
 -- the entries before an index are below a word, and those from an index on above it
@@ -88,35 +88,35 @@ module _ (word from to : ℕ) (above : Above word from) (below : Below word to) 
     | no after ↦ absurd (omega (arith, below i (omega arith) (omega (arith, words-size))))
   ]
 
-  entry-of : (i : ℕ) → from + i < to → getD (slice from to orderWords) i 0 ≡ getD orderWords (from + i) 0
+  entry-of : (i : ℕ) → from + i < to → getD (part from to) i 0 ≡ getD orderWords (from + i) 0
   entry-of i within = getD-drop from (take to orderWords) i 0 ∙ getD-take to orderWords (from + i) 0 within
 
-  size-of : length (slice from to orderWords) ≡ to - from
+  size-of : length (part from to) ≡ to - from
   size-of = length-slice from to orderWords (omega (arith, words-size))
 
-  stands : validOrder word ≡ true → 1 ≤ occurrences word (slice from to orderWords)
+  stands : validOrder word ≡ true → 1 ≤ occurrences word (part from to)
   stands valid =
       let at = occurrences-index word orderWords (omega (arith, listed word valid)) in
       let low = not-before (at .0) (at .2) in
       let high = not-after (at .0) (at .1) (at .2) in
       let back : from + (at .0 - from) ≡ at .0 = omega arith in
       let is = entry-of (at .0 - from) (omega arith) ∙ ap (λ k. getD orderWords k 0) back ∙ at .2 in
-      subst (λ w. 1 ≤ occurrences w (slice from to orderWords)) is (occurrences-at (slice from to orderWords) (at .0 - from) 0 (omega (arith, size-of)))
+      subst (λ w. 1 ≤ occurrences w (part from to)) is (occurrences-at (part from to) (at .0 - from) 0 (omega (arith, size-of)))
 
-  missing : validOrder word ≡ false → occurrences word (slice from to orderWords) ≡ 0
-  missing other = elim (decLt 0 (occurrences word (slice from to orderWords))) [
+  missing : validOrder word ≡ false → occurrences word (part from to) ≡ 0
+  missing other = elim (decLt 0 (occurrences word (part from to))) [
     | yes some ↦
-        let at = occurrences-index word (slice from to orderWords) some in
+        let at = occurrences-index word (part from to) some in
         let within : from + at .0 < to = omega (arith, size-of, at .1) in
         absurd-bool (sym (entry-valid (from + at .0) (omega arith)) ∙ ap validOrder (sym (entry-of (at .0) within) ∙ at .2) ∙ other)
     | no none ↦ omega arith
   ]
 
-  part-decides : not (eqb (occurrences word (slice from to orderWords)) 0) ≡ validOrder word
+  part-decides : inPart word from to ≡ validOrder word
   part-decides = go (validOrder word) refl
     where
-      go : (t : Bool) → validOrder word ≡ t → not (eqb (occurrences word (slice from to orderWords)) 0) ≡ validOrder word
-      go true valid = ap not (ne-eqb (occurrences word (slice from to orderWords)) 0 (omega (arith, stands valid))) ∙ sym valid
+      go : (t : Bool) → validOrder word ≡ t → inPart word from to ≡ validOrder word
+      go true valid = ap not (ne-eqb (occurrences word (part from to)) 0 (omega (arith, stands valid))) ∙ sym valid
       go false other = ap not (eq-eqb _ 0 (missing other)) ∙ sym other
 
 -- the first part, one with entries on both sides, and the last, as they are searched
@@ -125,17 +125,17 @@ module _ (list : List ℕ) (is : list ≡ orderWords) (word : ℕ) where
   same-entry i = ap (λ l. getD l i 0) is
 
   pub first-part : (to : ℕ) → to ≤ 436 → word < getD list to 0
-      → (r : Bool) → r ≡ not (eqb (occurrences word (slice 0 to orderWords)) 0) → r ≡ validOrder word
+      → (r : Bool) → r ≡ inPart word 0 to → r ≡ validOrder word
   first-part to inside less r e =
       e ∙ part-decides word 0 to (λ i before. absurd (omega arith)) (below-entry word to (getD list to 0) (same-entry to) less) inside
 
   pub middle-part : (from to : ℕ) → from < 436 → to ≤ 436 → getD list from 0 ≤ word → word < getD list to 0
-      → (r : Bool) → r ≡ not (eqb (occurrences word (slice from to orderWords)) 0) → r ≡ validOrder word
+      → (r : Bool) → r ≡ inPart word from to → r ≡ validOrder word
   middle-part from to start inside most less r e =
       e ∙ part-decides word from to (above-entry word from (getD list from 0) start (same-entry from) most)
       (below-entry word to (getD list to 0) (same-entry to) less) inside
 
   pub last-part : (from : ℕ) → from < 436 → getD list from 0 ≤ word
-      → (r : Bool) → r ≡ not (eqb (occurrences word (slice from 436 orderWords)) 0) → r ≡ validOrder word
+      → (r : Bool) → r ≡ inPart word from 436 → r ≡ validOrder word
   last-part from start most r e =
       e ∙ part-decides word from 436 (above-entry word from (getD list from 0) start (same-entry from) most) (λ i after within. absurd (omega arith)) (omega arith)

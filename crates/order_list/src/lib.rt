@@ -1,12 +1,9 @@
 // The check of an order word: a search in the list of all that are valid.
 ghost use mathlib.Core.Path.{_≡_};
-ghost use mathlib.Core.Bool.{not};
 ghost use Prim.Native.Nat.{_≤_};
-ghost use lib.Dec.{eqb};
-ghost use lib.Seq.{slice};
-ghost use Rattle.cells.specs.Occurrences.{occurrences};
 ghost use Rattle.order_words.specs.Order.{validOrder};
 ghost use Rattle.order_list.specs.Words.{orderWords};
+ghost use Rattle.order_list.specs.Code.Part.{inPart};
 
 pub mod words;
 
@@ -15,7 +12,7 @@ use crate::words::order_words;
 // Whether a word stands in the list, from an index on and before another.
 fn is_listed(list: &[u16; 436], word: u16, from: usize, to: usize) -> bool
     requires { ⌜ (now list ≡ orderWords) × (from ≤ to) × (to ≤ 436) ⌝ }
-    ensures { λ r. ⌜ r ≡ not (eqb (occurrences word (slice from to orderWords)) 0) ⌝ }
+    ensures { λ r. ⌜ r ≡ inPart word from to ⌝ }
 {
     let mut i = from;
     while i < to {
