@@ -152,6 +152,7 @@ impl Case {
         self.report("insert", "plain", fills * self.entered.len(), &ours, &theirs);
         let (ours, theirs) = (|| self.emptied(fills, proved::remove), || self.emptied(fills, plain::remove));
         self.report("remove", "plain", fills * self.removed.len(), &ours, &theirs);
+        orders::report_block(&format!("| {} | {}", full.len() / CELL, self.map.len()), full);
     }
 
     /// Measures look-up and insertion against the standard library's map, which has no block and judges nothing.
