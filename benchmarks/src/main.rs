@@ -2,6 +2,7 @@
 
 mod insertion;
 mod labels;
+mod orders;
 mod plain;
 mod proved;
 mod removal;
@@ -42,6 +43,7 @@ fn main() {
         case.against_plain();
         case.against_map();
     }
+    orders::compare_and_report();
 }
 
 impl Case {
@@ -150,6 +152,7 @@ impl Case {
         self.report("insert", "plain", fills * self.entered.len(), &ours, &theirs);
         let (ours, theirs) = (|| self.emptied(fills, proved::remove), || self.emptied(fills, plain::remove));
         self.report("remove", "plain", fills * self.removed.len(), &ours, &theirs);
+        orders::report_block(&format!("| {} | {}", full.len() / CELL, self.map.len()), full);
     }
 
     /// Measures look-up and insertion against the standard library's map, which has no block and judges nothing.

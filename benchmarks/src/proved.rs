@@ -22,6 +22,13 @@ extern "C" {
         size: *mut u32,
         key_out: *mut u8,
     ) -> u8;
+    fn exports_is_valid_order(word: u16) -> u8;
+}
+
+/// Whether an order word is valid.
+pub fn is_valid_order(word: u16) -> bool {
+    // It takes and gives numbers only.
+    unsafe { exports_is_valid_order(word) == 1 }
 }
 
 /// Whether the block is sound, as an answer number.

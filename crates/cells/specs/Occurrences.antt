@@ -2,7 +2,7 @@
 use mathlib.Core.Path.{_≡_, refl}
 use mathlib.Core.Bool.{Bool, true, false, _&&_, cond}
 use mathlib.Core.List.{List, [], _∷_, map}
-use Prim.Native.Nat.{ℕ, _+_}
+use Prim.Native.Nat.{ℕ, zero, suc, _+_}
 use lib.Dec.{leb, ltb, eqb}
 
 -- how often a number stands in a list
@@ -23,6 +23,11 @@ distinct cells = all (λ c. leb (occurrences c cells) 1) cells
 unfoldable pub select : {A : Type 0} → (A → Bool) → List A → List A
 select test [] = []
 select test (x ∷ xs) = let rest = select test xs in cond (test x) (x ∷ rest) rest
+
+-- so many numbers from one on
+unfoldable pub countUp : ℕ → ℕ → List ℕ
+countUp zero from = []
+countUp (suc count) from = from ∷ countUp count (from + 1)
 
 -- how often each of some numbers stands in a list, for the computed examples
 abbrev pub tallied : List ℕ → List ℕ → List ℕ
@@ -53,3 +58,8 @@ pub all-below :
     (true ∷ true ∷ false ∷ false ∷ [])
 unfolding all
 all-below = refl
+
+-- four numbers from 3 on, and none
+pub counted-up : _≡_ {A = List (List ℕ)} (countUp 4 3 ∷ countUp 0 3 ∷ []) ((3 ∷ 4 ∷ 5 ∷ 6 ∷ []) ∷ [] ∷ [])
+unfolding countUp
+counted-up = refl

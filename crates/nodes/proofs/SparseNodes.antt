@@ -2,5 +2,5 @@
 pub mod SparseChildren
 pub mod SparseLeast
 pub mod SparseSteps
-pub mod RisingWalk
+pub mod RisingPointers
 pub mod Neighbours

@@ -2,6 +2,7 @@
 pub mod Coded
 pub mod Least
 pub mod LeastChild
+pub mod RisingPointers
 pub mod Step
 pub mod Words
 pub mod Covered

@@ -1,14 +1,14 @@
 // Sparse cells: two to six children.
 ghost use mathlib.Core.Path.{_≡_};
-ghost use mathlib.Core.List.{map};
+ghost use mathlib.Core.Bool.{not};
+ghost use Prim.Native.Nat.{_-_, _≤_};
 ghost use lib.ListN.{length, getD};
-ghost use Rattle.order_words.specs.Order.{rising};
-ghost use Rattle.nodes.specs.Sparse.{sparseOrder, sparseDigits, sparseCount, sparseCharacter, sparseChild, validSparse};
-use crate::words::some_is;
+ghost use Rattle.nodes.specs.Sparse.{someWord, sparseWord, sparseOrder, sparseDigits, sparseCount, sparseChild, validSparse};
+ghost use Rattle.nodes.specs.Code.RisingPointers.{risingPointers};
 use cells::word_at;
+use order_list::is_valid_order;
 use order_words::digit_at;
 use order_words::digit_count;
-use order_words::is_valid_order;
 
 // The order word of a sparse cell.
 fn sparse_order(cell: &[u8]) -> u16
@@ -34,21 +34,42 @@ pub fn sparse_position(cell: &[u8], i: usize) -> usize
     digit_at(sparse_order(cell), i)
 }
 
-// Whether the characters rise strictly in the order given: each is below the next. One pass takes the positions from the order word.
-fn is_rising(cell: &[u8], count: usize) -> bool
+// Whether the words past the children are NONE: one pass of fixed length, as there are two children at least.
+fn rest_is_none(cell: &[u8], count: usize) -> bool
+    requires { ⌜ (length (now cell) ≡ 32) × (2 ≤ count) ⌝ }
+    ensures { λ r. ⌜ r ≡ not (someWord (sparseWord (now (cell .entry))) (6 - count) count) ⌝ }
+{
+    let mut i: usize = 2;
+    while i < 6 {
+        if count <= i {
+            if word_at(cell, 4 * i) != 0 {
+                return false;
+            }
+        }
+        i += 1;
+    }
+    true
+}
+
+// Whether the characters rise strictly in the order given, each with a pointer: one pass takes the positions from the order word.
+fn are_rising(cell: &[u8], count: usize) -> bool
     requires { ⌜ (length (now cell) ≡ 32) × (count ≡ sparseCount (now cell)) ⌝ }
-    ensures { λ r. ⌜ r ≡ rising (map (sparseCharacter (now (cell .entry))) (sparseDigits (now (cell .entry)))) ⌝ }
+    ensures { λ r. ⌜ r ≡ risingPointers (now (cell .entry)) 0 (sparseDigits (now (cell .entry))) ⌝ }
 {
     let mut rest = sparse_order(cell) as usize;
-    let mut last = cell[24 + rest % 6];
-    let mut i: usize = 1;
+    let mut bound: usize = 0;
+    let mut i: usize = 0;
     while i < count {
-        rest = rest / 6;
-        let next = cell[24 + rest % 6];
-        if next <= last {
+        let position = rest % 6;
+        let character = cell[24 + position] as usize;
+        if character < bound {
             return false;
         }
-        last = next;
+        if word_at(cell, 4 * position) == 0 {
+            return false;
+        }
+        bound = character + 1;
+        rest = rest / 6;
         i += 1;
     }
     true
@@ -63,13 +84,10 @@ pub fn is_valid_sparse(cell: &[u8]) -> bool
         return false;
     }
     let count = sparse_count(cell);
-    if some_is(cell, 0, count, 0, false) {
+    if !rest_is_none(cell, count) {
         return false;
     }
-    if some_is(cell, 0, 6 - count, count, true) {
-        return false;
-    }
-    is_rising(cell, count)
+    are_rising(cell, count)
 }
 
 // The child word of a character, NONE where the cell has none.

@@ -2,19 +2,18 @@
 ghost use mathlib.Core.Path.{_≡_};
 ghost use Prim.Native.Nat.{_+_, _*_, _≤_};
 ghost use lib.ListN.{length};
-ghost use Rattle.nodes.specs.Code.Words.{wordsFrom, someIs};
+ghost use Rattle.nodes.specs.Sparse.{someWord};
+ghost use Rattle.nodes.specs.Code.Words.{wordsFrom};
 use cells::word_at;
 
-// Whether some word is a pointer, or some is NONE, as asked, of so many from an index on, in the row that starts at a byte position.
-pub fn some_is(cell: &[u8], start: usize, count: usize, from: usize, pointer: bool) -> bool
-    requires { ⌜ start + 4 * (from + count) ≤ length (now cell) ⌝ }
-    ensures { λ r. ⌜ r ≡ someIs pointer (wordsFrom (now (cell .entry)) start) count from ⌝ }
+// Whether some word is a pointer, of so many in the row that starts at a byte position.
+pub fn some_word(cell: &[u8], start: usize, count: usize) -> bool
+    requires { ⌜ start + 4 * count ≤ length (now cell) ⌝ }
+    ensures { λ r. ⌜ r ≡ someWord (wordsFrom (now (cell .entry)) start) count 0 ⌝ }
 {
-    let end = from + count;
-    let mut i = from;
-    while i < end {
-        let word = word_at(cell, start + 4 * i);
-        if (word != 0) == pointer {
+    let mut i: usize = 0;
+    while i < count {
+        if word_at(cell, start + 4 * i) != 0 {
             return true;
         }
         i += 1;

@@ -4,6 +4,4 @@ pub mod Valid
 pub mod Coding
 pub mod Rising
 pub mod Steps
-pub mod Tally
-pub mod Walked
 pub mod Proved

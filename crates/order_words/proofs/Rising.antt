@@ -1,16 +1,17 @@
--- The characters of the digits rise still when the next digit is put in.
+-- Rising lists: the characters of the digits rise still when the next digit is put in, and a rising list rises between any two places.
 use mathlib.Core.Path.{_≡_, refl, sym, ap, _∙_}
 use mathlib.Core.Logic.{_≢_}
 use mathlib.Core.Bool.{Bool, true, cond}
 use mathlib.Core.List.{List, [], _∷_, map}
 use native.Mathlib.Omega.{arith}
 use native.Mathlib.Decide.{decLt}
-use Prim.Native.Nat.{ℕ, _≤_}
+use Prim.Native.Nat.{ℕ, zero, suc, _≤_, _<_}
 use lib.Dec.{eqb, ltb}
+use lib.ListN.{length, getD}
 use borrow.Author.Tests.{lt-ltb, ne-eqb, ltb-true}
 use Rattle.cells.specs.Occurrences.{occurrences, all}
 use Rattle.cells.proofs.Choice.{both, both-left, both-right, all-weaker}
-use Rattle.cells.proofs.Occurrences.{occurrences-none, occurrences-cons, occurrences-here, occurrences-later}
+use Rattle.cells.proofs.Occurrences.{occurrences-none, occurrences-cons, occurrences-here, occurrences-later, occurrences-at, all-at}
 use Rattle.order_words.specs.Order.{rising}
 use Rattle.order_words.specs.Extended.{withDigit}
 use Rattle.order_words.proofs.Inserted.{goes-below, goes-above, goes-alone}
@@ -91,3 +92,13 @@ module _ (character character′ : ℕ → ℕ) (x k : ℕ) (new : character′ 
         → rising (map character′ (withDigit character x k ds)) ≡ true
     extended-rising r other =
         ap rising (map-withDigit ds same) ∙ rising-withNumber x (map character ds) (absent-map character x ds other) r
+
+-- a rising list rises between any two of its places
+pub rising-at : (l : List ℕ) → rising l ≡ true → (i j : ℕ) → i < j → j < length l → getD l i 0 < getD l j 0
+unfolding rising
+rising-at [] e i j order inside = absurd (omega arith)
+rising-at (x ∷ xs) e i zero order inside = absurd (omega arith)
+rising-at (x ∷ xs) e zero (suc j) order inside =
+    ltb-true x (getD xs j 0) (all-at (ltb x) xs (both-left (all (ltb x) xs) (rising xs) e) (getD xs j 0) (occurrences-at xs j 0 (omega arith)))
+rising-at (x ∷ xs) e (suc i) (suc j) order inside =
+    rising-at xs (both-right (all (ltb x) xs) (rising xs) e) i j (omega arith) (omega arith)

@@ -1,14 +1,17 @@
 -- The digits of a number walked from the lowest: what each step and each stop says of the whole.
 use mathlib.Core.Path.{_≡_, refl, sym, ap, _∙_}
 use mathlib.Core.Logic.{_≢_}
-use mathlib.Core.List.{List, [], _∷_}
+use mathlib.Core.Bool.{true}
+use mathlib.Core.List.{[], _∷_}
 use native.Mathlib.Omega.{arith}
-use native.Mathlib.Decide.{ℕ-discrete}
+use native.Mathlib.Decide.{decLt, ℕ-discrete}
 use native.Mathlib.Nat.{sub-zero}
 use native.Mathlib.Numerals.{add-one}
 use Prim.Native.Nat.{ℕ, zero, suc, _+_, _-_, _/_, _%_, _≤_, _<_}
 use lib.ListN.{length, getD, List·getD-eq-default}
-use Rattle.order_words.specs.Digits.{digits}
+use Rattle.order_words.specs.Digits.{digits, orderDigits}
+use Rattle.order_words.specs.Order.{validOrder}
+use Rattle.order_words.proofs.Valid.{at-most-six}
 use Rattle.order_words.proofs.Coding.{digits-zero, digits-more, power, length-digits}
 
 -- no digit is left, or one and the others
@@ -40,6 +43,31 @@ count-between (suc k) (suc most) number low high l =
       count-between k most (number / 6) (omega arith) (omega arith) (omega arith),
     )
 count-between k zero number low high l = absurd (omega arith)
+
+-- a number from a power of 6 on has more digits than the exponent, if so many are asked for; so a valid order word fits two bytes
+power-some : (k : ℕ) → 1 ≤ power k
+unfolding power
+power-some zero = omega arith
+power-some (suc k) = omega (arith, power-some k)
+
+count-least : (k most number : ℕ) → power k ≤ number → k < most → k < length (digits most number)
+unfolding power
+count-least k zero number low l = absurd (omega arith)
+count-least zero (suc most) number low l = omega (arith, ap length (one-left (suc most) most number (omega arith) (omega arith)))
+count-least (suc k) (suc most) number low l =
+    omega (
+      arith,
+      power-some k,
+      ap length (one-left (suc most) most number (omega (arith, power-some k)) (omega arith)),
+      count-least k most (number / 6) (omega arith) (omega arith),
+    )
+
+pub valid-small : (w : ℕ) → validOrder w ≡ true → w < 65536
+unfolding power
+valid-small w valid = elim (decLt w 46656) [
+  | yes below ↦ omega arith
+  | no above ↦ absurd (omega (arith, count-least 6 7 w (omega arith) (omega arith), at-most-six (orderDigits w) valid))
+]
 
 -- the digit at a place
 pub at-start : (most at number : ℕ) → getD (digits most number) at 0 ≡ getD (digits (most - 0) number) (at - 0) 0

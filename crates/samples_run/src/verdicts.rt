@@ -12,7 +12,7 @@ use dosing::temperature::TemperatureGate;
 use dosing::temperature::to_celsius;
 use dosing::verdict::VerdictAnswer;
 use dosing::verdict::verdict;
-use order_words::is_valid_order;
+use order_list::is_valid_order;
 use printing::lines;
 use store::formatting::format;
 use store::inserting::insert;

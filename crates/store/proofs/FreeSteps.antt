@@ -10,18 +10,18 @@ use lib.Dec.{eqb}
 use lib.ListN.{length, getD, set, take, length-set}
 use lib.Seq.{take-suc-set, take-all, take-append-le, length-take-le}
 use borrow.Author.Tests.{eq-eqb, ne-eqb}
-use Rattle.cells.specs.Occurrences.{occurrences, select}
+use Rattle.cells.specs.Occurrences.{occurrences, select, countUp}
 use Rattle.cells.proofs.Choice.{absurd-bool}
+use Rattle.cells.proofs.Selected.{select-kept, select-dropped}
 use Rattle.staging.specs.Code.Stage.{stageCells}
 use Rattle.nodes.specs.Layout.{Layout, trailerCells, cellLimit}
 use Rattle.blocks.specs.Sound.{reachable}
 use Rattle.blocks.specs.Code.Fits.{Fits}
 use Rattle.blocks.specs.Code.Stamps.{Stamped, Validated}
 use Rattle.blocks.specs.Trailer.{rootWord}
-use Rattle.store.specs.Free.{countUp, allocationOrder, free}
+use Rattle.store.specs.Free.{allocationOrder, free}
 use Rattle.store.specs.Code.Unstamped.{unstamped, Listed}
 use Rattle.store.specs.Code.Changeable.{FreeAnswer}
-use Rattle.store.proofs.Free.{select-kept, select-dropped}
 
 -- one number more in an array that has room for it
 pub listed-more : (numbers after : List ℕ) (count next cell : ℕ) → after ≡ set numbers count cell → next ≡ count + 1 → count < length numbers

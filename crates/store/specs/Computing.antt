@@ -2,7 +2,7 @@
 -- `unfolding` line is to unfold all that it names; its own value says nothing.
 use Rattle.cells.specs.Word.{withWord}
 use Rattle.cells.specs.Writes.{written, wordWrites}
-use Rattle.cells.specs.Occurrences.{select}
+use Rattle.cells.specs.Occurrences.{select, countUp}
 use Rattle.order_words.specs.Digits.{encode}
 use Rattle.order_words.specs.Extended.{withDigit, extendedOrder}
 use Rattle.nodes.specs.Pointer.{leafWord}
@@ -23,7 +23,7 @@ use Rattle.blocks.specs.Trailer.{validSlot}
 use Rattle.blocks.specs.Sound.{reachedFrom}
 use Rattle.blocks.specs.Refusal.{badNewKey, badValue}
 use Rattle.blocks.specs.Computing.{readsOpen}
-use Rattle.store.specs.Free.{countUp, allocationOrder, free}
+use Rattle.store.specs.Free.{allocationOrder, free}
 use Rattle.store.specs.Format.{formatted, format}
 use Rattle.store.specs.Insert.{blockBuild, insert}
 use Rattle.store.specs.Remove.{blockRemoval, remove}

@@ -1,16 +1,11 @@
 -- 01: "Free means usable and reached from neither root nor held mark."
-use mathlib.Core.List.{List, [], _∷_}
-use Prim.Native.Nat.{ℕ, zero, suc, _+_, _-_}
+use mathlib.Core.List.{List}
+use Prim.Native.Nat.{ℕ, _-_}
 use lib.Dec.{eqb}
-use Rattle.cells.specs.Occurrences.{occurrences, select}
+use Rattle.cells.specs.Occurrences.{occurrences, select, countUp}
 use Rattle.nodes.specs.Layout.{Layout, trailerCells}
 use Rattle.blocks.specs.Trailer.{rootWord}
 use Rattle.blocks.specs.Sound.{reachable}
-
--- so many numbers from one on
-unfoldable pub countUp : ℕ → ℕ → List ℕ
-countUp zero from = []
-countUp (suc count) from = from ∷ countUp count (from + 1)
 
 -- the usable cells in the order in which they are allocated; 01: "Cells are taken lowest free number first"
 unfoldable pub allocationOrder : Layout → ℕ → List ℕ

@@ -7,11 +7,13 @@ use crate::lists::{run, Ended, List, BAD_SIZE};
 use crate::model::{Store, CELL};
 use std::fmt::Debug;
 
-/// The other program's way to make a call, and a list of calls.
+/// The other program's way to make a call and a list of calls, and to judge an order word.
 #[derive(Clone, Copy)]
 pub struct Other {
     pub call: fn(&mut [u8], &Call) -> Outcome,
     pub list: fn(&mut List) -> Ended,
+    /// Whether an order word is valid.
+    pub order_word: fn(u16) -> bool,
 }
 
 /// The most differences that are printed in full.
@@ -98,6 +100,15 @@ impl Comparison {
         if !fed || !shown {
             let what = "a list's answers or its last block are not the ledger's";
             self.note(&format_args!("a list, {}", hexadecimal(&list.bytes)), &list.block, what);
+        }
+    }
+
+    /// Asks the other program whether an order word is valid.
+    pub fn order_word(&mut self, word: u16, valid: bool) {
+        if let Some(other) = self.other {
+            if (other.order_word)(word) != valid {
+                self.note(&format_args!("order word {word:04X}"), &[], &format!("it is valid: {valid}, by the model"));
+            }
         }
     }
 

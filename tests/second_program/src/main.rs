@@ -15,6 +15,7 @@ mod ledger;
 mod limits;
 mod lists;
 mod model;
+mod orders;
 #[cfg(not(alone))]
 mod proved;
 mod random;
@@ -38,7 +39,7 @@ const CALLS_FOR_A_LIST: u64 = 50;
 
 /// The other program is the proved library.
 #[cfg(not(alone))]
-const OTHER: (Option<Other>, &str) = (Some(Other { call: proved::perform, list: proved::run_list }), "second_program");
+const OTHER: (Option<Other>, &str) = (Some(proved::OTHER), "second_program");
 
 /// The self-test has no other program; invariants and the ledger judge the model.
 #[cfg(alone)]
@@ -53,6 +54,7 @@ fn main() -> ExitCode {
     #[cfg(alone)]
     self_test::run();
     let mut comparison = Comparison::new(OTHER.0, traced);
+    orders::run(&mut comparison);
     sweeps::run(&mut comparison);
     limits::run(&mut comparison);
     schedule::run(&mut comparison, target);

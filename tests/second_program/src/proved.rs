@@ -1,6 +1,7 @@
 //! The proved library behind its C functions; all use of them stands in this file.
 
 use crate::calls::{Call, Outcome};
+use crate::compare::Other;
 use crate::lists::{Ended, List};
 use crate::verdict::Question;
 
@@ -54,6 +55,7 @@ extern "C" {
         answers_len: usize,
         count: *mut usize,
     ) -> u8;
+    fn exports_is_valid_order(word: u16) -> u8;
 }
 
 /// Bytes set before and after the block; an odd number, so that the block stands at an odd address.
@@ -76,8 +78,19 @@ fn take_back(bytes: &mut [u8], lent: &[u8]) {
     bytes.copy_from_slice(&lent[MARGIN..][..bytes.len()]);
 }
 
+/// The library as the other program.
+pub const OTHER: Other = Other { call: perform, list: run_list, order_word };
+
+/// Asks the library whether an order word is valid.
+fn order_word(word: u16) -> bool {
+    // It takes and gives numbers only.
+    let answer = unsafe { exports_is_valid_order(word) };
+    assert!(answer <= 1, "the answer is 0 or 1");
+    answer == 1
+}
+
 /// Makes a call on the library, on a copy of the block whose margins must stay as they are.
-pub fn perform(block: &mut [u8], call: &Call) -> Outcome {
+fn perform(block: &mut [u8], call: &Call) -> Outcome {
     let mut lent = with_margins(block);
     let outcome = perform_lent(&mut lent[MARGIN..][..block.len()], call);
     take_back(block, &lent);
@@ -85,7 +98,7 @@ pub fn perform(block: &mut [u8], call: &Call) -> Outcome {
 }
 
 /// Runs a list of calls on the library, on copies of the block, the calls and the answers.
-pub fn run_list(list: &mut List) -> Ended {
+fn run_list(list: &mut List) -> Ended {
     let (mut block, calls, mut answers) = (with_margins(&list.block), list.bytes.clone(), with_margins(&list.answers));
     let mut count = usize::MAX;
     // Each pointer comes with the length of its own slice, and no slice overlaps another.

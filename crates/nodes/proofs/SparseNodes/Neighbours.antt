@@ -10,8 +10,7 @@ use lib.ListN.{length, getD, drop}
 use lib.Seq.{drop-cons}
 use borrow.Author.Tests.{lt-ltb, le-ltb, ltb-true}
 use Rattle.cells.specs.Occurrences.{all}
-use Rattle.cells.proofs.Choice.{both-left, both-right, all-weaker}
-use Rattle.cells.proofs.Occurrences.{occurrences-at, all-at}
+use Rattle.cells.proofs.Choice.{all-weaker}
 use Rattle.order_words.specs.Order.{rising}
 
 -- two neighbours
@@ -31,22 +30,6 @@ rising-falls x y zs most = rw (le-ltb x y most)
 -- from an index on: the element there, then the rest from the next one on
 pub rest-more : (l : List ℕ) (i : ℕ) → i < length l → drop i l ≡ getD l i 0 ∷ drop (i + 1) l
 rest-more l i inside = rw (add-one i) (drop-cons l i 0 inside)
-
-pub rising-short : (l : List ℕ) → length l ≤ 1 → rising l ≡ true
-unfolding rising all
-rising-short [] short = refl
-rising-short (x ∷ []) short = refl
-rising-short (x ∷ y ∷ zs) short = absurd (omega arith)
-
--- a rising list rises between any two of its places
-pub rising-at : (l : List ℕ) → rising l ≡ true → (i j : ℕ) → i < j → j < length l → getD l i 0 < getD l j 0
-unfolding rising
-rising-at [] e i j order inside = absurd (omega arith)
-rising-at (x ∷ xs) e i zero order inside = absurd (omega arith)
-rising-at (x ∷ xs) e zero (suc j) order inside =
-    ltb-true x (getD xs j 0) (all-at (ltb x) xs (both-left (all (ltb x) xs) (rising xs) e) (getD xs j 0) (occurrences-at xs j 0 (omega arith)))
-rising-at (x ∷ xs) e (suc i) (suc j) order inside =
-    rising-at xs (both-right (all (ltb x) xs) (rising xs) e) i j (omega arith) (omega arith)
 
 -- an element of a list mapped
 pub map-at : (f : ℕ → ℕ) (l : List ℕ) (i : ℕ) → i < length l → getD (map f l) i 0 ≡ f (getD l i 0)

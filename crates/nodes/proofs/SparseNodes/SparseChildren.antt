@@ -13,9 +13,10 @@ use Rattle.cells.proofs.Choice.{both, each-of-four}
 use Rattle.cells.proofs.Occurrences.{occurrences-at, occurrences-index}
 use Rattle.order_words.specs.Order.{validDigits, rising}
 use Rattle.order_words.proofs.Valid.{at-most-six, digit-once, digit-below}
+use Rattle.order_words.proofs.Rising.{rising-at}
 use Rattle.nodes.specs.Sparse.{someWord, everyWord, sparseWord, sparseCharacter, sparseDigits, sparseCount, validSparse, positionOf, childFrom, sparseChild}
 use Rattle.nodes.proofs.Steps.WordRows.{some-word-not, every-word-is, every-word-at, no-word-is}
-use Rattle.nodes.proofs.SparseNodes.Neighbours.{rising-at, map-at}
+use Rattle.nodes.proofs.SparseNodes.Neighbours.{map-at}
 
 -- a cell whose order word has these digits, with a child at each position that they name and no other
 pub record Sparse (bytes ds : List ℕ) : Type 0 where

@@ -1,22 +1,21 @@
--- A sparse cell, walked: its digits, its characters in their order, and its positions from the first.
+-- A sparse cell, walked: its digits, its rules one after the other, and its positions from the first.
 use mathlib.Core.Path.{_≡_, ap, sym, _∙_}
 use mathlib.Core.Logic.{_≢_}
-use mathlib.Core.Bool.{Bool, true, false}
-use mathlib.Core.List.{List, _∷_, map}
-use Prim.Native.Nat.{ℕ, zero, suc, _+_, _-_, _*_, _/_, _%_, _≤_, _<_}
-use native.Mathlib.Nat.{sub-zero, zero-add}
+use mathlib.Core.Bool.{Bool, true, false, not, and-true, and-false}
+use mathlib.Core.List.{List, _∷_}
+use Prim.Native.Nat.{ℕ, zero, suc, _+_, _-_, _/_, _%_, _≤_, _<_}
+use native.Mathlib.Nat.{sub-zero}
 use native.Mathlib.Decide.{ℕ-discrete}
 use native.Mathlib.Omega.{arith}
 use lib.ListN.{length, getD}
 use borrow.Author.Tests.{eq-eqb, ne-eqb}
-use Rattle.cells.specs.Word.{wordAt}
 use Rattle.order_words.specs.Digits.{digits, orderDigits}
-use Rattle.order_words.specs.Order.{validDigits, rising}
+use Rattle.order_words.specs.Order.{validDigits}
 use Rattle.order_words.proofs.Coding.{digits-zero, digits-more, length-digits}
-use Rattle.order_words.proofs.Valid.{at-most-six}
-use Rattle.nodes.specs.Code.Words.{wordsFrom}
-use Rattle.nodes.specs.Sparse.{someWord, everyWord, sparseWord, sparseCharacter, sparseOrder, sparseDigits, sparseCount, validSparse, childFrom, sparseChild}
-use Rattle.nodes.proofs.Steps.WordRows.{some-same, every-same}
+use Rattle.order_words.proofs.Valid.{at-least-two}
+use Rattle.nodes.specs.Code.RisingPointers.{risingPointers}
+use Rattle.nodes.specs.Sparse.{someWord, sparseWord, sparseCharacter, sparseOrder, sparseDigits, sparseCount, validSparse, childFrom, sparseChild}
+use Rattle.nodes.proofs.SparseNodes.RisingPointers.{rising-pointers}
 
 -- every digit is below 6, and there are at most 7
 digit-small : (most number i : ℕ) → getD (digits most number) i 0 < 6
@@ -54,46 +53,30 @@ module _ (bytes : List ℕ) where
   unfolding sparseDigits
   order-read word valid e f = f ∙ ap (λ w. validDigits (orderDigits w)) e
 
-  -- the words, as rows from the first byte
-  row : (i : ℕ) → wordsFrom bytes 0 i ≡ sparseWord bytes i
-  row i = ap (wordAt bytes) (zero-add (4 * i))
-
-  pub every-read : (count : ℕ) (t : Bool) → count ≡ sparseCount bytes → t ≡ everyWord (wordsFrom bytes 0) count 0
-      → t ≡ everyWord (sparseWord bytes) (sparseCount bytes) 0
-  every-read count t e f = f ∙ every-same (wordsFrom bytes 0) (sparseWord bytes) row count 0 ∙ ap (λ n. everyWord (sparseWord bytes) n 0) e
-
-  pub rest-read : (count : ℕ) (t : Bool) → count ≡ sparseCount bytes → t ≡ someWord (wordsFrom bytes 0) (6 - count) count
-      → t ≡ someWord (sparseWord bytes) (6 - sparseCount bytes) (sparseCount bytes)
-  rest-read count t e f =
-      f ∙ some-same (wordsFrom bytes 0) (sparseWord bytes) row (6 - count) count ∙ ap (λ n. someWord (sparseWord bytes) (6 - n) n) e
-
-  -- the characters in their order
-  abbrev pub characters : List ℕ
-  characters = map (sparseCharacter bytes) (sparseDigits bytes)
-
   -- the rules, one after the other
   module _ (order : Bool) (order-is : order ≡ validDigits (sparseDigits bytes)) where
     pub sparse-order-fails : order ≡ false → false ≡ validSparse bytes
     unfolding validSparse
     sparse-order-fails e = rw (← order-is, e)
 
-    module _ (order-holds : order ≡ true) where
-      pub count-most : (count : ℕ) → count ≡ sparseCount bytes → count ≤ 6
-      count-most count whole = omega (arith, at-most-six (sparseDigits bytes) (sym order-is ∙ order-holds))
+    module _ (order-holds : order ≡ true) (count : ℕ) (whole : count ≡ sparseCount bytes) where
+      holds : validDigits (sparseDigits bytes) ≡ true
+      holds = sym order-is ∙ order-holds
 
-    module _ (every : Bool) (every-is : every ≡ everyWord (sparseWord bytes) (sparseCount bytes) 0) (order-holds : order ≡ true) where
-      pub sparse-word-missing : every ≡ false → false ≡ validSparse bytes
-      unfolding validSparse
-      sparse-word-missing e = rw (← order-is, order-holds, ← every-is, e)
+      pub count-least : 2 ≤ count
+      count-least = omega (arith, at-least-two (sparseDigits bytes) holds)
 
-      module _ (rest : Bool) (rest-is : rest ≡ someWord (sparseWord bytes) (6 - sparseCount bytes) (sparseCount bytes)) (every-holds : every ≡ true) where
-        pub sparse-word-beyond : rest ≡ true → false ≡ validSparse bytes
+      module _ (rest : Bool) (rest-is : rest ≡ not (someWord (sparseWord bytes) (6 - count) count)) where
+        none-past : rest ≡ not (someWord (sparseWord bytes) (6 - sparseCount bytes) (sparseCount bytes))
+        none-past = rest-is ∙ ap (λ n. not (someWord (sparseWord bytes) (6 - n) n)) whole
+
+        pub sparse-word-beyond : rest ≡ false → false ≡ validSparse bytes
         unfolding validSparse
-        sparse-word-beyond e = rw (← order-is, order-holds, ← every-is, every-holds, ← rest-is, e)
+        sparse-word-beyond e = rw (holds, ← none-past, e, and-false)
 
-        pub sparse-by-rising : rest ≡ false → (t : Bool) → t ≡ rising characters → t ≡ validSparse bytes
+        pub sparse-by-rising : rest ≡ true → (t : Bool) → t ≡ risingPointers bytes 0 (sparseDigits bytes) → t ≡ validSparse bytes
         unfolding validSparse
-        sparse-by-rising e t f = rw (← order-is, order-holds, ← every-is, every-holds, ← rest-is, e) f
+        sparse-by-rising e t f = rw (holds, ← none-past, e, and-true) (f ∙ rising-pointers bytes holds)
 
   -- the positions from one on
   pub child-start : (count x : ℕ) → count ≡ sparseCount bytes → sparseChild bytes x ≡ childFrom bytes (count - 0) 0 x

@@ -1,7 +1,7 @@
 -- A row of words: what each step and each stop of a walk says of the whole, and which words are pointers.
 use mathlib.Core.Path.{_≡_, refl, ap, sym, _∙_, subst}
 use mathlib.Core.Logic.{_≢_}
-use mathlib.Core.Bool.{Bool, true, false, not, cond, Bool·beq}
+use mathlib.Core.Bool.{Bool, true, false, not, cond}
 use mathlib.Core.List.{List}
 use Prim.Native.Nat.{ℕ, zero, suc, _+_, _-_, _*_, _≤_, _<_}
 use native.Mathlib.Nat.{zero-add}
@@ -11,7 +11,7 @@ use lib.Dec.{eqb}
 use borrow.Author.Tests.{eqb-false, ne-eqb}
 use Rattle.cells.specs.Word.{wordAt}
 use Rattle.cells.proofs.Choice.{absurd-bool, absurd-false}
-use Rattle.nodes.specs.Code.Words.{wordsFrom, someIs}
+use Rattle.nodes.specs.Code.Words.{wordsFrom}
 use Rattle.nodes.specs.Sparse.{someWord, everyWord}
 use Rattle.nodes.specs.Split.{branchWord, validBranch}
 
@@ -35,76 +35,15 @@ module _ (words : ℕ → ℕ) where
       let left : count ≡ less = omega arith in
       rw (← same, none, left)
 
--- a walk along a row that looks for a pointer, or for NONE
-module _ (words : ℕ → ℕ) where
-  pub is-start : (pointer : Bool) (count from : ℕ) → someIs pointer words count from ≡ someIs pointer words (from + count - from) from
-  is-start pointer count from = let same : from + count - from ≡ count = omega arith in ap (λ n. someIs pointer words n from) (sym same)
-
-  pub is-stop : (pointer : Bool) (count from : ℕ) → count ≡ 0 → someIs pointer words count from ≡ false
-  unfolding someIs
-  is-stop pointer count from e = rw e
-
-  pub is-found : (pointer : Bool) (count less from word : ℕ) → word ≡ words from → Bool·beq (not (eqb word 0)) pointer ≡ true → count ≡ less + 1
-      → someIs pointer words count from ≡ true
-  unfolding someIs
-  is-found pointer zero less from word same looked one = absurd (omega arith)
-  is-found pointer (suc count) less from word same looked one = rw (← same) (go (eqb word 0) pointer (someIs pointer words count (from + 1)) looked)
-    where
-      go : (t p later : Bool) → Bool·beq (not t) p ≡ true → cond t (cond p later true) (cond p true later) ≡ true
-      go true true later e = absurd-false e
-      go true false later e = refl
-      go false true later e = refl
-      go false false later e = absurd-false e
-
-  pub is-step : (pointer : Bool) (count less from word : ℕ) → word ≡ words from → Bool·beq (not (eqb word 0)) pointer ≡ false → count ≡ less + 1
-      → someIs pointer words count from ≡ someIs pointer words less (from + 1)
-  unfolding someIs
-  is-step pointer zero less from word same other one = absurd (omega arith)
-  is-step pointer (suc count) less from word same other one =
-      let left : count ≡ less = omega arith in
-      rw (← same, left) (go (eqb word 0) pointer (someIs pointer words less (from + 1)) other)
-    where
-      go : (t p later : Bool) → Bool·beq (not t) p ≡ false → cond t (cond p later true) (cond p true later) ≡ later
-      go true true later e = refl
-      go true false later e = absurd-bool e
-      go false true later e = absurd-bool e
-      go false false later e = refl
-
-  -- some word is a pointer, and every word is one where none is NONE
-  some-is : (count from : ℕ) → someIs true words count from ≡ someWord words count from
-  unfolding someIs someWord
-  some-is zero from = refl
-  some-is (suc count) from = rw (some-is count (from + 1))
-
-  every-is : (count from : ℕ) → not (someIs false words count from) ≡ everyWord words count from
-  unfolding someIs everyWord
-  every-is zero from = refl
-  every-is (suc count) from = go (eqb (words from) 0) (someIs false words count (from + 1)) (everyWord words count (from + 1)) (every-is count (from + 1))
-    where
-      go : (t some every : Bool) → not some ≡ every → not (cond t true some) ≡ cond t false every
-      go true some every e = refl
-      go false some every e = e
-
-  pub some-told : (count from : ℕ) (t : Bool) → t ≡ someIs true words count from → t ≡ someWord words count from
-  some-told count from t e = e ∙ some-is count from
-
-  pub every-told : (count from : ℕ) (t : Bool) → t ≡ someIs false words count from → not t ≡ everyWord words count from
-  every-told count from t e = ap not e ∙ every-is count from
-
 -- rows of the same words
 pub some-same : (f g : ℕ → ℕ) → ((i : ℕ) → f i ≡ g i) → (count from : ℕ) → someWord f count from ≡ someWord g count from
 unfolding someWord
 some-same f g same zero from = refl
 some-same f g same (suc count) from = rw (same from, some-same f g same count (from + 1))
 
-pub every-same : (f g : ℕ → ℕ) → ((i : ℕ) → f i ≡ g i) → (count from : ℕ) → everyWord f count from ≡ everyWord g count from
-unfolding everyWord
-every-same f g same zero from = refl
-every-same f g same (suc count) from = rw (same from, every-same f g same count (from + 1))
-
 -- the row of a mid or an end starts at the first byte
-pub branch-read : (bytes : List ℕ) (t : Bool) → t ≡ someIs true (wordsFrom bytes 0) 8 0 → t ≡ validBranch bytes
-branch-read bytes t e = some-told (wordsFrom bytes 0) 8 0 t e ∙ some-same (wordsFrom bytes 0) (branchWord bytes) (λ i. ap (wordAt bytes) (zero-add (4 * i))) 8 0
+pub branch-read : (bytes : List ℕ) (t : Bool) → t ≡ someWord (wordsFrom bytes 0) 8 0 → t ≡ validBranch bytes
+branch-read bytes t e = e ∙ some-same (wordsFrom bytes 0) (branchWord bytes) (λ i. ap (wordAt bytes) (zero-add (4 * i))) 8 0
 
 -- some word is a pointer just where one at a position is
 pub some-word-is : (words : ℕ → ℕ) (count from q : ℕ) → from ≤ q → q < from + count → words q ≢ 0 → someWord words count from ≡ true
@@ -169,3 +108,12 @@ no-word-is words count from each = go (someWord words count from) refl
     go : (t : Bool) → someWord words count from ≡ t → t ≡ false
     go true e = let r = some-word-at words count from e in absurd (r .3 (each (r .0) (r .1) (r .2)))
     go false e = refl
+
+-- the words from a count on, of those below an end, looked at one by one: some word is a pointer, or each one is NONE
+module _ (words : ℕ → ℕ) (count end i : ℕ) where
+  pub rest-some : count ≤ i → i < end → (word : ℕ) → word ≡ words i → word ≢ 0 → false ≡ not (someWord words (end - count) count)
+  rest-some low high word same other =
+      ap not (sym (some-word-is words (end - count) count i low (omega arith) (λ none. other (same ∙ none))))
+
+  pub rest-none : ((q : ℕ) → q < i → count ≤ q → words q ≡ 0) → end ≤ i → true ≡ not (someWord words (end - count) count)
+  rest-none each past = ap not (sym (no-word-is words (end - count) count (λ q low high. each q (omega arith) low)))

@@ -1,10 +1,7 @@
-use mathlib.Core.Path.{ap}
-use mathlib.Core.Bool.{not}
-use borrow.Author.Tests.{not-true, not-false}
 use native.Mathlib.Omega.{arith}
-use Rattle.nodes.proofs.SparseNodes.SparseSteps.{count-small, count-most, order-read, every-read, rest-read, sparse-order-fails, sparse-word-missing, sparse-word-beyond, sparse-by-rising}
-use Rattle.nodes.proofs.Steps.WordRows.{some-told, every-told}
+use borrow.Author.Tests.{not-true, not-false}
 use borrow.Author.Needs.{needs}
+use Rattle.nodes.proofs.SparseNodes.SparseSteps.{order-read, count-least, sparse-order-fails, sparse-word-beyond, sparse-by-rising}
 use Rattle.nodes.proofs.sparse.is_valid_sparse.Statement.{statement}
 use Rattle.nodes.proofs.sparse.is_valid_sparse.Tie as tie
 
@@ -20,31 +17,19 @@ returns c = sparse-order-fails _ _ (order-read _ _ _ (c .before .before .sparse-
 sparse-count-requires : tie.Need-sparse-count-requires
 sparse-count-requires c κs = search needs
 
-some-is-requires : tie.Need-some-is-requires
-some-is-requires c κs = omega (arith, count-small (c .before .before .before .before .before .args .cell .now))
+rest-is-none-requires : tie.Need-rest-is-none-requires
+rest-is-none-requires c κs = omega (arith, count-least _ _ (order-read _ _ _ (c .before .before .before .sparse-order .ensures) (c .before .before .is-valid-order .ensures)) (not-false _ (c .before .if1 .left)) _ (c .sparse-count .ensures))
 
 returns-2 : tie.Need-returns-2
-returns-2 c = sparse-word-missing _ _ (order-read _ _ _ (c .before .before .before .before .before .sparse-order .ensures) (c .before .before .before .before .is-valid-order .ensures))
-    _ (every-read _ _ _ (c .before .before .sparse-count .ensures) (every-told _ _ _ _ (c .before .some-is .ensures))) (not-false _ (c .before .before .before .if1 .left)) (ap not (c .if2 .taken))
+returns-2 c = sparse-word-beyond _ _ (order-read _ _ _ (c .before .before .before .before .before .sparse-order .ensures) (c .before .before .before .before .is-valid-order .ensures)) (not-false _ (c .before .before .before .if1 .left))
+    _ (c .before .before .sparse-count .ensures) _ (c .before .rest-is-none .ensures) (not-true _ (c .if2 .taken))
 
-sub-some-is : tie.Need-sub-some-is
-sub-some-is c = omega (arith, count-most _ _ (order-read _ _ _ (c .before .before .before .before .before .sparse-order .ensures) (c .before .before .before .before .is-valid-order .ensures)) (not-false _ (c .before .before .before .if1 .left)) _ (c .before .before .sparse-count .ensures))
-
-some-is-requires-2 : tie.Need-some-is-requires-2
-some-is-requires-2 c κs = omega (arith, count-most _ _ (order-read _ _ _ (c .before .before .before .before .before .sparse-order .ensures) (c .before .before .before .before .is-valid-order .ensures)) (not-false _ (c .before .before .before .if1 .left)) _ (c .before .before .sparse-count .ensures))
+are-rising-requires : tie.Need-are-rising-requires
+are-rising-requires c κs = search needs
 
 returns-3 : tie.Need-returns-3
-returns-3 c = sparse-word-beyond _ _ (order-read _ _ _ (c .before .before .before .before .before .before .before .sparse-order .ensures) (c .before .before .before .before .before .before .is-valid-order .ensures))
-    _ (every-read _ _ _ (c .before .before .before .before .sparse-count .ensures) (every-told _ _ _ _ (c .before .before .before .some-is .ensures))) (not-false _ (c .before .before .before .before .before .if1 .left))
-    _ (rest-read _ _ _ (c .before .before .before .before .sparse-count .ensures) (some-told _ _ _ _ (c .before .some-is2 .ensures))) (ap not (c .before .before .if2 .left)) (c .if3 .taken)
-
-is-rising-requires : tie.Need-is-rising-requires
-is-rising-requires c κs = search needs
-
-returns-4 : tie.Need-returns-4
-returns-4 c = sparse-by-rising _ _ (order-read _ _ _ (c .before .before .before .before .before .before .before .before .sparse-order .ensures) (c .before .before .before .before .before .before .before .is-valid-order .ensures))
-    _ (every-read _ _ _ (c .before .before .before .before .before .sparse-count .ensures) (every-told _ _ _ _ (c .before .before .before .before .some-is .ensures))) (not-false _ (c .before .before .before .before .before .before .if1 .left))
-    _ (rest-read _ _ _ (c .before .before .before .before .before .sparse-count .ensures) (some-told _ _ _ _ (c .before .before .some-is2 .ensures))) (ap not (c .before .before .before .if2 .left)) (c .before .if3 .left) _ (c .is-rising .ensures)
+returns-3 c = sparse-by-rising _ _ (order-read _ _ _ (c .before .before .before .before .before .before .sparse-order .ensures) (c .before .before .before .before .before .is-valid-order .ensures)) (not-false _ (c .before .before .before .before .if1 .left))
+    _ (c .before .before .before .sparse-count .ensures) _ (c .before .before .rest-is-none .ensures) (not-false _ (c .before .if2 .left)) _ (c .are-rising .ensures)
 
 pub is-valid-sparse-spec : {M : Type 1} → statement M
 is-valid-sparse-spec =
@@ -54,10 +39,7 @@ is-valid-sparse-spec =
     is-valid-order-requires
     returns
     sparse-count-requires
-    some-is-requires
+    rest-is-none-requires
     returns-2
-    sub-some-is
-    some-is-requires-2
-    returns-3
-    is-rising-requires
-    returns-4)
+    are-rising-requires
+    returns-3)

@@ -3,11 +3,11 @@ use borrow.Author.Needs.{needs}
 use Rattle.nodes.proofs.split.is_valid_branch.Statement.{statement}
 use Rattle.nodes.proofs.split.is_valid_branch.Tie as tie
 
-some-is-requires : tie.Need-some-is-requires
-some-is-requires c κs = search needs
+some-word-requires : tie.Need-some-word-requires
+some-word-requires c κs = search needs
 
 returns : tie.Need-returns
-returns c = branch-read _ _ (c .some-is .ensures)
+returns c = branch-read _ _ (c .some-word .ensures)
 
 pub is-valid-branch-spec : {M : Type 1} → statement M
-is-valid-branch-spec = tie.close (tie.spec some-is-requires returns)
+is-valid-branch-spec = tie.close (tie.spec some-word-requires returns)

@@ -7,10 +7,9 @@ use native.Mathlib.Omega.{arith}
 use lib.ListN.{length}
 use borrow.Author.Needs.{needs}
 use borrow.Author.Tests.{eq-eqb, ne-eqb}
-use Rattle.cells.specs.Occurrences.{select}
+use Rattle.cells.specs.Occurrences.{select, countUp}
 use Rattle.nodes.specs.Layout.{cellLimit}
 use Rattle.staging.specs.Code.Stage.{stageCells}
-use Rattle.store.specs.Free.{countUp}
 use Rattle.store.proofs.FreeSteps.{unmarked, Walked, walk-start, listed-more, walk-kept, walk-dropped, walk-end, walk-full, walk-done}
 use Rattle.store.proofs.free_cells.free_cells.Statement.{statement}
 use Rattle.store.proofs.free_cells.free_cells.Tie as tie

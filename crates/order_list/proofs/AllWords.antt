@@ -1,0 +1,23 @@
+-- 02: "Show once, over the entire list, that it holds the lawful words and no others."
+use mathlib.Core.Path.{_≡_, refl}
+use mathlib.Core.Bool.{true}
+use lib.ListN.{length}
+use Rattle.cells.specs.Occurrences.{occurrences, all, select, countUp}
+use Rattle.order_words.specs.Digits.{digits}
+use Rattle.order_words.specs.Order.{eachOnce, place, validDigits, validOrder, rising}
+use Rattle.order_list.specs.Words.{orderWords}
+
+-- of all 65,536 words those that are valid, in their order, are the list: the checker computes the rule for each of them
+pub all-words : select validOrder (countUp 65536 0) ≡ orderWords
+unfolding countUp select digits occurrences eachOnce place validDigits orderWords
+all-words = refl
+
+-- each word of the list is below every one after it
+pub words-rise : rising orderWords ≡ true
+unfolding all rising orderWords
+words-rise = refl
+
+-- how many words there are
+pub words-size : length orderWords ≡ 436
+unfolding orderWords
+words-size = refl

@@ -1,0 +1,4 @@
+pub mod AllWords
+pub mod Listed
+pub mod Search
+pub mod Proved
