@@ -1,11 +1,13 @@
 -- 02: "Show once, over the entire list, that it holds the lawful words and no others."
-use mathlib.Core.Path.{_≡_, refl}
+use mathlib.Core.Path.{_≡_, refl, ap}
 use mathlib.Core.Bool.{true}
-use lib.ListN.{length}
+use mathlib.Core.List.{List}
+use Prim.Native.Nat.{ℕ}
+use lib.ListN.{length, getD}
 use Rattle.cells.specs.Occurrences.{occurrences, all, select, countUp}
 use Rattle.order_words.specs.Digits.{digits}
 use Rattle.order_words.specs.Order.{eachOnce, place, validDigits, validOrder, rising}
-use Rattle.order_list.specs.Words.{orderWords}
+use Rattle.order_list.specs.Words.{orderWords, size-and-ends}
 
 -- of all 65,536 words those that are valid, in their order, are the list: the checker computes the rule for each of them
 pub all-words : select validOrder (countUp 65536 0) ≡ orderWords
@@ -19,5 +21,4 @@ words-rise = refl
 
 -- how many words there are
 pub words-size : length orderWords ≡ 436
-unfolding orderWords
-words-size = refl
+words-size = ap (λ (numbers : List ℕ). getD numbers 0 0) size-and-ends

@@ -5,9 +5,9 @@ ghost use Rattle.order_words.specs.Order.{validOrder};
 ghost use Rattle.order_list.specs.Words.{orderWords};
 ghost use Rattle.order_list.specs.Code.Part.{inPart};
 
-pub mod words;
+mod words;
 
-use crate::words::order_words;
+use crate::words::word_list;
 
 // Whether a word stands in the list, from an index on and before another.
 fn is_listed(list: &[u16; 436], word: u16, from: usize, to: usize) -> bool
@@ -29,7 +29,7 @@ fn is_listed(list: &[u16; 436], word: u16, from: usize, to: usize) -> bool
 pub fn is_valid_order(word: u16) -> bool
     ensures { λ r. ⌜ r ≡ validOrder word ⌝ }
 {
-    let list = order_words();
+    let list = word_list();
     if word < list[40] {
         return is_listed(&list, word, 0, 40);
     }

@@ -443,7 +443,7 @@ const ORDER_WORDS: [u16; 436] = [
 ];
 
 // The list, as the value that is searched.
-pub fn order_words() -> [u16; 436]
+pub fn word_list() -> [u16; 436]
     ensures { λ r. ⌜ r ≡ orderWords ⌝ }
 {
     ORDER_WORDS
