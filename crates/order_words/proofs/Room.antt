@@ -60,7 +60,7 @@ unfolding countBelow occurrences
 below-more j [] = refl
 below-more j (x ∷ xs) = omega (arith, below-more j xs, one-more j x)
 
-pub below-room : (j e : ℕ) → j ≤ e → (ds : List ℕ) → countBelow j ds + occurrences e ds ≤ length ds
+below-room : (j e : ℕ) → j ≤ e → (ds : List ℕ) → countBelow j ds + occurrences e ds ≤ length ds
 unfolding countBelow occurrences
 below-room j e l [] = omega arith
 below-room j e l (x ∷ xs) = omega (arith, below-room j e l xs, one-room j e x l)

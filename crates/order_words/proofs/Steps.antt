@@ -28,23 +28,21 @@ one-left (suc most) less number n e =
     let same : most ≡ less = omega arith in
     digits-more most number n ∙ ap (λ k. number % 6 ∷ digits k (number / 6)) same
 
--- a number from a power of 6 on and below the next has one digit more than the exponent
+-- zero has no digits
 pub count-none : (most number : ℕ) → number < 1 → 0 ≡ length (digits most number)
 count-none most number l = omega (arith, ap length (none-left most number (omega arith)))
 
-pub count-between : (k most number : ℕ) → power k ≤ number → number < power (suc k) → k < most → suc k ≡ length (digits most number)
+-- a number below a power of 6 has at most as many digits as the exponent
+count-most : (k most number : ℕ) → number < power k → length (digits most number) ≤ k
 unfolding power
-count-between zero (suc most) number low high l =
-    omega (arith, ap length (one-left (suc most) most number (omega arith) (omega arith)), count-none most (number / 6) (omega arith))
-count-between (suc k) (suc most) number low high l =
-    omega (
-      arith,
-      ap length (one-left (suc most) most number (omega arith) (omega arith)),
-      count-between k most (number / 6) (omega arith) (omega arith) (omega arith),
-    )
-count-between k zero number low high l = absurd (omega arith)
+count-most zero most number high = omega (arith, count-none most number (omega arith))
+count-most (suc k) zero number high = omega (arith, ap length (none-asked 0 number refl))
+count-most (suc k) (suc most) number high = elim (ℕ-discrete number 0) [
+  | yes none ↦ omega (arith, count-none (suc most) number (omega arith))
+  | no some ↦ omega (arith, ap length (digits-more most number some), count-most k most (number / 6) (omega arith))
+]
 
--- a number from a power of 6 on has more digits than the exponent, if so many are asked for; so a valid order word fits two bytes
+-- one from a power of 6 on has more, if so many are asked for
 power-some : (k : ℕ) → 1 ≤ power k
 unfolding power
 power-some zero = omega arith
@@ -53,15 +51,15 @@ power-some (suc k) = omega (arith, power-some k)
 count-least : (k most number : ℕ) → power k ≤ number → k < most → k < length (digits most number)
 unfolding power
 count-least k zero number low l = absurd (omega arith)
-count-least zero (suc most) number low l = omega (arith, ap length (one-left (suc most) most number (omega arith) (omega arith)))
+count-least zero (suc most) number low l = omega (arith, ap length (digits-more most number (omega arith)))
 count-least (suc k) (suc most) number low l =
-    omega (
-      arith,
-      power-some k,
-      ap length (one-left (suc most) most number (omega (arith, power-some k)) (omega arith)),
-      count-least k most (number / 6) (omega arith) (omega arith),
-    )
+    let some : number ≢ 0 = omega (arith, power-some k) in
+    omega (arith, ap length (digits-more most number some), count-least k most (number / 6) (omega arith) (omega arith))
 
+pub count-between : (k most number : ℕ) → power k ≤ number → number < power (suc k) → k < most → suc k ≡ length (digits most number)
+count-between k most number low high l = omega (arith, count-least k most number low l, count-most (suc k) most number high)
+
+-- so a valid order word fits two bytes
 pub valid-small : (w : ℕ) → validOrder w ≡ true → w < 65536
 unfolding power
 valid-small w valid = elim (decLt w 46656) [
