@@ -1,9 +1,10 @@
 /* The cartridge register for controller firmware.
  *
- * A register is one block of cells of 32 bytes, 4 to 2,048 of them, that the caller owns and lends to each call. A fresh block
- * is all zero but for the last cell: its bytes 14 to 17 (hex) hold the number of cells and its byte 1F holds 1, highest byte
- * first. Each key is 1 to 48 bytes of any value, each value a number up to 2,147,483,647. A cartridge is entered under its
- * label, with its expiry day as value: year x 512 + month x 32 + day.
+ * A register is one block of cells of 32 bytes, 4 to 2,048 of them, that the caller owns and lends to each call. The caller
+ * makes a fresh block: it is all zero but for the last cell, whose bytes 14 to 17 (hex) hold the number of cells and whose
+ * bytes 1C to 1F hold the edition, 1 or 2, highest byte first. A register keeps its edition; one of edition 2 may take fewer
+ * cells where a key is the beginning of others. Each key is 1 to 48 bytes of any value, each value a number up to
+ * 2,147,483,647. A cartridge is entered under its label, with its expiry day as value: year x 512 + month x 32 + day.
  *
  * Every call judges the whole block and all that it is told, whatever comes in, and answers with the lowest number below that
  * applies. On every answer but REGISTER_DONE the block stays byte for byte and the number beside the answer is zero.
@@ -28,7 +29,7 @@ extern "C" {
 enum {
     REGISTER_DONE = 0,
     REGISTER_BAD_SIZE = 1,     /* the size is no multiple of 32, or not 4 to 2,048 cells */
-    REGISTER_UNSOUND = 2,      /* the bytes are no register */
+    REGISTER_UNSOUND = 2,      /* the bytes are no register of edition 1 or 2 */
     REGISTER_BAD_KEY = 3,      /* the key or label is empty or over 48 bytes */
     REGISTER_BAD_VALUE = 4,    /* the value is over 2,147,483,647 */
     REGISTER_NO_ROOM = 7,      /* the insertion takes more cells than are free */

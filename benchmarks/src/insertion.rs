@@ -1,6 +1,7 @@
 //! Insertion in the plain program: the new cells are staged, and written only when there is room for all.
 
-use crate::plain::{cell_of, is_leaf, kind_of, put_word, root_of, word_at, CELL, PREFIX, SPARSE, SPLIT};
+use crate::plain::{cell_of, is_leaf, kind_of, linked_word, may_embed, put_word, root_of, word_at};
+use crate::plain::{CELL, EMBEDDED, PREFIX, SPARSE, SPLIT, STANDALONE};
 use crate::validation::Reached;
 use crate::walk::{after_chain, child_of};
 
@@ -65,17 +66,16 @@ impl Stage<'_> {
             _ => self.pair(bare, *character, child)?,
         };
         match set_aside {
-            Some(value) => self.prefix(value, built),
+            Some(value) => self.put_back(value, built),
             None => Some(built),
         }
     }
 
     /// A node's own value, if it has one, and the node without it.
     pub fn set_aside(&self, word: u32) -> (Option<u32>, u32) {
-        let offset = cell_of(word) * CELL;
         match kind_of(word) {
             _ if is_leaf(word) => (Some(!word), 0),
-            PREFIX => (Some(word_at(self.block, offset)), word_at(self.block, offset + 0x1C)),
+            PREFIX => (Some(word_at(self.block, cell_of(word) * CELL)), linked_word(self.block, word)),
             _ => (None, word),
         }
     }
@@ -88,19 +88,36 @@ impl Stage<'_> {
         }
     }
 
+    /// A value put back over a new node: before it in its cell, where the edition has that and there is room, else in a new cell.
+    pub fn put_back(&mut self, value: u32, node: u32) -> Option<u32> {
+        if EMBEDDED.contains(&kind_of(node)) && may_embed(self.block) {
+            if let Some(image) = self.taken_last(node) {
+                put_word(image, 0, value);
+                image[4] = kind_of(node) as u8;
+                return Some(node - kind_of(node) as u32 + PREFIX as u32);
+            }
+        }
+        self.prefix(value, node)
+    }
+
+    /// The image of a node's cell, where that is the cell just taken.
+    fn taken_last(&mut self, node: u32) -> Option<&mut Image> {
+        self.cells.last_mut().filter(|(cell, _)| *cell == cell_of(node)).map(|(_, image)| image)
+    }
+
     /// A new prefix cell.
-    pub fn prefix(&mut self, value: u32, link: u32) -> Option<u32> {
+    fn prefix(&mut self, value: u32, link: u32) -> Option<u32> {
         let mut image = [0; CELL];
         put_word(&mut image, 0, value);
-        image[4] = 0xFF;
+        image[4] = STANDALONE;
         put_word(&mut image, 0x1C, link);
         self.take(image, PREFIX)
     }
 
     /// A character set before a new child: in the chain cell just taken while there is room, else in a new one.
     pub fn before(&mut self, character: u8, child: u32) -> Option<u32> {
-        if let Some((cell, image)) = self.cells.last_mut() {
-            if *cell == cell_of(child) && (1..SPLIT).contains(&kind_of(child)) {
+        if (1..SPLIT).contains(&kind_of(child)) {
+            if let Some(image) = self.taken_last(child) {
                 image[kind_of(child) - 1] = character;
                 return Some(child - 1);
             }

@@ -1,5 +1,8 @@
 //! Seeded labels, so that every run measures the same work.
 
+/// What every seed is drawn from.
+pub const SEED: u64 = 0x9E37_79B9_7F4A_7C15;
+
 /// A xorshift generator; its state is never zero.
 pub struct Random(pub u64);
 
@@ -37,6 +40,19 @@ impl Random {
         }
         labels
     }
+}
+
+/// The labels of so many lots of one product, from a lot on, fifty of each: its own, those of its nine boxes and those of the
+/// forty cartridges in them, as "PU1K-07", "PU1K-073" and "PU1K-073-4"; so every fifth label is the beginning of others.
+pub fn lots(first: usize, count: usize) -> Vec<Vec<u8>> {
+    let mut labels = Vec::new();
+    for lot in first..first + count {
+        let lot = format!("PU1K-{lot:02}");
+        labels.extend((1..=9).map(|number| format!("{lot}{number}")));
+        labels.extend((0..40).map(|number| format!("{lot}{}-{}", number % 9 + 1, number / 9 + 1)));
+        labels.push(lot);
+    }
+    labels.into_iter().map(String::into_bytes).collect()
 }
 
 /// The labels of so many serial numbers of one product, from a number on.

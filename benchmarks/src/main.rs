@@ -6,12 +6,13 @@ mod orders;
 mod plain;
 mod proved;
 mod removal;
+mod room;
 mod timing;
 mod validation;
 mod walk;
 
-use labels::Random;
-use plain::{put_word, CELL};
+use labels::{Random, SEED};
+use plain::{edition_of, put_word, CELL};
 use std::collections::BTreeMap;
 use std::hint::black_box;
 use timing::{measure, Work};
@@ -22,58 +23,82 @@ const QUESTIONS: usize = 2000;
 /// The serial numbers of the case of 2,000 labels, which leave much of the largest block free.
 const SERIALS: usize = 2000;
 
-/// A block, what was entered into it one after the other, the map of what was not refused, the labels that it is asked for,
-/// those that are removed from it one after the other, and what is left of it then.
+/// The lots of the case of 2,000 labels with values over inner nodes.
+const LOTS: usize = 40;
+
+/// A block, the name of its labels, what was entered into it one after the other, the cells that this took, the map of what was
+/// not refused, the labels that it is asked for, those that are removed from it one after the other, and what is left of it then.
+#[derive(Clone, Default)]
 struct Case {
+    name: &'static str,
     fresh: Vec<u8>,
     full: Vec<u8>,
     entered: Vec<(Vec<u8>, u32)>,
+    taken: u32,
     map: BTreeMap<Vec<u8>, u32>,
     questions: Vec<Vec<u8>>,
     removed: Vec<Vec<u8>>,
     left: Vec<u8>,
 }
 
-/// Checks and measures every case, and prints one table.
+/// Checks and measures every case, and prints a table of times and one of the room that values over inner nodes take.
 fn main() {
-    println!("| cells | labels | call | against | proved, ns a call | the other, ns a call | ratio, median |");
-    println!("|---|---|---|---|---|---|---|");
-    for case in [Case::full(16), Case::full(256), Case::full(2048), Case::serial(2048)] {
+    for cells in [16, 256, 2048] {
+        Case::drawn(cells, 2).compare();
+    }
+    println!("| cells | edition | labels | call | against | proved, ns a call | other, ns a call | ratio, median |");
+    println!("|---|---|---|---|---|---|---|---|");
+    for case in [Case::drawn(16, 1), Case::drawn(256, 1), Case::drawn(2048, 1), Case::serials(2048)] {
         case.compare();
         case.against_plain();
         case.against_map();
     }
+    let lots = [Case::lots(2048, 1), Case::lots(2048, 2)];
+    for case in &lots {
+        case.compare();
+        case.against_plain();
+    }
     orders::compare_and_report();
+    room::report(&lots);
 }
 
 impl Case {
     /// A block of so many cells, filled with labels as they are drawn until answer 7, that one included.
-    fn full(cells: usize) -> Case {
-        let mut random = Random(0x9E37_79B9_7F4A_7C15 ^ cells as u64);
-        let mut case = Case::fresh(cells);
+    fn drawn(cells: usize, edition: u32) -> Case {
+        let mut random = Random(SEED ^ cells as u64);
+        let mut case = Case::fresh("drawn", cells, edition);
         while case.enter(random.label()) == 0 {}
         let drawn = random.labels(QUESTIONS / 2);
         case.ask(&mut random, drawn)
     }
 
-    /// A block of so many cells with the labels of 2,000 serial numbers, in mixed order; the questions are for other numbers too.
-    fn serial(cells: usize) -> Case {
-        let mut random = Random(0x9E37_79B9_7F4A_7C15 ^ SERIALS as u64);
-        let mut case = Case::fresh(cells);
-        for label in random.mixed(labels::serials(0, SERIALS)) {
-            assert_eq!(case.enter(label), 0, "room for every serial number");
-        }
-        case.ask(&mut random, labels::serials(SERIALS, QUESTIONS / 2))
+    /// A block of so many cells with the labels of 2,000 serial numbers; the questions are for other numbers too.
+    fn serials(cells: usize) -> Case {
+        let others = labels::serials(SERIALS, QUESTIONS / 2);
+        Case::fresh("serials", cells, 1).hold(labels::serials(0, SERIALS), others)
     }
 
-    /// A fresh block of so many cells, with nothing entered or asked.
-    fn fresh(cells: usize) -> Case {
-        let mut fresh = vec![0; cells * CELL];
-        let trailer = fresh.len() - CELL;
-        put_word(&mut fresh, trailer + 0x14, cells as u32);
-        put_word(&mut fresh, trailer + 0x1C, 1);
-        let (entered, map, questions, removed) = (Vec::new(), BTreeMap::new(), Vec::new(), Vec::new());
-        Case { full: fresh.clone(), left: Vec::new(), fresh, entered, map, questions, removed }
+    /// A block of so many cells with the labels of lots, boxes and cartridges; the questions are for those of other lots too.
+    fn lots(cells: usize, edition: u32) -> Case {
+        let others = labels::lots(LOTS, LOTS / 2);
+        Case::fresh("in lots", cells, edition).hold(labels::lots(0, LOTS), others)
+    }
+
+    /// A fresh block of so many cells, the same from both programs, with nothing entered or asked.
+    fn fresh(name: &'static str, cells: usize, edition: u32) -> Case {
+        let mut fresh = vec![0xA5; cells * CELL];
+        assert_eq!(proved::format(&mut fresh, edition), 0, "a fresh block of edition {edition}");
+        assert_eq!(fresh, plain::fresh(cells, edition), "the bytes of a fresh block");
+        Case { name, full: fresh.clone(), fresh, ..Case::default() }
+    }
+
+    /// Enters labels in mixed order, all of which find room, and asks for others too.
+    fn hold(mut self, labels: Vec<Vec<u8>>, others: Vec<Vec<u8>>) -> Case {
+        let mut random = Random(SEED ^ labels.len() as u64);
+        for label in random.mixed(labels) {
+            assert_eq!(self.enter(label), 0, "room for every label");
+        }
+        self.ask(&mut random, others)
     }
 
     /// Enters a label with both programs, which must agree on the answer and every byte.
@@ -86,6 +111,7 @@ impl Case {
         assert!(matches!(answer.0, 0 | 7), "answer {} to a valid insertion", answer.0);
         if answer.0 == 0 {
             self.map.insert(label.clone(), value);
+            self.taken += answer.1;
         }
         self.entered.push((label, value));
         answer.0
@@ -96,6 +122,7 @@ impl Case {
         let held: Vec<Vec<u8>> = self.map.keys().cloned().collect();
         let mut questions: Vec<Vec<u8>> = others.iter().map(|_| held[random.below(held.len())].clone()).collect();
         questions.extend(others);
+        assert_eq!(questions.len(), QUESTIONS);
         self.questions = random.mixed(questions);
         self.removed = random.mixed(held);
         self.left = self.full.clone();
@@ -126,6 +153,11 @@ impl Case {
             let next = proved::next_key(&self.full, label);
             assert_eq!(next, plain::next_key(&self.full, label), "next key after {label:?}");
         }
+        self.compare_damaged();
+    }
+
+    /// Checks that both validations agree on blocks with one bit altered, and on the same bytes as a block of another edition.
+    fn compare_damaged(&self) {
         let mut random = Random(self.full.len() as u64);
         let (mut damaged, mut sound) = (self.full.clone(), 0);
         for _ in 0..QUESTIONS {
@@ -137,6 +169,12 @@ impl Case {
             damaged[place] = self.full[place];
         }
         assert!(0 < sound && sound < QUESTIONS, "altered blocks of both sorts");
+        for edition in 0..4 {
+            let place = damaged.len() - 4;
+            put_word(&mut damaged, place, edition);
+            let answer = proved::validate(&damaged);
+            assert_eq!(answer, plain::validate(&damaged), "validation as a block of edition {edition}");
+        }
     }
 
     /// Measures every call against the plain program.
@@ -152,7 +190,7 @@ impl Case {
         self.report("insert", "plain", fills * self.entered.len(), &ours, &theirs);
         let (ours, theirs) = (|| self.emptied(fills, proved::remove), || self.emptied(fills, plain::remove));
         self.report("remove", "plain", fills * self.removed.len(), &ours, &theirs);
-        orders::report_block(&format!("| {} | {}", full.len() / CELL, self.map.len()), full);
+        orders::report_block(&self.start(), full);
     }
 
     /// Measures look-up and insertion against the standard library's map, which has no block and judges nothing.
@@ -173,8 +211,12 @@ impl Case {
     fn report(&self, call: &str, against: &str, calls: usize, ours: &Work, theirs: &Work) {
         let taken = measure(ours, theirs);
         let (ours, theirs) = (taken.ours / calls as f64, taken.theirs / calls as f64);
-        let (cells, labels) = (self.full.len() / CELL, self.map.len());
-        println!("| {cells} | {labels} | {call} | {against} | {ours:.0} | {theirs:.0} | {:.2} |", taken.ratio);
+        println!("{} | {call} | {against} | {ours:.0} | {theirs:.0} | {:.2} |", self.start(), taken.ratio);
+    }
+
+    /// The beginning of every line of the table for this case.
+    fn start(&self) -> String {
+        format!("| {} | {} | {} {}", self.full.len() / CELL, edition_of(&self.full), self.map.len(), self.name)
     }
 
     /// Asks for every label and adds the numbers up.

@@ -1,8 +1,9 @@
 //! Order words: the check of one alone, on the words of a block and on words drawn from all that are valid.
 
 use crate::labels::Random;
-use crate::plain::{cell_of, is_leaf, kind_of, put_word, root_of, word_at, CELL, SPARSE, SPLIT};
+use crate::plain::{cell_of, kind_of, put_word, word_at, CELL, SPARSE};
 use crate::timing::{measure, Work};
+use crate::walk::nodes;
 use crate::{plain, proved};
 use std::hint::black_box;
 
@@ -19,11 +20,11 @@ pub fn compare_and_report() {
     let valid: Vec<u16> = (0..=u16::MAX).filter(|order| judged(*order)).collect();
     assert_eq!(valid.len(), 436, "valid order words");
     let words: Vec<u16> = (0..WORDS).map(|_| valid[random.below(valid.len())]).collect();
-    report_words("| 4 | drawn", &words);
+    report_words("| 4 | 1 | drawn", &words);
     let blocks: Vec<Vec<u8>> = words.iter().map(|order| block_of(*order)).collect();
     let ours = || blocks.iter().map(|block| u64::from(proved::validate(black_box(block)))).sum();
     let theirs = || blocks.iter().map(|block| u64::from(plain::validate(black_box(block)))).sum();
-    report("| 4 | drawn | validate", &ours, &theirs);
+    report("| 4 | 1 | drawn | validate", &ours, &theirs);
 }
 
 /// Measures the check alone on the order words of a block, in the order in which a validation meets them.
@@ -50,33 +51,8 @@ fn report(start: &str, ours: &Work, theirs: &Work) {
 
 /// The order words that the root's tree of a sound block has, in rising order of the keys that lead to them.
 fn met_in(block: &[u8]) -> Vec<u16> {
-    let (mut met, mut next) = (Vec::new(), vec![root_of(block)]);
-    while let Some(word) = next.pop() {
-        if word == 0 || is_leaf(word) {
-            continue;
-        }
-        let offset = cell_of(word) * CELL;
-        let child = |at: usize, index: usize| word_at(block, at + 4 * index);
-        match kind_of(word) {
-            SPLIT => {
-                let below = |part: u32| (0..8).map(move |index| child(cell_of(part) * CELL, index)).filter(|word| *word != 0);
-                let mids = (0..4).map(|index| child(offset + 0x10, index)).filter(|word| *word != 0);
-                next.extend(mids.flat_map(below).flat_map(below).collect::<Vec<u32>>().into_iter().rev());
-            }
-            SPARSE => {
-                let mut rest = u16::from_be_bytes([block[offset + 0x1E], block[offset + 0x1F]]);
-                met.push(rest);
-                let mut children = Vec::new();
-                while rest != 0 {
-                    children.push(child(offset, usize::from(rest % 6)));
-                    rest /= 6;
-                }
-                next.extend(children.into_iter().rev());
-            }
-            _ => next.push(word_at(block, offset + 0x1C)),
-        }
-    }
-    met
+    let sparse = nodes(block).into_iter().filter(|word| kind_of(*word) == SPARSE);
+    sparse.map(|word| word_at(block, cell_of(word) * CELL + 0x1C) as u16).collect()
 }
 
 /// Whether an order word is valid, by both programs, alone and in its block.
@@ -106,7 +82,7 @@ fn is_valid(order: u16) -> bool {
 
 /// A block whose one node is a sparse cell with this order word, its characters rising as the word lists them.
 fn block_of(order: u16) -> Vec<u8> {
-    let mut block = vec![0; CELLS * CELL];
+    let mut block = plain::fresh(CELLS, 1);
     let (mut rest, mut count) = (order, 0);
     while rest != 0 {
         block[CELL + 0x18 + usize::from(rest % 6)] = 0x41 + count;
@@ -117,9 +93,6 @@ fn block_of(order: u16) -> Vec<u8> {
         put_word(&mut block, CELL + 4 * position, !(position as u32));
     }
     block[CELL + 0x1E..CELL + 0x20].copy_from_slice(&order.to_be_bytes());
-    let trailer = (CELLS - 1) * CELL;
-    put_word(&mut block, trailer, CELL as u32 + 0x1E);
-    put_word(&mut block, trailer + 0x14, CELLS as u32);
-    put_word(&mut block, trailer + 0x1C, 1);
+    put_word(&mut block, (CELLS - 1) * CELL, CELL as u32 + 0x1E);
     block
 }

@@ -4,6 +4,7 @@ use crate::insertion;
 use crate::removal;
 use crate::validation;
 use crate::walk;
+use std::ops::RangeInclusive;
 
 /// Bytes in one cell.
 pub const CELL: usize = 32;
@@ -17,8 +18,13 @@ pub const SPLIT: usize = 0x1C;
 pub const NO_KIND: usize = 0x1D;
 /// The kind of a sparse cell.
 pub const SPARSE: usize = 0x1E;
-/// The kind of a prefix cell.
+/// The kind of a prefix.
 pub const PREFIX: usize = 0x1F;
+
+/// The byte at 04 of a prefix with a cell of its own; any other is the offset of its node in the same cell.
+pub const STANDALONE: u8 = 0xFF;
+/// The offsets at which a node stands behind a prefix in its cell: those of chains, and a split head's.
+pub const EMBEDDED: RangeInclusive<usize> = 0x05..=SPLIT;
 
 /// The answer to the question for the next key: its size and its bytes, zero past the size.
 #[derive(Clone, Copy, Debug, PartialEq, Eq)]
@@ -56,6 +62,34 @@ pub fn kind_of(word: u32) -> usize {
 /// The root pointer of a block.
 pub fn root_of(block: &[u8]) -> u32 {
     word_at(block, block.len() - CELL)
+}
+
+/// The edition that a trailer names.
+pub fn edition_of(block: &[u8]) -> u32 {
+    word_at(block, block.len() - 4)
+}
+
+/// Whether prefixes may stand in the cells of their nodes.
+pub fn may_embed(block: &[u8]) -> bool {
+    edition_of(block) == 2
+}
+
+/// The node that a prefix is over: the one it names, or the one in its own cell.
+pub fn linked_word(block: &[u8], prefix: u32) -> u32 {
+    let cell = cell_of(prefix) * CELL;
+    match block[cell + 4] {
+        STANDALONE => word_at(block, cell + 0x1C),
+        offset => (cell + usize::from(offset)) as u32,
+    }
+}
+
+/// A fresh block of so many cells in an edition.
+pub fn fresh(cells: usize, edition: u32) -> Vec<u8> {
+    let mut block = vec![0; cells * CELL];
+    let trailer = block.len() - CELL;
+    put_word(&mut block, trailer + 0x14, cells as u32);
+    put_word(&mut block, trailer + 0x1C, edition);
+    block
 }
 
 /// Whether a block of this length holds from 4 to 2,048 whole cells.

@@ -3,6 +3,7 @@
 use crate::plain::Next;
 
 extern "C" {
+    fn exports_format(block: *mut u8, block_len: usize, edition: u32) -> u8;
     fn exports_validate(block: *const u8, block_len: usize) -> u8;
     fn exports_insert(
         block: *mut u8,
@@ -29,6 +30,12 @@ extern "C" {
 pub fn is_valid_order(word: u16) -> bool {
     // It takes and gives numbers only.
     unsafe { exports_is_valid_order(word) == 1 }
+}
+
+/// Makes the block a fresh one of an edition: the answer number.
+pub fn format(block: &mut [u8], edition: u32) -> u8 {
+    // The pointer comes with the length of its own slice.
+    unsafe { exports_format(block.as_mut_ptr(), block.len(), edition) }
 }
 
 /// Whether the block is sound, as an answer number.

@@ -3,7 +3,7 @@
 use crate::insertion::{sparse_image, write, Image, Stage};
 use crate::plain::{kind_of, put_word, root_of, word_at, CELL, SPARSE, SPLIT};
 use crate::validation::Reached;
-use crate::walk::{child_of, least_child};
+use crate::walk::{child_of, children};
 
 /// Builds the tree without a key that is there and writes it; nothing where it takes more cells than are free.
 pub fn remove(block: &mut [u8], reached: &Reached, key: &[u8]) -> Option<u32> {
@@ -31,7 +31,7 @@ impl Stage<'_> {
         };
         match set_aside {
             Some(value) if built == 0 => Some(!value),
-            Some(value) => self.prefix(value, built),
+            Some(value) => self.put_back(value, built),
             None => Some(built),
         }
     }
@@ -56,9 +56,7 @@ impl Stage<'_> {
     fn split_without(&mut self, word: u32, character: u8) -> Option<u32> {
         let mut kept = [(0, 0); 6];
         let mut count = 0;
-        let mut from = Some(0);
-        while let Some((found, child)) = from.and_then(|from| least_child(self.block, word, from)) {
-            from = found.checked_add(1);
+        for (found, child) in children(self.block, word) {
             if found == character {
                 continue;
             }

@@ -1,6 +1,7 @@
 //! Validation in the plain program: every rule of a sound block, with an array of the cells visited.
 
-use crate::plain::{cell_of, is_leaf, kind_of, word_at, CELL, LONGEST_KEY, NO_KIND, PREFIX, SPARSE, SPLIT};
+use crate::plain::{cell_of, edition_of, is_leaf, kind_of, linked_word, may_embed, word_at};
+use crate::plain::{CELL, EMBEDDED, LONGEST_KEY, NO_KIND, PREFIX, SPARSE, SPLIT, STANDALONE};
 
 /// For each cell one bit for each root (the root's own, then the snapshots') whose tree has entered it.
 pub type Reached = [u8; 2048];
@@ -32,7 +33,7 @@ fn valid_trailer(trailer: &[u8], cells: usize) -> bool {
         && trailer[0x11..0x14] == [0; 3]
         && word_at(trailer, 0x14) as usize == cells
         && word_at(trailer, 0x18) == 0
-        && word_at(trailer, 0x1C) == 1
+        && matches!(edition_of(trailer), 1 | 2)
         && (0..3).all(idle_zero)
 }
 
@@ -43,6 +44,7 @@ struct Visit<'a> {
     bit: u8,
 }
 
+// What judges one kind of cell is kept out of line: all in one frame, a validation took up to 8 of 100 longer.
 impl Visit<'_> {
     /// Whether a root is nothing, a chain, a sparse or a split with a sound tree.
     fn root(&mut self, word: u32) -> bool {
@@ -61,32 +63,36 @@ impl Visit<'_> {
 
     /// Whether a pointer that is not NONE leads to a sound tree, with so many characters left.
     fn node(&mut self, word: u32, left: usize) -> bool {
-        if is_leaf(word) {
-            return true;
-        }
-        if word == 0 || kind_of(word) == NO_KIND || !self.enter(word) {
-            return false;
-        }
+        is_leaf(word) || (word != 0 && kind_of(word) != NO_KIND && self.enter(word) && self.entered(word, left))
+    }
+
+    /// Whether the node of a cell that was entered for it leads to a sound tree, with so many characters left.
+    fn entered(&mut self, word: u32, left: usize) -> bool {
         let offset = cell_of(word) * CELL;
         match kind_of(word) {
             SPLIT => left > 0 && self.part(offset + 0x10, 4, 2, left - 1),
             SPARSE => left > 0 && self.sparse(offset, left - 1),
-            PREFIX => self.prefix(offset, left),
+            PREFIX => self.prefix(word, left),
             kind => 0x1C - kind <= left && self.node(word_at(self.block, offset + 0x1C), left - (0x1C - kind)),
         }
     }
 
-    /// Whether a prefix holds a value over a sound chain, sparse or split.
-    fn prefix(&mut self, offset: usize, left: usize) -> bool {
-        let link = word_at(self.block, offset + 0x1C);
-        self.block[offset] < 0x80
-            && self.block[offset + 4] == 0xFF
-            && !is_leaf(link)
-            && kind_of(link) != PREFIX
-            && self.node(link, left)
+    /// Whether a prefix holds a value over a sound chain, sparse or split; one in its own cell was entered with the prefix.
+    #[inline(never)]
+    fn prefix(&mut self, word: u32, left: usize) -> bool {
+        let offset = cell_of(word) * CELL;
+        let link = linked_word(self.block, word);
+        if self.block[offset] >= 0x80 {
+            return false;
+        }
+        match self.block[offset + 4] {
+            STANDALONE => !is_leaf(link) && kind_of(link) != PREFIX && self.node(link, left),
+            place => EMBEDDED.contains(&usize::from(place)) && may_embed(self.block) && self.entered(link, left),
+        }
     }
 
     /// Whether a sparse cell has a valid order word and two to six sound children.
+    #[inline(never)]
     fn sparse(&mut self, offset: usize, left: usize) -> bool {
         let block = self.block;
         let child = |position: usize| word_at(block, offset + 4 * position);
@@ -98,6 +104,7 @@ impl Visit<'_> {
     }
 
     /// Whether a head, mid or end holds a pointer at least, each of them sound; levels says how many parts lie below.
+    #[inline(never)]
     fn part(&mut self, offset: usize, words: usize, levels: usize, left: usize) -> bool {
         let mut any = false;
         for place in 0..words {

@@ -1,6 +1,7 @@
 //! The walks of the plain program over a sound block: to a key's value, and to the next key.
 
-use crate::plain::{cell_of, is_leaf, kind_of, word_at, CELL, LONGEST_KEY, PREFIX, SPARSE, SPLIT};
+use crate::plain::{cell_of, is_leaf, kind_of, linked_word, root_of, word_at};
+use crate::plain::{CELL, LONGEST_KEY, PREFIX, SPARSE, SPLIT};
 
 /// The value of a key below a pointer.
 pub fn value_of(block: &[u8], root: u32, key: &[u8]) -> Option<u32> {
@@ -21,7 +22,7 @@ pub fn value_of(block: &[u8], root: u32, key: &[u8]) -> Option<u32> {
 /// The node behind a prefix, or the node itself.
 fn without_prefix(block: &[u8], word: u32) -> u32 {
     if !is_leaf(word) && kind_of(word) == PREFIX {
-        word_at(block, cell_of(word) * CELL + 0x1C)
+        linked_word(block, word)
     } else {
         word
     }
@@ -97,6 +98,34 @@ fn least_in_split(block: &[u8], head: usize, from: u8) -> Option<(u8, u32)> {
         }
     }
     None
+}
+
+/// The children of a node with their characters, rising.
+pub fn children(block: &[u8], word: u32) -> impl Iterator<Item = (u8, u32)> + '_ {
+    let mut from = Some(0);
+    std::iter::from_fn(move || {
+        let (character, child) = least_child(block, word, from?)?;
+        from = character.checked_add(1);
+        Some((character, child))
+    })
+}
+
+/// The pointers to all nodes of the root's tree but leaves, in rising order of the keys that lead to them.
+pub fn nodes(block: &[u8]) -> Vec<u32> {
+    let (mut met, mut next) = (Vec::new(), vec![root_of(block)]);
+    while let Some(word) = next.pop() {
+        if word == 0 || is_leaf(word) {
+            continue;
+        }
+        met.push(word);
+        if kind_of(word) == PREFIX {
+            next.push(linked_word(block, word));
+        } else {
+            let below: Vec<u32> = children(block, word).map(|(_, child)| child).collect();
+            next.extend(below.into_iter().rev());
+        }
+    }
+    met
 }
 
 /// The size of the least key below a pointer that is above the bound (any key without one), its bytes in the path.

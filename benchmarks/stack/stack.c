@@ -10,7 +10,7 @@
 #define PAINT 0xA5
 #define KEY_LIMIT 48
 
-uint8_t exports_format(uint8_t *block, size_t size);
+uint8_t exports_format(uint8_t *block, size_t size, uint32_t edition);
 uint8_t exports_validate(const uint8_t *block, size_t size);
 uint8_t exports_insert(uint8_t *block, size_t size, const uint8_t *key, size_t length, uint32_t value, uint32_t *count);
 uint8_t exports_remove(uint8_t *block, size_t size, const uint8_t *key, size_t length, uint32_t *count);
@@ -111,7 +111,7 @@ static void fresh(size_t cells) {
     block_size = cells * 32;
     memset(key, 'A', KEY_LIMIT);
     key_length = KEY_LIMIT;
-    if (exports_format(block, block_size) != 0) exit(1);
+    if (exports_format(block, block_size, 1) != 0) exit(1);
 }
 
 int main(void) {

@@ -41,6 +41,20 @@ static void seven_children(void) {
     CHECK(answer_of_get(&block, "\x34", 1) == REGISTER_MISSING);
 }
 
+/* A fresh block of edition 2: a value goes into the cell of the chain below it, which the same insertion takes. */
+static void edition_two(void) {
+    static const uint8_t cell_two[CELL] = {0, 0, 0, 5, 0x1A, [26] = 0x48, 0x41, 0xFF, 0xFF, 0xFF, 0xFF};
+    uint32_t count;
+    uint32_t value;
+    fresh(&block, 8);
+    put_word(&block, trailer(&block) + 0x1C, 2);
+    CHECK(insert(&block, "C", 1, 5, &count) == REGISTER_DONE && count == 1);
+    CHECK(insert(&block, "CHA", 3, 0, &count) == REGISTER_DONE && count == 2);
+    CHECK(root(&block) == 0x7B && memcmp(bytes(&block) + 64, cell_two, CELL) == 0);
+    CHECK(get(&block, "C", 1, &value) == REGISTER_DONE && value == 5);
+    CHECK(get(&block, "CHA", 3, &value) == REGISTER_DONE && value == 0);
+}
+
 /* A block is 4 to 2,048 whole cells. */
 static void sizes(void) {
     uint32_t value;
@@ -79,13 +93,14 @@ static void values(void) {
     CHECK(answer_of_insert(&block, long_key, 48, 0) == REGISTER_NO_ROOM);
     CHECK(answer_of_insert(&block, long_key, 48, 2147483648) == REGISTER_BAD_VALUE);
     CHECK(answer_of_insert(&block, "A", 1, 0) == REGISTER_DONE);
-    bytes(&block)[trailer(&block) + 0x1F] = 2;
+    bytes(&block)[trailer(&block) + 0x1F] = 3;
     CHECK(answer_of_insert(&block, "", 0, 0xFFFFFFFF) == REGISTER_UNSOUND);
 }
 
 void test_insert_and_get(void) {
     long_keys();
     seven_children();
+    edition_two();
     sizes();
     values();
 }

@@ -2,11 +2,11 @@
 use mathlib.Core.Path.{_≡_, refl}
 use mathlib.Core.List.{List, [], _∷_, _++_, map}
 use Prim.Native.Nat.{ℕ}
-use lib.ListN.{take, set}
+use lib.ListN.{take, drop, set}
 use Rattle.cells.specs.Bytes.{zeros}
 use Rattle.nodes.specs.Written.{eightWords, chainBytes, sparseBytes, prefixBytes}
 use Rattle.blocks.specs.Computing.{readsOpen, nextOpen}
-use Rattle.blocks.specs.Read.{Found, get, Next, nextKey}
+use Rattle.blocks.specs.Read.{Found, get, Next, nextKey, validate}
 
 -- a sparse (3) of 7F with 6, FF with 7 and 41, where a prefix (2) of 5 links to a chain (1) of 42 with 3
 abbrev listed : List ℕ
@@ -17,13 +17,26 @@ listed =
     ++ sparseBytes 0xFFFFFFF9 0xFFFFFFF8 0x0000005F 0x7FFF4100 0x00000026
     ++ eightWords 0x0000007E 0 0 0 0 0x00000005 0x00000000 0x00000001
 
--- the same of edition 2, which is not sound
+-- the same of edition 3, which is not sound
 abbrev unsound : List ℕ
-unsound = set listed 159 2
+unsound = set listed 159 3
+
+-- the same table in edition 2, the prefix of 5 in the cell (1) of the chain, behind bytes with no meaning
+abbrev embedded : List ℕ
+embedded =
+    zeros 32
+    ++ eightWords 0x00000005 0x1BEEEEEE 0 0 0 0 0x00000042 0xFFFFFFFC
+    ++ sparseBytes 0xFFFFFFF9 0xFFFFFFF8 0x0000003F 0x7FFF4100 0x00000026
+    ++ zeros 32
+    ++ eightWords 0x0000005E 0 0 0 0 0x00000005 0x00000000 0x00000002
 
 -- the same without its last byte, which is no size
 abbrev cut : List ℕ
 cut = take 159 listed
+
+-- the same with this word for 7F
+abbrev secondWord : ℕ → List ℕ
+secondWord word = take 64 embedded ++ sparseBytes word 0xFFFFFFF8 0x0000003F 0x7FFF4100 0x00000026 ++ drop 96 embedded
 
 -- a look-up's answer and value
 abbrev found : Found → List ℕ
@@ -97,3 +110,18 @@ pub next-keys :
     ∷ [])
 unfolding nextOpen
 next-keys = refl
+
+-- 02, 3: "We want it read": its label, the one below it, the next of each; the same block of edition 1, where the offset is not valid, and with
+-- a second word into the cell, at 1F or at the chain's place
+pub embedded-read :
+    _≡_ {A = List (List ℕ)}
+    (found (get embedded (0x41 ∷ []))
+    ∷ found (get embedded (0x41 ∷ 0x42 ∷ []))
+    ∷ begun (nextKey embedded [])
+    ∷ begun (nextKey embedded (0x41 ∷ []))
+    ∷ found (get (set embedded 159 1) (0x41 ∷ []))
+    ∷ map validate (embedded ∷ set embedded 159 1 ∷ secondWord 0x3F ∷ secondWord 0x3B ∷ [])
+    ∷ [])
+    ((0 ∷ 5 ∷ []) ∷ (0 ∷ 3 ∷ []) ∷ (0 ∷ 1 ∷ 0x41 ∷ 0 ∷ 0 ∷ []) ∷ (0 ∷ 2 ∷ 0x41 ∷ 0x42 ∷ 0 ∷ []) ∷ (2 ∷ 0 ∷ []) ∷ (0 ∷ 2 ∷ 2 ∷ 2 ∷ []) ∷ [])
+unfolding nextOpen
+embedded-read = refl

@@ -159,7 +159,7 @@ pub slot-bits :
 unfolding zeros words inUse
 slot-bits = refl
 
--- a trailer as it must be; a word with no bit and with its bit; another bit; a byte at 13, n 5, a byte at 1B, edition 2
+-- a trailer as it must be; a word with no bit and with its bit; another bit; a byte at 13, n 5, a byte at 1B, the editions 2, 0 and 3
 pub trailers :
     _≡_ {A = List Bool}
     (map (λ block. validTrailer (layoutOf block) block)
@@ -171,7 +171,9 @@ pub trailers :
     ∷ trailing 0 0 0 0x00000000 0x00000005 0x00000000 0x00000001
     ∷ trailing 0 0 0 0x00000000 0x00000004 0x00000001 0x00000001
     ∷ trailing 0 0 0 0x00000000 0x00000004 0x00000000 0x00000002
+    ∷ trailing 0 0 0 0x00000000 0x00000004 0x00000000 0x00000000
+    ∷ trailing 0 0 0 0x00000000 0x00000004 0x00000000 0x00000003
     ∷ []))
-    (true ∷ false ∷ true ∷ false ∷ false ∷ false ∷ false ∷ false ∷ [])
+    (true ∷ false ∷ true ∷ false ∷ false ∷ false ∷ false ∷ true ∷ false ∷ false ∷ [])
 unfolding zeros words wordAt validEdition layoutOf slots slotAt inUse everySlot zeroFrom validTrailer
 trailers = refl

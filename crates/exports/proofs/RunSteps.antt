@@ -7,15 +7,15 @@ use Rattle.history.specs.declared.runner.RunAnswer.{RunAnswer}
 use Rattle.history.specs.Code.Running.{runOutcome, Meets}
 use Rattle.exports.specs.Code.RunNumbers.{stopNumber, endNumber, ranCount, numbersOf, runNumbers}
 
-module _ (start bytes answers : List ℕ) (told : RunAnswer) (block after : List ℕ) (meets : Meets start bytes answers (runOutcome told block after)) where
+module _ (start : List ℕ) (edition : ℕ) (bytes answers : List ℕ) (told : RunAnswer) (block after : List ℕ) (meets : Meets start edition bytes answers (runOutcome told block after)) where
   -- a run by its numbers
-  told-as : (what : RunAnswer) → told ≡ what → runNumbers start bytes answers ≡ record { ended = endNumber what; count = ranCount what; block = block; answers = after }
+  told-as : (what : RunAnswer) → told ≡ what → runNumbers start edition bytes answers ≡ record { ended = endNumber what; count = ranCount what; block = block; answers = after }
   told-as what is = ap numbersOf (meets .does) ∙ (λ i. record { ended = endNumber (is i); count = ranCount (is i); block = block; answers = after })
 
-  pub bad-size-told : told ≡ RunAnswer.BadSize → runNumbers start bytes answers ≡ record { ended = 1; count = 0; block = block; answers = after }
+  pub bad-size-told : told ≡ RunAnswer.BadSize → runNumbers start edition bytes answers ≡ record { ended = 1; count = 0; block = block; answers = after }
   bad-size-told is = told-as RunAnswer.BadSize is
 
   pub ran-told : (count : ℕ) (stop : Stop) (r : ℕ) → told ≡ RunAnswer.Ran count stop → r ≡ stopNumber stop
-      → runNumbers start bytes answers ≡ record { ended = r; count = count; block = block; answers = after }
+      → runNumbers start edition bytes answers ≡ record { ended = r; count = count; block = block; answers = after }
   ran-told count stop r is ends =
       told-as (RunAnswer.Ran count stop) is ∙ (λ i. record { ended = sym ends i; count = count; block = block; answers = after })

@@ -16,12 +16,12 @@ use snapshots::snapshot;
 use store::formatting::format;
 use store::removing::remove;
 
-// Makes a block fresh.
+// Makes a block fresh, of an edition.
 #[no_mangle]
-pub extern "C" fn exports_format(block: &mut [u8]) -> u8
-    ensures { λ r. ⌜ format (now (block .entry)) ≡ record { answer = r; block = now (block .exit) } ⌝ }
+pub extern "C" fn exports_format(block: &mut [u8], edition: u32) -> u8
+    ensures { λ r. ⌜ format (now (block .entry)) edition ≡ record { answer = r; block = now (block .exit) } ⌝ }
 {
-    change_number(format(block))
+    change_number(format(block, edition))
 }
 
 // Whether a block is valid in size and sound.

@@ -128,31 +128,31 @@ module _ (impl : Implementation) (count : ℕ) where
       run-told calls (outcome impl b c .block) (next l c (outcome impl b c)) (beside-next b l beside m c (keys .0, tt)) (follows-next b l m c (keys .0, tt)) (keys .1)
       ∙ ap (λ (o : Outcome). run ours (o .block) calls) (first-told b l beside m c (keys .0, tt))
 
-module _ (impl : Implementation) (d : Demand3 impl) (start : List ℕ) where
+module _ (impl : Implementation) (d : Demand3 impl) (edition : ℕ) (start : List ℕ) where
   -- the fresh block
-  pub fresh-as-ours : impl .formatCall start ≡ format start
-  fresh-as-ours = format-told start (impl .formatCall start) (d .formats start)
+  pub fresh-as-ours : impl .formatCall start edition ≡ format start edition
+  fresh-as-ours = format-told edition start (impl .formatCall start edition) (d .formats edition start)
 
-  module _ (done : format start .answer ≡ 0) where
-    does : impl .formatCall start .answer ≡ 0
+  module _ (done : format start edition .answer ≡ 0) where
+    does : impl .formatCall start edition .answer ≡ 0
     does = ap (λ (c : Changed). c .answer) fresh-as-ours ∙ done
 
-    follows : Follows impl (slots (layoutOf (format start .block))) (format start .block) emptyLedger
+    follows : Follows impl (slots (layoutOf (format start edition .block))) (format start edition .block) emptyLedger
     follows =
         record {
-          answers = λ calls keys. subst (λ (c : Changed). AfterList impl (c .block) calls) fresh-as-ours (d .afterList start does calls keys) .answers;
+          answers = λ calls keys. subst (λ (c : Changed). AfterList impl (c .block) calls) fresh-as-ours (d .afterList edition start does calls keys) .answers;
           each = λ before call keys.
-              subst (λ (c : Changed). AtCall impl (run impl (c .block) before) call) fresh-as-ours (d .atCall start does before call [] keys);
+              subst (λ (c : Changed). AtCall impl (run impl (c .block) before) call) fresh-as-ours (d .atCall edition start does before call [] keys);
         }
 
-    beside : Beside (slots (layoutOf (format start .block))) (format start .block) emptyLedger
-    beside = beside-fresh 1 start (format start .block) (format-law start done)
+    beside : Beside (slots (layoutOf (format start edition .block))) (format start edition .block) emptyLedger
+    beside = beside-fresh edition start (format start edition .block) (format-law edition start done)
 
     -- each call after any list: its answer, its count and the block that it leaves
     pub call-as-ours : (before : List Call) (call : Call) → KeysAreBytes (before ++ call ∷ [])
-        → outcome impl (run impl (format start .block) before) call ≡ outcome ours (run ours (format start .block) before) call
-    call-as-ours before call keys = call-told impl _ before call (format start .block) emptyLedger beside follows keys
+        → outcome impl (run impl (format start edition .block) before) call ≡ outcome ours (run ours (format start edition .block) before) call
+    call-as-ours before call keys = call-told impl _ before call (format start edition .block) emptyLedger beside follows keys
 
     -- the block after any list
-    pub run-as-ours : (calls : List Call) → KeysAreBytes calls → run impl (format start .block) calls ≡ run ours (format start .block) calls
-    run-as-ours calls keys = run-told impl _ calls (format start .block) emptyLedger beside follows keys
+    pub run-as-ours : (calls : List Call) → KeysAreBytes calls → run impl (format start edition .block) calls ≡ run ours (format start edition .block) calls
+    run-as-ours calls keys = run-told impl _ calls (format start edition .block) emptyLedger beside follows keys

@@ -14,7 +14,7 @@ use Rattle.cells.specs.Memory.{memoryOf}
 use Rattle.cells.proofs.Choice.{never}
 use Rattle.cells.proofs.Words.{set-bytes, bytes-zeros}
 use Rattle.trees.specs.Lookup.{emptyTable, sameKey, assign, update}
-use Rattle.nodes.specs.Layout.{trailerCells, isTrailer}
+use Rattle.nodes.specs.Layout.{trailerCells, isTrailer, validEdition}
 use Rattle.blocks.specs.Trailer.{badLength, layoutOf, rootWord, slots, validSlot, slotWord}
 use Rattle.blocks.specs.Sound.{sound}
 use Rattle.blocks.specs.Refusal.{overLong, badKey, badNewKey, badValue}
@@ -40,14 +40,18 @@ unfolding zeros
 letter-bytes = set-bytes (zeros 1) 0 0x41 (bytes-zeros 1) (omega arith)
 
 abbrev fresh : List ℕ
-fresh = format (zeros 128) .block
+fresh = format (zeros 128) 1 .block
+
+first-edition : validEdition 1 ≡ true
+unfolding validEdition
+first-edition = refl
 
 sized : badNewSize 1 (zeros 128) ≡ false
 unfolding trailerCells badLength zeros
 sized = refl
 
-formats : format (zeros 128) .answer ≡ 0
-formats = format-done (zeros 128) sized
+formats : format (zeros 128) 1 .answer ≡ 0
+formats = format-done 1 (zeros 128) first-edition sized
 
 abbrev insertOne : Call
 insertOne = inserting letter 0
@@ -64,7 +68,7 @@ thenRemove = insertOne ∷ removing letter ∷ []
 -- always no: formatting must answer 0
 pub always-no-refuted : (number : ℕ) → number ≢ 0 → Demand3 (alwaysNo number) → ⊥
 unfolding alwaysNo
-always-no-refuted number other d = other (d .formats (zeros 128) .done .given sized)
+always-no-refuted number other d = other (d .formats 1 (zeros 128) .done .given (first-edition, sized))
 
 -- always no once formatted: 7 needs a full block, and any other answer to a good key and value is the ledger's 0
 insert-fits : cellsFree fresh < cellsToInsert fresh letter → ⊥
@@ -82,9 +86,9 @@ answers-number number = refl
 pub only-formats-refuted : (number : ℕ) → number ≢ 0 → Demand3 (onlyFormats number) → ⊥
 unfolding onlyFormats outcome run
 only-formats-refuted number other d = elim (ℕ-discrete number 7) [
-  | yes e ↦ insert-fits (d .atCall (zeros 128) formats [] insertOne [] (letter-bytes, tt) .kind .lacks e .more)
+  | yes e ↦ insert-fits (d .atCall 1 (zeros 128) formats [] insertOne [] (letter-bytes, tt) .kind .lacks e .more)
   | no n ↦
-      let same = sym (answers-number number) ∙ d .afterList (zeros 128) formats (insertOne ∷ []) (letter-bytes, tt) .answers ∙ ledger-zero number n in
+      let same = sym (answers-number number) ∙ d .afterList 1 (zeros 128) formats (insertOne ∷ []) (letter-bytes, tt) .answers ∙ ledger-zero number n in
       other (ap (λ (l : List ℕ). getD l 0 0) same)
 ]
 
@@ -103,7 +107,7 @@ nothing-inserted = (refl, refl)
 pub inserts-nothing-refuted : Demand3 insertsNothing → ⊥
 unfolding insertsNothing
 inserts-nothing-refuted d =
-    never (sym (nothing-inserted .0) ∙ d .afterList (zeros 128) formats (insertOne ∷ []) (letter-bytes, tt) .agrees .present letter ∙ nothing-inserted .1)
+    never (sym (nothing-inserted .0) ∙ d .afterList 1 (zeros 128) formats (insertOne ∷ []) (letter-bytes, tt) .agrees .present letter ∙ nothing-inserted .1)
 
 -- a snapshot that stores no root: the ledger's slot has the key, the block's slot does not show it
 no-root-stored :
@@ -117,7 +121,7 @@ no-root-stored = (refl, refl, refl, refl)
 pub stores-no-root-refuted : Demand3 storesNoRoot → ⊥
 unfolding storesNoRoot
 stores-no-root-refuted d =
-    let slot = d .afterList (zeros 128) formats thenSnapshot (letter-bytes, (tt, tt)) .agrees .held 1 (no-root-stored .3) in
+    let slot = d .afterList 1 (zeros 128) formats thenSnapshot (letter-bytes, (tt, tt)) .agrees .held 1 (no-root-stored .3) in
     never (sym (no-root-stored .1) ∙ slot .shows (update emptyTable letter 0) (no-root-stored .0) letter ∙ no-root-stored .2)
 
 -- a restore that alters nothing: the ledger's present table is empty again, the block still shows the key
@@ -130,7 +134,7 @@ nothing-restored = (refl, refl)
 pub restores-nothing-refuted : Demand3 restoresNothing → ⊥
 unfolding restoresNothing
 restores-nothing-refuted d =
-    never (sym (nothing-restored .0) ∙ sym (d .afterList (zeros 128) formats thenRestore (tt, (letter-bytes, (tt, tt))) .agrees .present letter) ∙ nothing-restored .1)
+    never (sym (nothing-restored .0) ∙ sym (d .afterList 1 (zeros 128) formats thenRestore (tt, (letter-bytes, (tt, tt))) .agrees .present letter) ∙ nothing-restored .1)
 
 -- an invented count: the build lays down one cell, and two are counted
 count-invented :
@@ -143,7 +147,7 @@ count-invented = (refl, refl, refl)
 pub invents-count-refuted : Demand3 inventsCount → ⊥
 unfolding inventsCount run
 invents-count-refuted d =
-    let laid = d .atCall (zeros 128) formats [] insertOne [] (letter-bytes, tt) .kind .laid (count-invented .0) in
+    let laid = d .atCall 1 (zeros 128) formats [] insertOne [] (letter-bytes, tt) .kind .laid (count-invented .0) in
     omega (arith, laid .counted, count-invented .1, count-invented .2)
 
 -- a snapshot that writes cell 0: the cell is none of the trailer's, and its first byte was 0
@@ -158,12 +162,12 @@ cell-zero-written = (refl, refl, refl, refl)
 pub writes-cell-zero-refuted : Demand3 writesCellZero → ⊥
 unfolding writesCellZero run
 writes-cell-zero-refuted d =
-    let kept = d .atCall (zeros 128) formats [] (snapshotting 1) [] (tt, tt) .kind (cell-zero-written .0) .cells 0 (cell-zero-written .1) in
+    let kept = d .atCall 1 (zeros 128) formats [] (snapshotting 1) [] (tt, tt) .kind (cell-zero-written .0) .cells 0 (cell-zero-written .1) in
     omega (arith, ap (λ (l : List ℕ). getD l 0 0) kept, cell-zero-written .2, cell-zero-written .3)
 
 -- a restore by a copy: the block is sound and shows the key with the value of the slot, and the root is another one
 abbrev freshEight : List ℕ
-freshEight = format (zeros 256) .block
+freshEight = format (zeros 256) 1 .block
 
 eight-sized : badNewSize 1 (zeros 256) ≡ false
 unfolding trailerCells badLength zeros
@@ -188,7 +192,7 @@ pub restores-by-copy-refuted : Demand3 restoresByCopy → ⊥
 unfolding restoresByCopy
 restores-by-copy-refuted d =
     let root =
-    d .atCall (zeros 256) (format-done (zeros 256) eight-sized) beforeCopy (restoring 1) [] (letter-bytes, (tt, (letter-bytes, (tt, tt))))
+    d .atCall 1 (zeros 256) (format-done 1 (zeros 256) first-edition eight-sized) beforeCopy (restoring 1) [] (letter-bytes, (tt, (letter-bytes, (tt, tt))))
     .kind (restored-by-copy .0) .root in
     omega (arith, root, restored-by-copy .1, restored-by-copy .2)
 
@@ -202,7 +206,7 @@ nothing-removed = (refl, refl)
 pub removes-nothing-refuted : Demand3 removesNothing → ⊥
 unfolding removesNothing
 removes-nothing-refuted d =
-    never (sym (nothing-removed .0) ∙ sym (d .afterList (zeros 128) formats thenRemove (letter-bytes, (letter-bytes, tt)) .agrees .present letter) ∙ nothing-removed .1)
+    never (sym (nothing-removed .0) ∙ sym (d .afterList 1 (zeros 128) formats thenRemove (letter-bytes, (letter-bytes, tt)) .agrees .present letter) ∙ nothing-removed .1)
 
 -- a removal that counts one cell too many: the last key leaves no cell, and one is counted
 removal-overcounted :
@@ -215,7 +219,7 @@ removal-overcounted = (refl, refl, refl)
 pub overcounts-removals-refuted : Demand3 overcountsRemovals → ⊥
 unfolding overcountsRemovals
 overcounts-removals-refuted d =
-    let laid = d .atCall (zeros 128) formats (insertOne ∷ []) (removing letter) [] (letter-bytes, (letter-bytes, tt)) .kind .laid (removal-overcounted .0) in
+    let laid = d .atCall 1 (zeros 128) formats (insertOne ∷ []) (removing letter) [] (letter-bytes, (letter-bytes, tt)) .kind .laid (removal-overcounted .0) in
     omega (arith, laid .counted, removal-overcounted .1, removal-overcounted .2)
 
 -- a removal that always answers 11: the ledger has the key and answers 0
@@ -228,5 +232,5 @@ always-eleven = (refl, refl)
 pub always-missing-refuted : Demand3 alwaysMissing → ⊥
 unfolding alwaysMissing
 always-missing-refuted d =
-    let same = sym (always-eleven .0) ∙ d .afterList (zeros 128) formats thenRemove (letter-bytes, (letter-bytes, tt)) .answers ∙ always-eleven .1 in
+    let same = sym (always-eleven .0) ∙ d .afterList 1 (zeros 128) formats thenRemove (letter-bytes, (letter-bytes, tt)) .answers ∙ always-eleven .1 in
     omega (arith, ap (λ (l : List ℕ). getD l 1 0) same)

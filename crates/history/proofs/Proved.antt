@@ -15,16 +15,16 @@ use Rattle.history.proofs.OneCall.{call-at}
 use Rattle.history.proofs.Determined as determined
 use Rattle.history.proofs.Lists.{Ran, list-law, keys-before, key-at}
 
-module _ (start : List ℕ) (done : format start .answer ≡ 0) where
+module _ (edition : ℕ) (start : List ℕ) (done : format start edition .answer ≡ 0) where
   -- a run from the fresh block
-  fresh-ran : (calls : List Call) → KeysAreBytes calls → Ran (slots (layoutOf (format start .block))) (format start .block) emptyLedger calls
-  fresh-ran = list-law _ (format start .block) emptyLedger (beside-fresh 1 start (format start .block) (format-law start done))
+  fresh-ran : (calls : List Call) → KeysAreBytes calls → Ran (slots (layoutOf (format start edition .block))) (format start edition .block) emptyLedger calls
+  fresh-ran = list-law _ (format start edition .block) emptyLedger (beside-fresh edition start (format start edition .block) (format-law edition start done))
 
-  pub after-list : (calls : List Call) → KeysAreBytes calls → AfterList ours (format start .block) calls
+  pub after-list : (calls : List Call) → KeysAreBytes calls → AfterList ours (format start edition .block) calls
   after-list calls keys = let ran = fresh-ran calls keys in record { answers = ran .answers; agrees = ran .beside .agrees }
 
   pub at-call : (before : List Call) (call : Call) (after : List Call) → KeysAreBytes (before ++ call ∷ after)
-      → AtCall ours (run ours (format start .block) before) call
+      → AtCall ours (run ours (format start edition .block) before) call
   at-call before call after keys =
       call-at _ _ _ (fresh-ran before (keys-before before call after keys) .beside) call (key-at before call after keys)
 
@@ -33,11 +33,11 @@ unfolding ours
 demand3 = record { formats = format-table; afterList = after-list; atCall = at-call }
 
 -- 01: "Nothing left to the builder's taste": the answer, the count and the block of each call after any list, and the block after the list
-pub call-as-ours : (impl : Implementation) → Demand3 impl → (start : List ℕ) → format start .answer ≡ 0 → (before : List Call) (call : Call)
+pub call-as-ours : (impl : Implementation) → Demand3 impl → (edition : ℕ) (start : List ℕ) → format start edition .answer ≡ 0 → (before : List Call) (call : Call)
     → KeysAreBytes (before ++ call ∷ [])
-    → outcome impl (run impl (format start .block) before) call ≡ outcome ours (run ours (format start .block) before) call
+    → outcome impl (run impl (format start edition .block) before) call ≡ outcome ours (run ours (format start edition .block) before) call
 call-as-ours = determined.call-as-ours
 
-pub run-as-ours : (impl : Implementation) → Demand3 impl → (start : List ℕ) → format start .answer ≡ 0 → (calls : List Call)
-    → KeysAreBytes calls → run impl (format start .block) calls ≡ run ours (format start .block) calls
+pub run-as-ours : (impl : Implementation) → Demand3 impl → (edition : ℕ) (start : List ℕ) → format start edition .answer ≡ 0 → (calls : List Call)
+    → KeysAreBytes calls → run impl (format start edition .block) calls ≡ run ours (format start edition .block) calls
 run-as-ours = determined.run-as-ours

@@ -14,9 +14,9 @@ use Rattle.blocks.specs.Refusal.{Changed}
 use Rattle.blocks.specs.Answers.{changeNumber, changedOutcome}
 use Rattle.blocks.specs.declared.answer.ChangeAnswer.{ChangeAnswer}
 use Rattle.blocks.specs.declared.answer.Refusal as declared
-use Rattle.blocks.proofs.Refusals.{refused-block}
 use Rattle.blocks.proofs.RefusalSteps.{refused-number, done-number}
-use Rattle.store.specs.Format.{freshOf, formatRefusals, format}
+use Rattle.store.specs.Format.{format}
+use Rattle.store.proofs.Format.{format-refused}
 use Rattle.history.specs.Calls.{Call, ours, outcome, run, answersOf}
 use Rattle.history.specs.Code.Encoded.{Decoded, decodeCall, following, decoded, stopped}
 use Rattle.history.specs.Code.Running.{numbered, answered, RunOutcome, runOutcome, runOver, runCalls}
@@ -132,26 +132,22 @@ part-rest l at h =
     ∙ take-append-drop (length l - at) (drop at l)
 
 -- the block is not formatted, and it is
-module _ (start after bytes answers : List ℕ) (answer : ChangeAnswer) (e : format start ≡ changedOutcome answer after) where
-  format-number : format start .answer ≡ changeNumber answer
+module _ (start : List ℕ) (edition : ℕ) (after bytes answers : List ℕ) (answer : ChangeAnswer) (e : format start edition ≡ changedOutcome answer after) where
+  format-number : format start edition .answer ≡ changeNumber answer
   format-number = ap (λ (c : Changed). c .answer) e
 
-  format-block : format start .block ≡ after
+  format-block : format start edition .block ≡ after
   format-block = ap (λ (c : Changed). c .block) e
 
-  unformatted : format start .answer ≢ 0 → format start .block ≡ start
-  unfolding format
-  unformatted n = refused-block (formatRefusals 1 start) start (freshOf 1 start) n
-
-  pub run-refused : (why : declared.Refusal) → answer ≡ ChangeAnswer.Refused why → runCalls start bytes answers ≡ runOutcome RunAnswer.BadSize after answers
+  pub run-refused : (why : declared.Refusal) → answer ≡ ChangeAnswer.Refused why → runCalls start edition bytes answers ≡ runOutcome RunAnswer.BadSize after answers
   unfolding runCalls
   run-refused why is =
-      let n : format start .answer ≢ 0 = λ z. refused-number answer why is (sym format-number ∙ z) in
-      let kept : start ≡ after = sym (unformatted n) ∙ format-block in
-      rw (ne-eqb (format start .answer) 0 n) (ap (λ (b : List ℕ). runOutcome RunAnswer.BadSize b answers) kept)
+      let n : format start edition .answer ≢ 0 = λ z. refused-number answer why is (sym format-number ∙ z) in
+      let kept : start ≡ after = sym (format-refused edition start n) ∙ format-block in
+      rw (ne-eqb (format start edition .answer) 0 n) (ap (λ (b : List ℕ). runOutcome RunAnswer.BadSize b answers) kept)
 
-  pub run-done : (o : RunOutcome) → answer ≡ ChangeAnswer.Done → ranFrom (length answers) 0 after bytes answers ≡ o → runCalls start bytes answers ≡ o
+  pub run-done : (o : RunOutcome) → answer ≡ ChangeAnswer.Done → ranFrom (length answers) 0 after bytes answers ≡ o → runCalls start edition bytes answers ≡ o
   unfolding runCalls
   run-done o is ran =
-      rw (eq-eqb (format start .answer) 0 (format-number ∙ done-number answer is))
+      rw (eq-eqb (format start edition .answer) 0 (format-number ∙ done-number answer is))
       (ap (λ (b : List ℕ). runOver b bytes answers) format-block ∙ ran-start after bytes answers ∙ ran)

@@ -32,31 +32,31 @@ abbrev countOf : RunAnswer → ℕ
 countOf RunAnswer.BadSize = 0
 countOf (RunAnswer.Ran count stop) = count
 
-module _ (start bytes answers : List ℕ) (all : IsBytes bytes) where
-  upheld-over : format start .answer ≡ 0 → (count : ℕ) (stop : Stop) → runOver (format start .block) bytes answers .answer ≡ RunAnswer.Ran count stop
-      → Upheld start (callsRun bytes answers) count (runOver (format start .block) bytes answers .block) (runOver (format start .block) bytes answers .answers)
+module _ (start : List ℕ) (edition : ℕ) (bytes answers : List ℕ) (all : IsBytes bytes) where
+  upheld-over : format start edition .answer ≡ 0 → (count : ℕ) (stop : Stop) → runOver (format start edition .block) bytes answers .answer ≡ RunAnswer.Ran count stop
+      → Upheld start edition (callsRun bytes answers) count (runOver (format start edition .block) bytes answers .block) (runOver (format start edition .block) bytes answers .answers)
   unfolding runOver
   upheld-over done count stop e =
       let calls : List Call = callsRun bytes answers in
-      let fresh : List ℕ = format start .block in
+      let fresh : List ℕ = format start edition .block in
       let keys : KeysAreBytes calls = decoded-keys (length answers) bytes all in
-      let after : AfterList ours fresh calls = after-list start done calls keys in
+      let after : AfterList ours fresh calls = after-list edition start done calls keys in
       let many : length calls ≡ count = ap countOf e in
       record {
         formatted = done;
         all = sym many;
         numbers = take-at (answersOf ours fresh calls) (drop (length calls) answers) count (answers-length fresh calls ∙ many) ∙ after .answers;
         agrees = after .agrees;
-        each = λ before call rest is. at-call start done before call rest (subst KeysAreBytes is keys);
+        each = λ before call rest is. at-call edition start done before call rest (subst KeysAreBytes is keys);
       }
 
-  upheld-either : (t : Bool) → eqb (format start .answer) 0 ≡ t → (o : RunOutcome) → o ≡ cond t (runOver (format start .block) bytes answers) (runOutcome RunAnswer.BadSize start answers)
-      → (count : ℕ) (stop : Stop) → o .answer ≡ RunAnswer.Ran count stop → Upheld start (callsRun bytes answers) count (o .block) (o .answers)
+  upheld-either : (t : Bool) → eqb (format start edition .answer) 0 ≡ t → (o : RunOutcome) → o ≡ cond t (runOver (format start edition .block) bytes answers) (runOutcome RunAnswer.BadSize start answers)
+      → (count : ℕ) (stop : Stop) → o .answer ≡ RunAnswer.Ran count stop → Upheld start edition (callsRun bytes answers) count (o .block) (o .answers)
   upheld-either true t o is count stop e =
-      subst (λ (p : RunOutcome). Upheld start (callsRun bytes answers) count (p .block) (p .answers)) (sym is)
-      (upheld-over (eqb-true (format start .answer) 0 t) count stop (ap (λ (p : RunOutcome). p .answer) (sym is) ∙ e))
+      subst (λ (p : RunOutcome). Upheld start edition (callsRun bytes answers) count (p .block) (p .answers)) (sym is)
+      (upheld-over (eqb-true (format start edition .answer) 0 t) count stop (ap (λ (p : RunOutcome). p .answer) (sym is) ∙ e))
   upheld-either false t o is count stop e = absurd-false (ap (λ (p : RunOutcome). ranAny (p .answer)) (sym is) ∙ ap ranAny e)
 
-  pub meets : (o : RunOutcome) → runCalls start bytes answers ≡ o → Meets start bytes answers o
+  pub meets : (o : RunOutcome) → runCalls start edition bytes answers ≡ o → Meets start edition bytes answers o
   unfolding runCalls
-  meets o is = record { does = is; upheld = upheld-either (eqb (format start .answer) 0) refl o (sym is) }
+  meets o is = record { does = is; upheld = upheld-either (eqb (format start edition .answer) 0) refl o (sym is) }

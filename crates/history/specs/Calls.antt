@@ -19,7 +19,7 @@ pub data Call : Type 0 where
 
 -- six functions on bytes
 pub record Implementation : Type 0 where
-  pub formatCall : List ℕ → Changed
+  pub formatCall : List ℕ → ℕ → Changed
   pub insertCall : List ℕ → List ℕ → ℕ → Counted
   pub removeCall : List ℕ → List ℕ → Counted
   pub snapshotCall : List ℕ → ℕ → Changed

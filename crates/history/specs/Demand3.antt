@@ -78,11 +78,13 @@ pub record AtCall (impl : Implementation) (block : List ℕ) (call : Call) : Typ
   pub refused : outcome impl block call .answer ≢ 0 → outcome impl block call .block ≡ block
   pub kind : AtKind block call (outcome impl block call)
 
--- 01: "Demand 3 holds from every fresh book that can be made. It is a single claim about the whole list"
+-- 01: "Demand 3 holds from every fresh book that can be made. It is a single claim about the whole list": of every edition, whatever the
+-- block held before
 pub record Demand3 (impl : Implementation) : Type 0 where
-  -- 01: "A fresh book is all zero but for n and the edition", made exactly where answer 1 does not apply, and answer 1 leaves the block
-  pub formats : (start : List ℕ) → FormatTable start (impl .formatCall start)
-  pub afterList : (start : List ℕ) → impl .formatCall start .answer ≡ 0 → (calls : List Call) → KeysAreBytes calls
-      → AfterList impl (impl .formatCall start .block) calls
-  pub atCall : (start : List ℕ) → impl .formatCall start .answer ≡ 0 → (before : List Call) (call : Call) (after : List Call) → KeysAreBytes (before ++ call ∷ after)
-      → AtCall impl (run impl (impl .formatCall start .block) before) call
+  -- 01: "A fresh book is all zero but for n and the edition", made exactly where answer 1 does not apply, and answer 1 leaves the block;
+  -- 02, 3: "A fresh book is asked for by edition, 1 or 2, else answer 1"
+  pub formats : (edition : ℕ) (start : List ℕ) → FormatTable edition start (impl .formatCall start edition)
+  pub afterList : (edition : ℕ) (start : List ℕ) → impl .formatCall start edition .answer ≡ 0 → (calls : List Call) → KeysAreBytes calls
+      → AfterList impl (impl .formatCall start edition .block) calls
+  pub atCall : (edition : ℕ) (start : List ℕ) → impl .formatCall start edition .answer ≡ 0 → (before : List Call) (call : Call) (after : List Call)
+      → KeysAreBytes (before ++ call ∷ after) → AtCall impl (run impl (impl .formatCall start edition .block) before) call

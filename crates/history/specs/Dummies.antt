@@ -29,7 +29,7 @@ refusesChange number block = record { answer = number; count = 0; block = block 
 unfoldable pub alwaysNo : ℕ → Implementation
 alwaysNo number =
     record {
-      formatCall = refuses number;
+      formatCall = λ block edition. refuses number block;
       insertCall = λ block key value. refusesChange number block;
       removeCall = λ block key. refusesChange number block;
       snapshotCall = λ block slot. refuses number block;

@@ -156,7 +156,7 @@ removals-tables = refl
 
 -- what was fed of each answer
 abbrev flags : List Call → List Bool
-flags calls = map (λ f. f .noRoom) (fedBy ours (format (zeros 128) .block) calls)
+flags calls = map (λ f. f .noRoom) (fedBy ours (format (zeros 128) 1 .block) calls)
 
 -- 01: "of the answers, only whether an entry got 7": a block with no free cell while slot 1 is held, then one free
 pub fed-sevens :

@@ -17,7 +17,7 @@ letter = 0x41 ∷ []
 
 -- 01: "fresh 4"
 abbrev fresh : List ℕ
-fresh = format (zeros 128) .block
+fresh = format (zeros 128) 1 .block
 
 -- the root word of a block
 abbrev rootOf : List ℕ → ℕ

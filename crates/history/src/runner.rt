@@ -29,7 +29,8 @@ pub enum Stepped {
     Did(usize, u8),
 }
 
-// What a run did: nothing where the block's size is bad, else how many calls it ran and why it stopped.
+// What a run did: nothing where the block's size is bad or there is no such edition, else how many calls it ran and why it
+// stopped.
 pub enum RunAnswer {
     BadSize,
     Ran(usize, Stop),
@@ -133,12 +134,12 @@ fn step_call(block: &mut [u8], bytes: &[u8]) -> Stepped
     Stepped::Nothing
 }
 
-// Formats a block and runs the encoded calls one after another, each answer number into the next answer byte: up to the
-// end of the calls, the first bytes that encode none, or the end of the answer bytes.
-pub fn run_calls(block: &mut [u8], calls: &[u8], answers: &mut [u8]) -> RunAnswer
-    ensures { λ r. ⌜ Meets (now (block .entry)) (now (calls .entry)) (now (answers .entry)) (runOutcome r (now (block .exit)) (now (answers .exit))) ⌝ }
+// Formats a block, of an edition, and runs the encoded calls one after another, each answer number into the next answer byte:
+// up to the end of the calls, the first bytes that encode none, or the end of the answer bytes.
+pub fn run_calls(block: &mut [u8], edition: u32, calls: &[u8], answers: &mut [u8]) -> RunAnswer
+    ensures { λ r. ⌜ Meets (now (block .entry)) edition (now (calls .entry)) (now (answers .entry)) (runOutcome r (now (block .exit)) (now (answers .exit))) ⌝ }
 {
-    let ChangeAnswer::Done = format(block) else {
+    let ChangeAnswer::Done = format(block, edition) else {
         return RunAnswer::BadSize;
     };
     let mut at: usize = 0;

@@ -2,7 +2,7 @@
 use mathlib.Core.Path.{_≡_, refl, sym, ap, _∙_, subst}
 use mathlib.Core.Logic.{_≢_}
 use mathlib.Core.Bool.{Bool, true, false, cond}
-use mathlib.Core.List.{List, [], _∷_}
+use mathlib.Core.List.{List, [], _∷_, _++_}
 use mathlib.Core.Option.{none, some}
 use Prim.Native.Nat.{ℕ, _/_, _%_, _≤_, _<_}
 use native.Mathlib.Decide.{ℕ-discrete}
@@ -12,7 +12,7 @@ use borrow.Author.Tests.{ne-eqb, eqb-false}
 use Rattle.cells.specs.Memory.{Memory}
 use Rattle.cells.specs.Occurrences.{occurrences}
 use Rattle.cells.proofs.Choice.{never, bound, keep, kept, kept-not}
-use Rattle.cells.proofs.Occurrences.{occurrences-none, occurrences-same, occurrences-cons-other, occurrences-later, Agree, agree-less, agree-head, agree-tail}
+use Rattle.cells.proofs.Occurrences.{occurrences-none, occurrences-append, occurrences-later, Agree, agree-less, agree-head, agree-tail}
 use Rattle.nodes.specs.Layout.{Layout}
 use Rattle.nodes.specs.Pointer.{Pointer, pointer}
 use Rattle.nodes.specs.Pointer.Pointer.{nothing, leaf, chain, split, sparse, prefix, invalid}
@@ -22,6 +22,7 @@ use Rattle.nodes.specs.Split.{headWord, branchWord, validHead, validBran
 use Rattle.nodes.specs.Prefix.{prefixValue, prefixLink, prefixCells, validPrefix}
 use Rattle.nodes.specs.Node.{Node, childless, chainNode, sparseNode, splitNode, prefixed, plain, readAt, read}
 use Rattle.nodes.proofs.Pointers.{names, pointer-zero}
+use Rattle.nodes.proofs.Prefixes.{prefix-cells-most}
 use Rattle.nodes.proofs.Gather.{gather-at, under-zero, under-word, Framed, words-frame}
 
 -- two nodes with the same value, cells and footprint, and the same child words of the characters
@@ -59,12 +60,6 @@ unfolding wordBelow
 below-word m w i other = rw (ne-eqb w 0 other)
 
 -- a cell is visited no more often than it is read: what this asks of lists
-cons-most : (c x : ℕ) (xs ys : List ℕ) → occurrences c xs ≤ occurrences c ys → occurrences c (x ∷ xs) ≤ occurrences c (x ∷ ys)
-cons-most c x xs ys h = elim (ℕ-discrete c x) [
-  | yes e ↦ omega (arith, occurrences-same c x xs e, occurrences-same c x ys e)
-  | no n ↦ omega (arith, occurrences-cons-other c x xs n, occurrences-cons-other c x ys n)
-]
-
 visited-most : (c x : ℕ) (t : Bool) → occurrences c (cond t (x ∷ []) []) ≤ occurrences c (x ∷ [])
 visited-most c x true = omega arith
 visited-most c x false = occurrences-later c x []
@@ -205,7 +200,14 @@ module _ (layout : Layout) where
   prefix-cells m c X e x =
       let p = prefix-cut m c X e in
       let linked : Within x (p .0) = plain-cells m (pointer layout (prefixLink c (m c))) (p .0) (p .2) x in
-      subst (Within x) (p .3) (cons-most x c (p .0 .cells) (p .0 .footprint) linked)
+      subst (Within x) (p .3)
+      (omega (
+        arith,
+        linked,
+        prefix-cells-most c (m c) x,
+        occurrences-append x (prefixCells c (m c)) (p .0 .cells),
+        occurrences-append x (c ∷ []) (p .0 .footprint),
+      ))
 
   readAt-cells : (m : Memory) (p : Pointer) (X : Node) → readAt layout m p ≡ some X → (x : ℕ) → Within x X
   unfolding readAt
@@ -359,7 +361,7 @@ module _ (layout : Layout) where
         let like : Like (prefixed (prefixValue (m c)) (prefixCells c (m c)) c Z) (prefixed (prefixValue (m′ c)) (prefixCells c (m′ c)) c (f .0)) =
         record {
           value = ap (λ s. some (prefixValue s)) cell;
-          cells = ap (λ l. c ∷ l) (f .2 .cells);
+          cells = ap (λ s. prefixCells c s ++ Z .cells) cell ∙ ap (λ l. prefixCells c (m′ c) ++ l) (f .2 .cells);
           footprint = ap (λ l. c ∷ l) (f .2 .footprint);
           child = f .2 .child;
         } in (

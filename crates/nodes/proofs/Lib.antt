@@ -1,5 +1,6 @@
 pub mod Pointers
 pub mod Gather
+pub mod Prefixes
 pub mod Frame
 pub mod Chain
 pub mod Read

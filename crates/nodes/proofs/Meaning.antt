@@ -1,8 +1,8 @@
 -- 01: "Bytes with no meaning aren't judged.": two cells that are alike at the bytes with a meaning are judged and read alike.
 use mathlib.Core.Path.{_≡_, refl, sym, ap, _∙_}
 use mathlib.Core.Logic.{inl, inr}
-use mathlib.Core.Bool.{Bool, true, false, _&&_, not, cond}
-use mathlib.Core.List.{List, map}
+use mathlib.Core.Bool.{Bool, true, false, _&&_, _||_, not, cond}
+use mathlib.Core.List.{List, [], _∷_, map}
 use Prim.Native.Nat.{ℕ, zero, suc, _+_, _-_, _*_, _≤_, _<_}
 use native.Mathlib.Decide.{ℕ-discrete}
 use native.Mathlib.Omega.{arith}
@@ -19,8 +19,10 @@ use Rattle.nodes.specs.Chain.{chainCharacter, chainChild}
 use Rattle.nodes.specs.Sparse.{someWord, everyWord, sparseWord, sparseCharacter, sparseDigits, sparseCount, validSparse, childFrom, sparseChild}
 use Rattle.nodes.specs.Split.{headWord, branchWord, validHead, validBranch}
 use Rattle.nodes.specs.Layout.{Layout}
-use Rattle.nodes.specs.Prefix.{prefixValue, prefixLink, validPrefix}
+use Rattle.nodes.specs.Pointer.{wordTo}
+use Rattle.nodes.specs.Prefix.{prefixValue, prefixOffset, standalone, prefixLink, prefixCells, validOffset, validPrefix}
 use Rattle.nodes.proofs.Chain.{chain-child-inside}
+use Rattle.nodes.proofs.Prefixes.{link-alone, link-embedded}
 use Rattle.nodes.proofs.SparseNodes.SparseSteps.{count-small}
 
 -- two cells are alike at some offsets
@@ -122,16 +124,32 @@ module _ (s t : List ℕ) (alike : Alike InBranch s t) where
   valid-branch-alike = some-alike (branchWord s) (branchWord t) 8 0 (λ p low high. branch-word-alike p (omega arith))
 
 -- a prefix
-module _ (layout : Layout) (c : ℕ) (s t : List ℕ) (alike : Alike InPrefix s t) where
+module _ (layout : Layout) (c : ℕ) (s t : List ℕ) (alike : Alike (InPrefix (standalone s)) s t) where
   pub prefix-value-alike : prefixValue s ≡ prefixValue t
   prefix-value-alike = word-agree s t 0 0 (λ r less. alike (0 + r) (inl (omega arith)))
 
+  pub prefix-offset-alike : prefixOffset s ≡ prefixOffset t
+  prefix-offset-alike = alike 4 (inl (omega arith))
+
   pub prefix-link-alike : prefixLink c s ≡ prefixLink c t
-  prefix-link-alike = word-agree s t 28 28 (λ r less. alike (28 + r) (inr (omega arith, omega arith)))
+  prefix-link-alike = by (standalone s) refl
+    where
+      same : standalone s ≡ standalone t
+      same = ap (λ offset. eqb offset 255) prefix-offset-alike
+
+      by : (alone : Bool) → standalone s ≡ alone → prefixLink c s ≡ prefixLink c t
+      by true alone =
+          link-alone c s alone ∙ word-agree s t 28 28 (λ r less. alike (28 + r) (inr (alone, omega arith, omega arith)))
+          ∙ sym (link-alone c t (sym same ∙ alone))
+      by false other = link-embedded c s other ∙ ap (wordTo c) prefix-offset-alike ∙ sym (link-embedded c t (sym same ∙ other))
+
+  pub prefix-cells-alike : prefixCells c s ≡ prefixCells c t
+  unfolding prefixCells
+  prefix-cells-alike = ap (λ offset. cond (eqb offset 255) (c ∷ []) []) prefix-offset-alike
 
   pub valid-prefix-alike : validPrefix layout s ≡ validPrefix layout t
   unfolding validPrefix
   valid-prefix-alike =
       let value = prefix-value-alike in
-      let tag = alike 4 (inl (omega arith)) in
-      λ i. ltb (value i) 2147483648 && eqb (tag i) 255
+      let offset = prefix-offset-alike in
+      λ i. ltb (value i) 2147483648 && (eqb (offset i) 255 || validOffset layout (offset i))

@@ -16,7 +16,7 @@ use Rattle.nodes.specs.Pointer.{Pointer, pointer}
 use Rattle.nodes.specs.Pointer.Pointer.{nothing, leaf, chain, split, sparse, prefix, invalid}
 use Rattle.nodes.specs.Sparse.{sparseCount}
 use Rattle.nodes.specs.Split.{headWord, branchWord, validHead, gather, under, splitCell, endCells, midCells, headCells, wordBelow, splitChild}
-use Rattle.nodes.specs.Prefix.{prefixValue, prefixLink, prefixCells, validPrefix}
+use Rattle.nodes.specs.Prefix.{prefixValue, standalone, prefixLink, prefixCells, validPrefix}
 use Rattle.nodes.specs.Node.{Node, oneChild, chainNode, splitNode, prefixed, plain, readAt, read}
 use Rattle.nodes.proofs.Pointers.{names}
 use Rattle.nodes.proofs.Gather.{gather-at, under-word}
@@ -25,7 +25,7 @@ use Rattle.nodes.specs.Meaning.{InChain, InSparse, InHead, InBranch, InP
 use Rattle.nodes.proofs.Meaning.{Alike}
 use Rattle.nodes.proofs.Meaning.{chain-character-alike, chain-child-alike, valid-sparse-alike, sparse-child-alike}
 use Rattle.nodes.proofs.Meaning.{head-word-alike, valid-head-alike, branch-word-alike, valid-branch-alike}
-use Rattle.nodes.proofs.Meaning.{prefix-value-alike, prefix-link-alike, valid-prefix-alike}
+use Rattle.nodes.proofs.Meaning.{prefix-value-alike, prefix-link-alike, prefix-cells-alike, valid-prefix-alike}
 
 -- a byte, by its cell and its offset there, has a meaning
 module _ (layout : Layout) (m : Memory) where
@@ -54,7 +54,7 @@ module _ (layout : Layout) (m : Memory) where
   NodeMeans (chain d k) c i = PlainMeans (chain d k) c i
   NodeMeans (split d) c i = PlainMeans (split d) c i
   NodeMeans (sparse d) c i = PlainMeans (sparse d) c i
-  NodeMeans (prefix d) c i = ((c ≡ d) × InPrefix i) ⊎ PlainMeans (pointer layout (prefixLink d (m d))) c i
+  NodeMeans (prefix d) c i = ((c ≡ d) × InPrefix (standalone (m d)) i) ⊎ PlainMeans (pointer layout (prefixLink d (m d))) c i
   NodeMeans invalid c i = ⊥
 
 -- two memories are alike at the bytes that have a meaning
@@ -257,16 +257,17 @@ module _ (layout : Layout) (m m′ : Memory) where
   prefix-alike : (c : ℕ) → AlikeAt m m′ (NodeMeans layout m (prefix c)) → SameNode (readAt layout m (prefix c)) (readAt layout m′ (prefix c))
   unfolding readAt
   prefix-alike c alike =
-      let bytes : Alike InPrefix (m c) (m′ c) = λ i near. alike c i (inl (refl, near)) in
+      let bytes : Alike (InPrefix (standalone (m c))) (m c) (m′ c) = λ i near. alike c i (inl (refl, near)) in
       let valid = valid-prefix-alike layout c (m c) (m′ c) bytes in
       let value = prefix-value-alike layout c (m c) (m′ c) bytes in
       let link = prefix-link-alike layout c (m c) (m′ c) bytes in
+      let visited = prefix-cells-alike layout c (m c) (m′ c) bytes in
       let linked = plain-alike (prefixLink c (m c)) (pointer layout (prefixLink c (m c))) refl (λ d i means. alike d i (inr means)) in
       let both = prefixed-alike (validPrefix layout (m c)) (prefixValue (m c)) (prefixCells c (m c)) c _ _ linked in
       let right : cond (validPrefix layout (m c))
       (bind (plain layout m′ (pointer layout (prefixLink c (m c)))) (λ l. some (prefixed (prefixValue (m c)) (prefixCells c (m c)) c l))) none
       ≡ readAt layout m′ (prefix c) =
-      λ i. cond (valid i) (bind (plain layout m′ (pointer layout (link i))) (λ l. some (prefixed (value i) (c ∷ []) c l))) none in
+      λ i. cond (valid i) (bind (plain layout m′ (pointer layout (link i))) (λ l. some (prefixed (value i) (visited i) c l))) none in
       subst (SameNode (readAt layout m (prefix c))) right both
 
   -- the node that a word names

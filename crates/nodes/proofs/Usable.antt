@@ -6,7 +6,7 @@ use Prim.Native.Nat.{ℕ, _+_, _-_, _≤_, _<_}
 use native.Mathlib.Decide.{decLt}
 use native.Mathlib.Omega.{arith}
 use lib.Dec.{leb}
-use borrow.Author.Tests.{lt-ltb, le-ltb, le-leb, lt-leb, leb-true, eqb-true}
+use borrow.Author.Tests.{lt-ltb, le-ltb, le-leb, lt-leb, leb-true}
 use Rattle.cells.proofs.Choice.{absurd-bool, both, both-left, both-right}
 use Rattle.nodes.specs.Layout.{Layout, trailerCells, isTrailer, validEdition, usable}
 use Rattle.nodes.proofs.Pointers.{usable-high}
@@ -24,7 +24,16 @@ module _ (layout : Layout) where
 -- an edition is a word
 pub edition-small : (edition : ℕ) → validEdition edition ≡ true → edition < 4294967296
 unfolding validEdition
-edition-small edition valid = omega (arith, eqb-true edition 1 valid)
+edition-small edition valid = omega (arith, leb-true edition 2 (both-right (leb 1 edition) (leb edition 2) valid))
+
+-- a number below the first is no edition
+pub no-edition : (edition : ℕ) → edition < 1 → false ≡ validEdition edition
+unfolding validEdition
+no-edition edition low = rw (lt-leb 1 edition low)
+
+pub edition-by-last : (edition : ℕ) → 1 ≤ edition → leb edition 2 ≡ validEdition edition
+unfolding validEdition
+edition-by-last edition low = rw (le-leb 1 edition low)
 
 module _ (layout : Layout) (cell : ℕ) where
   -- a trailer cell is among the last

@@ -1,5 +1,7 @@
 -- 01: "Bytes with no meaning": which bytes of a cell have one, by the kind that it is read as.
+use mathlib.Core.Path.{_≡_}
 use mathlib.Core.Logic.{_⊎_, ⊎-elim}
+use mathlib.Core.Bool.{Bool, true}
 use native.Mathlib.Omega.{arith}
 use Prim.Native.Nat.{ℕ, _+_, _≤_, _<_}
 
@@ -19,9 +21,9 @@ InHead i = (0x10 ≤ i) × (i < 32)
 abbrev pub InBranch : ℕ → Type 0
 InBranch i = i < 32
 
--- a prefix: its value, the byte FF, the linked pointer
-abbrev pub InPrefix : ℕ → Type 0
-InPrefix i = (i < 5) ⊎ ((0x1C ≤ i) × (i < 32))
+-- a prefix: its value and the byte at 04; where it has its cell for itself, the linked pointer
+abbrev pub InPrefix : Bool → ℕ → Type 0
+InPrefix alone i = (i < 5) ⊎ ((alone ≡ true) × (0x1C ≤ i) × (i < 32))
 
 -- 01, "How a pointer reads": the bytes that the text of each kind does not name have no meaning. A chain: those before its first character
 pub outside-chain : (place i : ℕ) → i < place → InChain place i → ⊥
@@ -35,6 +37,6 @@ outside-sparse count i low high meant = ⊎-elim (λ before. omega arith) (λ af
 pub outside-head : (i : ℕ) → i < 0x10 → InHead i → ⊥
 outside-head i low meant = omega (arith, meant .1)
 
--- a prefix: 05 to 1B
-pub outside-prefix : (i : ℕ) → 0x05 ≤ i → i < 0x1C → InPrefix i → ⊥
-outside-prefix i low high meant = ⊎-elim (λ before. omega arith) (λ after. omega (arith, after .1)) meant
+-- a prefix: 05 to 1B, and behind these what is not the linked node's
+pub outside-prefix : (alone : Bool) (i : ℕ) → 0x05 ≤ i → i < 0x1C → InPrefix alone i → ⊥
+outside-prefix alone i low high meant = ⊎-elim (λ before. omega arith) (λ after. omega (arith, after .1)) meant

@@ -10,13 +10,13 @@ use Rattle.cells.specs.Memory.{Memory, memoryOf}
 use Rattle.cells.specs.Occurrences.{occurrences, all}
 use Rattle.order_words.specs.Digits.{digits}
 use Rattle.order_words.specs.Order.{eachOnce, place, validDigits, rising}
-use Rattle.nodes.specs.Layout.{Layout, trailerCells, usable, six}
+use Rattle.nodes.specs.Layout.{Layout, mayEmbed, trailerCells, usable, sixOf, six}
 use Rattle.nodes.specs.Pointer.{Pointer, byKind, pointer}
 use Rattle.nodes.specs.Pointer.Pointer.{nothing, leaf, chain, split, sparse, prefix, invalid}
 use Rattle.nodes.specs.Chain.{chainCharacter, chainChild}
 use Rattle.nodes.specs.Sparse.{someWord, everyWord, sparseDigits, validSparse, childFrom, sparseChild}
 use Rattle.nodes.specs.Split.{gather, under, splitCell, endCells, midCells, validHead, headCells, wordBelow, splitChild}
-use Rattle.nodes.specs.Prefix.{prefixValue, prefixLink, prefixCells, validPrefix}
+use Rattle.nodes.specs.Prefix.{prefixValue, prefixLink, prefixCells, validOffset, validPrefix}
 use Rattle.nodes.specs.Written.{words, eightWords, chainBytes, sparseBytes, prefixBytes, headBytes, branchBytes}
 use mathlib.Core.Bool.{cond}
 
@@ -98,7 +98,7 @@ pub prefix-links :
     _≡_ {A = List (Option (List ℕ))}
     (map linked (0x0000005E ∷ 0x00000000 ∷ 0xFFFFFFFE ∷ 0x0000007F ∷ 0x0000005D ∷ []))
     (some (1 ∷ 2 ∷ 0xFFFFFFFE ∷ 0xFFFFFFFD ∷ []) ∷ none ∷ none ∷ none ∷ none ∷ [])
-unfolding bind zeros words wordAt memoryOf trailerCells usable byKind pointer chainChild digits occurrences all eachOnce place validDigits rising sparseDigits everyWord someWord validSparse childFrom gather headCells splitChild validPrefix chainNode plain readAt read
+unfolding bind zeros words wordAt memoryOf trailerCells usable byKind pointer chainChild digits occurrences all eachOnce place validDigits rising sparseDigits everyWord someWord validSparse childFrom gather headCells splitChild prefixLink prefixCells validPrefix chainNode plain readAt read
 prefix-links = refl
 
 -- a chain of 41 and 43 in cell 1 with this word at 1C
@@ -154,5 +154,38 @@ pub node-values :
     ∷ none
     ∷ none
     ∷ [])
-unfolding bind zeros words wordAt memoryOf trailerCells usable byKind pointer chainChild digits occurrences all eachOnce place validDigits rising sparseDigits everyWord someWord validSparse childFrom gather headCells splitChild validPrefix chainNode plain readAt read
+unfolding bind zeros words wordAt memoryOf trailerCells usable byKind pointer chainChild digits occurrences all eachOnce place validDigits rising sparseDigits everyWord someWord validSparse childFrom gather headCells splitChild prefixLink prefixCells validPrefix chainNode plain readAt read
 node-values = refl
+
+-- the cells that a node visits, its value, then its child words of 41 and 43: read at a word of an edition 2 block with these cells 1, 2 and 3
+abbrev embeddedIn : List ℕ → List ℕ → List ℕ → ℕ → Option (List ℕ × Option ℕ)
+embeddedIn one two three word =
+    bind (read (sixOf 2) (memoryOf (zeros 32 ++ one ++ two ++ three)) word)
+    (λ node. some (node .cells ++ (node .child 0x41 ∷ node .child 0x43 ∷ []), node .value))
+
+-- a chain of 41 and 43 in cell 1 with a prefix of 5 in the same cell, by the byte at 04 in front of bytes with no meaning
+abbrev overChain : ℕ → ℕ → Option (List ℕ × Option ℕ)
+overChain offset word = embeddedIn (eightWords 5 offset 0xEEEEEEEE 0xEEEEEEEE 0 0 0x00004143 0xFFFFFFFE) (zeros 32) (zeros 32) word
+
+-- 02, 3: "value at 00-03, the linked node's offset at 04, pointer kind 1F", "such a prefix and its node are one entry into their cell": the
+-- cell is visited where the run ends, as by the chain alone; at 1B the prefix is over the run's last character
+pub over-chains :
+    _≡_ {A = List (Option (List ℕ × Option ℕ))}
+    (overChain 0x1AEEEEEE 0x0000003F ∷ overChain 0x1BEEEEEE 0x0000003F ∷ overChain 0x1AEEEEEE 0x0000003A ∷ overChain 0x04EEEEEE 0x0000003F ∷ overChain 0x1DEEEEEE 0x0000003F ∷ [])
+    (some (0x0000003B ∷ 0 ∷ [], some 5) ∷ some (1 ∷ 0 ∷ 0xFFFFFFFE ∷ [], some 5) ∷ some (0x0000003B ∷ 0 ∷ [], none) ∷ none ∷ none ∷ [])
+unfolding bind zeros words wordAt memoryOf mayEmbed trailerCells usable byKind pointer chainChild prefixLink prefixCells validOffset validPrefix chainNode plain readAt read
+over-chains = refl
+
+-- a split with its head in cell 1, where a prefix of 5 is too; its mid is cell 2 and its end, with 41 and 43, cell 3
+abbrev overHead : ℕ → ℕ → Option (List ℕ × Option ℕ)
+overHead offset word =
+    embeddedIn (eightWords 5 offset 0xEEEEEEEE 0xEEEEEEEE 0 0x0000005C 0 0) (branchBytes 0x0000007C 0) (eightWords 0 0xFFFFFFFE 0 0xFFFFFFFD 0 0 0 0) word
+
+-- document 000: "Both `0x51C` and `0x51F` are valid pointers in this cell. .. The only difference between the two is the result of a call to
+-- `content()`"; offset 1B is a chain whose child is NONE
+pub over-heads :
+    _≡_ {A = List (Option (List ℕ × Option ℕ))}
+    (overHead 0x1CEEEEEE 0x0000003F ∷ overHead 0x1CEEEEEE 0x0000003C ∷ overHead 0x1BEEEEEE 0x0000003F ∷ [])
+    (some (1 ∷ 2 ∷ 3 ∷ 0xFFFFFFFE ∷ 0xFFFFFFFD ∷ [], some 5) ∷ some (1 ∷ 2 ∷ 3 ∷ 0xFFFFFFFE ∷ 0xFFFFFFFD ∷ [], none) ∷ none ∷ [])
+unfolding bind zeros words wordAt memoryOf mayEmbed trailerCells usable byKind pointer chainChild someWord gather under splitCell endCells midCells headCells wordBelow splitChild prefixLink prefixCells validOffset validPrefix chainNode plain readAt read
+over-heads = refl

@@ -1,7 +1,7 @@
 // What a block's edition and size decide.
 ghost use mathlib.Core.Path.{_≡_};
 ghost use Prim.Native.Nat.{_<_};
-ghost use Rattle.nodes.specs.Layout.{trailerCells, isTrailer, leastCells, validEdition, usable, keyLimit, cellLimit};
+ghost use Rattle.nodes.specs.Layout.{trailerCells, isTrailer, leastCells, validEdition, mayEmbed, usable, keyLimit, cellLimit};
 
 // The most characters that a key may have.
 pub const KEY_LIMIT: usize = 48;
@@ -53,7 +53,17 @@ fn is_trailer(layout: Layout, cell: usize) -> bool
 pub fn is_valid_edition(edition: u32) -> bool
     ensures { λ r. ⌜ r ≡ validEdition edition ⌝ }
 {
-    edition == 1
+    if edition < 1 {
+        return false;
+    }
+    edition <= 2
+}
+
+// Whether a prefix may stand in the cell of its node.
+pub fn may_embed(layout: Layout) -> bool
+    ensures { λ r. ⌜ r ≡ mayEmbed layout ⌝ }
+{
+    2 <= layout.edition
 }
 
 // Whether a cell may hold a node: all but the first and the trailer's may.

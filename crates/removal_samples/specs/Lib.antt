@@ -2,3 +2,4 @@ pub mod Blocks
 pub mod Pinned
 pub mod Refusals
 pub mod Kept
+pub mod Embedded

@@ -6,7 +6,7 @@ use Rattle.cells.specs.Bytes.{zeros}
 use Rattle.nodes.specs.Written.{chainBytes, sparseBytes, eightWords, headBytes}
 use Rattle.store.specs.Remove.{remove}
 use Rattle.store.specs.Computing.{callsOpen}
-use Rattle.samples.specs.Calls.{fresh, sampleA, sampleE, sampleF, sampleG, sampleH}
+use Rattle.samples.specs.Calls.{freshIn, fresh, sampleA, sampleE, sampleF, sampleG, sampleH}
 use Rattle.removal_samples.specs.Blocks.{inserted, told}
 
 -- 02, 1: "none makes NONE": 41, the only key, removed from A: the whole block, cell 1 with its bytes, the root 0; and once more, 11
@@ -17,12 +17,12 @@ pub only-key-removed :
     ∷ (zeros 32 ++ chainBytes 0x00000041 0xFFFFFFFF ++ zeros 32 ++ eightWords 0x00000000 0 0 0 0x00000000 0x00000004 0x00000000 0x00000001)
     ∷ (11 ∷ 0 ∷ 0x00000000 ∷ [])
     ∷ [])
-unfolding callsOpen fresh sampleA
+unfolding callsOpen freshIn fresh sampleA
 only-key-removed = refl
 
 -- "two to six make a sparse written in rising order": 41 removed from G, whose sparse cell has 35 behind 41 and 43
 pub rewritten-rising : _≡_ {A = List (List ℕ)} (told (remove (sampleG .block) (0x41 ∷ [])) (2 ∷ [])) ((0 ∷ 1 ∷ 0x0000005E ∷ []) ∷ sparseBytes 0xFFFFFFFD 0x0000003A 0 0x35430000 0x00000006 ∷ [])
-unfolding callsOpen fresh sampleE sampleF sampleG
+unfolding callsOpen freshIn fresh sampleE sampleF sampleG
 rewritten-rising = refl
 
 -- "a prefix its linked node": 43 removed from H; "A value over NONE becomes a leaf": 43 48 41 removed from H
@@ -30,7 +30,7 @@ pub prefix-removed :
     _≡_ {A = List (List ℕ)}
     (told (remove (sampleH .block) (0x43 ∷ [])) (4 ∷ []) ++ told (remove (sampleH .block) (0x43 ∷ 0x48 ∷ 0x41 ∷ [])) (4 ∷ []))
     ((0 ∷ 1 ∷ 0x0000009B ∷ []) ∷ chainBytes 0x00000043 0x0000003A ∷ (0 ∷ 1 ∷ 0x0000009B ∷ []) ∷ chainBytes 0x00000043 0xFFFFFFFA ∷ [])
-unfolding callsOpen fresh sampleE sampleH
+unfolding callsOpen freshIn fresh sampleE sampleH
 prefix-removed = refl
 
 -- seven children of a split, 42 removed: six in a sparse cell, in rising order
@@ -38,7 +38,7 @@ pub six-left :
     _≡_ {A = List (List ℕ)}
     (told (remove (inserted (fresh 16) (0x33 ∷ 0x35 ∷ 0x41 ∷ 0x42 ∷ 0x43 ∷ 0x50 ∷ 0x51 ∷ []) 0) (0x42 ∷ [])) (2 ∷ []))
     ((0 ∷ 1 ∷ 0x0000005E ∷ []) ∷ eightWords 0xFFFFFFFF 0xFFFFFFFE 0xFFFFFFFD 0xFFFFFFFB 0xFFFFFFFA 0xFFFFFFF9 0x33354143 0x5051AEF6 ∷ [])
-unfolding callsOpen fresh inserted
+unfolding callsOpen freshIn fresh inserted
 six-left = refl
 
 -- with 52 as the eighth, 33 removed: "keeps more than six stays a split", its end, mid and head new, in this order
@@ -50,7 +50,7 @@ pub seven-left :
     ∷ eightWords 0 0 0 0 0 0 0x000000BC 0
     ∷ headBytes 0x000000DC 0x0000011C 0 0
     ∷ [])
-unfolding callsOpen fresh inserted
+unfolding callsOpen freshIn fresh inserted
 seven-left = refl
 
 -- "Split cells with no pointer left aren't rebuilt.": 33 is alone in its end and that in its mid, and only the head is new
@@ -58,5 +58,5 @@ pub emptied-cells :
     _≡_ {A = List (List ℕ)}
     (told (remove (inserted (fresh 24) (0x33 ∷ 0x41 ∷ 0x42 ∷ 0x43 ∷ 0x50 ∷ 0x51 ∷ 0x52 ∷ 0x53 ∷ []) 0) (0x33 ∷ [])) (5 ∷ []))
     ((0 ∷ 1 ∷ 0x000000BC ∷ []) ∷ headBytes 0 0x0000011C 0 0 ∷ [])
-unfolding callsOpen fresh inserted
+unfolding callsOpen freshIn fresh inserted
 emptied-cells = refl

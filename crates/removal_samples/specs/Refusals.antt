@@ -21,7 +21,7 @@ full = twoKeys 0x0000003B 0x01000000 0x00000001
 
 -- an edition that there is none of
 abbrev unsound : List ℕ
-unsound = twoKeys 0x0000003B 0x01000000 0x00000002
+unsound = twoKeys 0x0000003B 0x01000000 0x00000003
 
 -- the same with one byte more
 abbrev oddSize : List ℕ

@@ -20,7 +20,7 @@ fn count_of(answer: CountAnswer) -> u32 {
 // The only key of sample A, twice.
 fn only_key() {
     let mut block = [0xA5u8; 128];
-    format(&mut block);
+    format(&mut block, 1);
     insert(&mut block, b"A", 0);
     lines::number(b"A without 41 count ", count_of(remove(&mut block, b"A")));
     lines::bytes(b"A without 41 block ", &block);
@@ -33,7 +33,7 @@ fn only_key() {
 // A key of sample G, whose sparse cell is written anew.
 fn written_anew() {
     let mut block = [0xA5u8; 256];
-    format(&mut block);
+    format(&mut block, 1);
     insert(&mut block, b"CHA", 0);
     insert(&mut block, b"A", 1);
     insert(&mut block, b"5", 2);
@@ -45,7 +45,7 @@ fn written_anew() {
 // Both keys of sample H, each from a block of its own.
 fn prefix_cell() {
     let mut block = [0xA5u8; 256];
-    format(&mut block);
+    format(&mut block, 1);
     insert(&mut block, b"CHA", 0);
     insert(&mut block, b"C", 5);
     let mut other = block;
@@ -59,7 +59,7 @@ fn prefix_cell() {
 // The seven children that make a split: one that keeps six of them, and, with an eighth, one that keeps seven.
 fn splits() {
     let mut block = [0u8; 512];
-    format(&mut block);
+    format(&mut block, 1);
     insert(&mut block, b"3", 0);
     insert(&mut block, b"5", 1);
     insert(&mut block, b"A", 2);
@@ -85,7 +85,7 @@ fn splits() {
 // A split whose end and mid are emptied.
 fn emptied_cells() {
     let mut block = [0u8; 768];
-    format(&mut block);
+    format(&mut block, 1);
     insert(&mut block, b"3", 0);
     insert(&mut block, b"A", 1);
     insert(&mut block, b"B", 2);
@@ -101,7 +101,7 @@ fn emptied_cells() {
 // A block with no free cell, until a slot is released.
 fn full_block() {
     let mut block = [0u8; 128];
-    format(&mut block);
+    format(&mut block, 1);
     insert(&mut block, b"A", 0);
     snapshot(&mut block, 1);
     insert(&mut block, b"B", 1);

@@ -10,11 +10,11 @@ use Rattle.cells.specs.Bytes.{IsBytes}
 use Rattle.cells.specs.Memory.{Memory}
 use Rattle.cells.specs.Occurrences.{occurrences}
 use Rattle.cells.proofs.Choice.{never}
-use Rattle.cells.proofs.Occurrences.{occurrences-none, occurrences-later, Agree, agree-less}
+use Rattle.cells.proofs.Occurrences.{occurrences-none, occurrences-append, Agree, agree-less}
 use Rattle.nodes.specs.Layout.{Layout, usable, cellLimit}
 use Rattle.nodes.specs.Pointer.{Pointer, pointer}
 use Rattle.nodes.specs.Pointer.Pointer.{nothing, leaf, chain, split, sparse, prefix, invalid}
-use Rattle.nodes.specs.Prefix.{prefixLink}
+use Rattle.nodes.specs.Prefix.{prefixLink, prefixCells}
 use Rattle.nodes.specs.Node.{Node, childless, plain, readAt, read}
 use Rattle.nodes.proofs.Pointers.{names}
 use Rattle.nodes.proofs.Frame.{read-is, read-zero}
@@ -77,7 +77,7 @@ module _ (layout : Layout) (small : layout .cells ≤ cellLimit) (number : ℕ �
         let r = read-prefix layout m w (q .0) (q .2) c named in
         let l = link-tree layout m d w c cs named found in
         let linked : read layout m (prefixLink c (m c)) ≡ some (r .0) = read-plain layout m u (r .0) (r .2) in
-        word-ends u (l .0) (r .0) (l .1) (λ z. omega (arith, occurrences-later z c (l .0), ap (occurrences z) (l .2))) linked
+        word-ends u (l .0) (r .0) (l .1) (λ z. omega (arith, occurrences-append z (prefixCells c (m c)) (l .0), ap (occurrences z) (l .2))) linked
         (plain-value layout m (pointer layout u) (r .0) (r .2)) (omega (arith, plain-small layout small m u (pointer layout u) (r .0) refl (r .2)))
         (λ y k near.
         lookup-cons layout m u y k (r .0) near linked ∙ ap (λ (N : Node). lookup layout m (N .child y) k) (r .3)

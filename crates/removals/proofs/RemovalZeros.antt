@@ -26,7 +26,7 @@ use Rattle.nodes.proofs.Frame.{read-is}
 use Rattle.trees.specs.Tree.{tree}
 use Rattle.trees.proofs.Tree.{tree-cut, tree-below}
 use Rattle.staging.specs.NewCells.{chainCell, headCopy}
-use Rattle.staging.proofs.CellBytes.{headCopy-cell}
+use Rattle.staging.proofs.CellBytes.{word-cell, headCopy-cell}
 use Rattle.staging.proofs.CellZeros.{chain-zero, head-copy-zero}
 use Rattle.updates.specs.Built.{Built, unowned, allocate}
 use Rattle.updates.specs.SplitBuild.{Row, branchRow}
@@ -35,6 +35,7 @@ use Rattle.updates.specs.Build.{wordAside, childOf, pathCopy}
 use Rattle.updates.specs.Zeros.{Leads, EachClean, AllClean, CleanBuild}
 use Rattle.updates.specs.Zeros.Use.{chainFrom, sparseUse, headUse, midUse, endUse}
 use Rattle.updates.proofs.Count.{Numbering}
+use Rattle.updates.proofs.ChainNodes.Chains.{chain-cell-length}
 use Rattle.updates.proofs.PrefixNodes.Aside.{child-of, aside}
 use Rattle.updates.proofs.Zeros.Known.{chain-clean, sparse-clean, head-clean, Either, known-else, CleanBuilt, allocate-each}
 use Rattle.updates.proofs.Zeros.SplitZeros.{Made, mid-branch, end-branch, branch-each}
@@ -84,7 +85,7 @@ module _ (number : ℕ → ℕ) (n : Numbering number) where
         let mids : EachClean number (Either Unknown (Made midUse d)) (newMid .cells) =
         branch-each number n midUse mid-branch (Either Unknown (Made endUse e)) Unknown midWords (newEnd .cells)
         (λ to word some small h. ⊎-elim (λ none. inl none) (λ a. inr (a .0, x / 8 % 8, omega arith, there ∙ a .1)) h) ends in
-        allocate-each number n headUse head (newMid .cells)
+        allocate-each number n headUse head (newMid .cells) (λ low. word-cell (headCopy (m c)) (0x10 + 4 * (x / 64)) d (headCopy-cell (m c)) .size)
         (head-clean head (λ i before. head-copy-zero (m c) (0x10 + 4 * (x / 64)) d i before (omega arith))) refl
         (known-else number n (Either Unknown (Made midUse d)) (Leads headUse head)
         (λ to word some small h.
@@ -109,7 +110,7 @@ module _ (number : ℕ → ℕ) (n : Numbering number) where
   unfolding ofKept
   ofKept-clean child stays many [] = inl (refl, refl)
   ofKept-clean child stays many (x ∷ []) =
-      inr (allocate-each number n (chainFrom 27) (chainCell x (child x)) []
+      inr (allocate-each number n (chainFrom 27) (chainCell x (child x)) [] (λ low. chain-cell-length x (child x))
       (chain-clean 27 (chainCell x (child x)) (omega arith) (λ i before. chain-zero x (child x) i before)) refl tt)
   ofKept-clean child stays many (x ∷ y ∷ more) = go (leb (length more) 4) refl
     where
@@ -117,7 +118,7 @@ module _ (number : ℕ → ℕ) (n : Numbering number) where
       go true e =
           let few : length more ≤ 4 = leb-true (length more) 4 e in
           let count = rising-count child (x ∷ y ∷ more) (omega arith) (omega arith) in
-          inr (allocate-each number n sparseUse (risingCell child (x ∷ y ∷ more)) []
+          inr (allocate-each number n sparseUse (risingCell child (x ∷ y ∷ more)) [] (λ low. absurd (omega arith))
           (sparse-clean (risingCell child (x ∷ y ∷ more))
           (λ i low high. rising-zero child (x ∷ y ∷ more) (omega arith) (omega arith) i (omega (arith, count)) high)) refl tt)
       go false e = many
@@ -126,7 +127,8 @@ module _ (number : ℕ → ℕ) (n : Numbering number) where
   leaf-left : (v : ℕ) → v < 2147483648 → (cells : List (List ℕ)) → cells ≡ [] → CleanBuilt number n (unowned (leafWord v) cells)
   unfolding leafWord
   leaf-left v clear cells empty =
-      record { nonzero = omega arith; small = omega arith; clean = subst (AllClean number (4294967295 - v)) (sym empty) tt }
+      subst (λ (none : List (List ℕ)). CleanBuilt number n (unowned (4294967295 - v) none)) (sym empty)
+      (record { nonzero = omega arith; small = omega arith; clean = tt; whole = λ low. tt })
 
   module _ (layout : Layout) (m : Memory) (whole : (c : ℕ) → length (m c) ≡ 32) where
     loseChild-clean : (p : Pointer) (x : ℕ) → x < 256 → Left (loseChild layout number m p x [])
@@ -159,7 +161,7 @@ module _ (number : ℕ → ℕ) (n : Numbering number) where
         let small = word-below-leaves layout m (wordAside layout m (pointer layout w) w) (bare .bare) (bare .reads) (bare .empty) in
         elim (ℕ-discrete (wordAside layout m (pointer layout w) w) 0) [
           | yes nothing-left ↦ inl (nothing-left, refl)
-          | no other ↦ inr (record { nonzero = other; small = omega (arith, small); clean = tt })
+          | no other ↦ inr (record { nonzero = other; small = omega (arith, small); clean = tt; whole = λ low. tt })
         ]
 
     -- the path of a key, copied over what is left

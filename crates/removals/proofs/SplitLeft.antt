@@ -22,6 +22,7 @@ use Rattle.nodes.proofs.Gather.{gather-at, gather-same, gather-change, under-ze
 use Rattle.nodes.proofs.Frame.{below-zero, head-is, split-cut, end-frame, mid-frame}
 use Rattle.nodes.proofs.Steps.WordRows.{some-word-is}
 use Rattle.staging.specs.NewCells.{headCopy}
+use Rattle.staging.proofs.CellBytes.{word-cell, headCopy-cell}
 use Rattle.staging.proofs.BranchWords.{cond-bounded}
 use Rattle.updates.specs.Built.{unowned, allocate}
 use Rattle.updates.specs.SplitBuild.{Row, branchRow}
@@ -144,7 +145,7 @@ module _ (layout : Layout) (small : layout .cells ≤ cellLimit) (number : ℕ �
       λ is. other
       (sym (children y near) ∙ ap (λ u. wordBelow m′ (wordBelow m′ u (y / 8 % 8)) (y % 8)) is
       ∙ ap (λ u. wordBelow m′ u (y % 8)) (below-zero m′ (y / 8 % 8)) ∙ below-zero m′ (y % 8)) in
-      head-placed layout small number m′ newHead (newMid .cells) standing Y x (unowned 0 cells) (H .0)
+      head-placed layout small number m′ newHead (newMid .cells) standing (word-cell _ _ _ (headCopy-cell (m c)) .size) Y x (unowned 0 cells) (H .0)
       (some-word-is (headWord newHead) 4 0 (y / 64) (omega arith) (omega arith) some-mid) (H .1) children
       (λ z. omega (
         arith,

@@ -9,17 +9,18 @@ use lib.ListN.{length}
 use Rattle.cells.specs.Bytes.{zeros}
 use Rattle.cells.specs.Word.{wordAt, withWord}
 use Rattle.cells.specs.Memory.{Memory, memoryOf}
-use Rattle.nodes.specs.Layout.{Layout, trailerCells, usable, six}
+use Rattle.nodes.specs.Layout.{Layout, mayEmbed, trailerCells, usable, sixOf, six}
 use Rattle.nodes.specs.Pointer.{Pointer, byKind, pointer, leafWord}
 use Rattle.nodes.specs.Chain.{chainChild}
 use Rattle.nodes.specs.Split.{splitCell}
-use Rattle.nodes.specs.Prefix.{validPrefix}
+use Rattle.nodes.specs.Prefix.{prefixLink, validOffset, validPrefix}
 use Rattle.nodes.specs.Node.{chainNode, plain, readAt, read}
 use Rattle.nodes.specs.Value.{pointerValue}
-use Rattle.nodes.specs.Written.{words, chainBytes, prefixBytes}
-use Rattle.staging.specs.NewCells.{blank, chainCell, prefixCell}
-use Rattle.updates.specs.Built.{Built, unowned, allocate, room, characterBefore, chainWith, chainOver}
+use Rattle.nodes.specs.Written.{words, eightWords, chainBytes, prefixBytes}
+use Rattle.staging.specs.NewCells.{blank, chainCell, prefixCell, withPrefix}
+use Rattle.updates.specs.Built.{Built, unowned, allocate, room, firstUsed, characterBefore, chainWith, chainOver}
 use Rattle.updates.specs.SetChild.{chainSet, setChild}
+use Rattle.updates.specs.PrefixOver.{embeds, prefixBefore, prefixOver}
 use Rattle.updates.specs.Build.{wordAside, putBack, childOf, pathCopy}
 use Rattle.updates.specs.OldChild.{listed}
 use Rattle.removals.specs.RisingCell.{charactersFrom}
@@ -73,5 +74,35 @@ pub prefix-and-leaf :
     ∷ (1 ∷ [])
     ∷ (0x00000000 ∷ [])
     ∷ []
-unfolding bind zeros words wordAt withWord memoryOf trailerCells usable byKind pointer leafWord pointerValue chainChild splitCell validPrefix chainNode plain readAt read blank chainCell prefixCell allocate room characterBefore chainWith chainOver chainSet setChild wordAside putBack childOf pathCopy listed charactersFrom ofKept splitStays loseChild changeChild putBackLeft removal neededToRemove twoKeys
+unfolding bind zeros words wordAt withWord memoryOf trailerCells mayEmbed usable byKind pointer leafWord pointerValue chainChild splitCell prefixLink validPrefix chainNode plain readAt read blank chainCell prefixCell allocate room characterBefore chainWith chainOver chainSet setChild embeds prefixOver wordAside putBack childOf pathCopy listed charactersFrom ofKept splitStays loseChild changeChild putBackLeft removal neededToRemove twoKeys
 prefix-and-leaf = refl
+
+-- the same keys and 43 48 41 42 with 1 in edition 2: a chain of 42 with a prefix of 0 before it (1), a chain of 48 and 41 with a prefix of 5
+-- before it (2), a chain of 43 (3)
+unfoldable pub threeKeys : Memory
+threeKeys =
+    memoryOf
+    (zeros 32
+    ++ eightWords 0 0x1B000000 0 0 0 0 0x00000042 0xFFFFFFFE
+    ++ eightWords 5 0x1A000000 0 0 0 0 0x00004841 0x0000003F
+    ++ chainBytes 0x00000043 0x0000005F)
+
+-- a removal from it
+abbrev removedThree : List ℕ → List (List ℕ)
+removedThree key = listed (removal (sixOf 2) (λ place. place + 10) threeKeys 0x0000007B key)
+
+-- 02, 3: "An entry or removal embeds": 43 48 41 42 gone, the value over NONE is a leaf, and the run above it, which the call took, takes the 5;
+-- 43 gone, its prefix becomes the node linked, in the cell that stays; 43 48 41 gone, likewise, and the 5 is embedded again
+pub removal-embeds :
+    removedThree (0x43 ∷ 0x48 ∷ 0x41 ∷ 0x42 ∷ []) ++ removedThree (0x43 ∷ []) ++ removedThree (0x43 ∷ 0x48 ∷ 0x41 ∷ [])
+    ≡ (0x0000017B ∷ [])
+    ∷ chainBytes 0x00000043 0x0000015F
+    ∷ eightWords 5 0x1A000000 0 0 0 0 0x00004841 0xFFFFFFFF
+    ∷ (0x0000015B ∷ [])
+    ∷ chainBytes 0x00000043 0x0000005A
+    ∷ (0x0000017B ∷ [])
+    ∷ chainBytes 0x00000043 0x0000015F
+    ∷ eightWords 5 0x1A000000 0 0 0 0 0x00004841 0x0000003B
+    ∷ []
+unfolding bind zeros words wordAt withWord memoryOf mayEmbed trailerCells usable byKind pointer leafWord pointerValue chainChild splitCell prefixLink validOffset validPrefix chainNode plain readAt read blank chainCell withPrefix allocate room firstUsed characterBefore chainWith chainOver chainSet setChild wordAside embeds prefixBefore prefixOver putBack childOf pathCopy listed charactersFrom ofKept splitStays loseChild changeChild putBackLeft removal threeKeys
+removal-embeds = refl

@@ -9,7 +9,7 @@ use Rattle.blocks.specs.Refusal.{Counted}
 use Rattle.store.specs.Insert.{insert}
 use Rattle.store.specs.Computing.{callsOpen}
 use Rattle.samples.specs.Line.{word}
-use Rattle.samples.specs.Calls.{fresh, rootOf}
+use Rattle.samples.specs.Calls.{freshIn, fresh, rootOf}
 use Rattle.samples.specs.Pinned.{insertedAll, sixth, seventh}
 
 -- the bytes of some cells of a block
@@ -42,7 +42,7 @@ pub leaf-put-back :
     ∷ (zeros 27 ++ (0x41 ∷ word 0x0000007F))
     ∷ zeros 32
     ∷ [])
-unfolding callsOpen told cellsIn fresh overLeaf
+unfolding callsOpen told cellsIn freshIn fresh overLeaf
 leaf-put-back = refl
 
 -- 01: "A prefix is replaced by a new prefix cell to the same linked node"; cell 1, let go by the insertion before, is taken first
@@ -55,7 +55,7 @@ pub prefix-replaced :
     ∷ (word 0x00000000 ++ word 0xFF000000 ++ zeros 20 ++ word 0x0000005B)
     ∷ (zeros 27 ++ (0x41 ∷ word 0x0000003F))
     ∷ [])
-unfolding callsOpen told cellsIn fresh overLeaf replacedValue
+unfolding callsOpen told cellsIn freshIn fresh overLeaf replacedValue
 prefix-replaced = refl
 
 -- the ends of 33 and 35, of 41, 42 and 43, of 50 and 51, and the sparse of the first six, whose order word is the highest valid one
@@ -98,7 +98,7 @@ splitBlock =
 
 -- 01: "in a split, each mid's ends in rising order, then that mid, the head last"; "cells not taken keep theirs"
 pub split-block : seventh .block ≡ splitBlock
-unfolding callsOpen fresh insertedAll sixth seventh splitBlock
+unfolding callsOpen freshIn fresh insertedAll sixth seventh splitBlock
 split-block = refl
 
 -- 78 (01 111 000) inserted there, and then C8 (11 001 000)
@@ -151,7 +151,7 @@ pub prefix-over-sparse :
     ∷ (word 0x00000002 ++ word 0xFF000000 ++ zeros 20 ++ word 0x0000005E)
     ∷ (zeros 27 ++ (0x41 ∷ word 0x0000003F))
     ∷ [])
-unfolding callsOpen told cellsIn fresh insertedBelow endsOnSparse
+unfolding callsOpen told cellsIn freshIn fresh insertedBelow endsOnSparse
 prefix-over-sparse = refl
 
 -- the seven below 41
@@ -175,7 +175,7 @@ blockBelow =
     ++ (word 0x0000013B ++ zeros 16 ++ word 0x00000010 ++ zeros 4 ++ word 0x00000001)
 
 pub block-below : seventhBelow .block ≡ blockBelow
-unfolding callsOpen fresh insertedBelow seventhBelow blockBelow
+unfolding callsOpen freshIn fresh insertedBelow seventhBelow blockBelow
 block-below = refl
 
 -- then 41 itself, then 41 52

@@ -15,9 +15,13 @@ use Rattle.dosing.specs.Temperature.{whole}
 use Rattle.dosing.specs.Sheet.{sheetOf}
 use Rattle.dosing.specs.Verdict.{Verdict, verdict}
 
--- 01: "'fresh n' is a fresh book of n cells", made of memory that held other bytes
+-- 01: "'fresh n' is a fresh book of n cells", made of memory that held other bytes; 02, 3: "asked for by edition"
+unfoldable pub freshIn : ℕ → ℕ → List ℕ
+freshIn edition n = format (replicate (n * 32) 0xA5) edition .block
+
+-- 02, 3: "01's samples are edition 1"
 unfoldable pub fresh : ℕ → List ℕ
-fresh n = format (replicate (n * 32) 0xA5) .block
+fresh n = freshIn 1 n
 
 -- 01: "A: fresh 4, enter 41 value 0"
 unfoldable pub sampleA : Counted
@@ -50,6 +54,10 @@ sampleG = insert (sampleF .block) (0x35 ∷ []) 2
 -- 01: "H: E, enter 43 value 5"
 unfoldable pub sampleH : Counted
 sampleH = insert (sampleE .block) (0x43 ∷ []) 5
+
+-- 02, 3: "H takes two cells in either": the same in a block of an edition
+unfoldable pub sampleHIn : ℕ → Counted
+sampleHIn edition = insert (insert (freshIn edition 8) (0x43 ∷ 0x48 ∷ 0x41 ∷ []) 0 .block) (0x43 ∷ []) 5
 
 -- 7 March 2025
 unfoldable pub expiryJ : ℕ

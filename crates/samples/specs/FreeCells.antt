@@ -17,7 +17,7 @@ letter = 0x41 ∷ []
 
 -- a block of four cells that holds 41 with 0, with a snapshot of it, then 41 with 1
 unfoldable pub snapshotted : List ℕ
-snapshotted = snapshot (insert (format (zeros 128) .block) letter 0 .block) 1 .block
+snapshotted = snapshot (insert (format (zeros 128) 1 .block) letter 0 .block) 1 .block
 
 -- 41 with 1 beside the snapshot
 unfoldable pub replaced : List ℕ

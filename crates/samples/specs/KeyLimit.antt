@@ -11,7 +11,7 @@ use Rattle.store.specs.Computing.{callsOpen}
 use Rattle.dosing.specs.Verdict.{verdict}
 use Rattle.dosing.specs.Verdicts.{verdictOpen, warm, five, on}
 use Rattle.dosing.specs.declared.temperature.Reading.the-variants.{Celsius}
-use Rattle.samples.specs.Calls.{fresh, sampleA, rootOf}
+use Rattle.samples.specs.Calls.{freshIn, fresh, sampleA, rootOf}
 use Rattle.samples.specs.Pinned.{label}
 
 -- the longest label in a block of four cells, with 7 March 2025
@@ -24,7 +24,7 @@ pub asked-labels :
     (map (λ size. get longest (label size) .answer) (48 ∷ 49 ∷ 0 ∷ 47 ∷ [])
     ++ map (λ size. verdict longest (label size) (on 7 3 2025) (Celsius five) warm .answer) (48 ∷ 49 ∷ 0 ∷ 47 ∷ []))
     (0 ∷ 3 ∷ 3 ∷ 11 ∷ 0 ∷ 3 ∷ 3 ∷ 11 ∷ [])
-unfolding callsOpen verdictOpen fresh longest
+unfolding callsOpen verdictOpen freshIn fresh longest
 asked-labels = refl
 
 -- the same of a removal, which is done for 48 bytes and leaves the root 0
@@ -32,7 +32,7 @@ pub removed-labels :
     _≡_ {A = List ℕ}
     (map (λ size. remove longest (label size) .answer) (48 ∷ 49 ∷ 0 ∷ 47 ∷ []) ++ (rootOf (remove longest (label 48) .block) ∷ []))
     (0 ∷ 3 ∷ 3 ∷ 11 ∷ 0 ∷ [])
-unfolding callsOpen fresh longest
+unfolding callsOpen freshIn fresh longest
 removed-labels = refl
 
 -- a next key's answer, length and bytes
@@ -55,5 +55,5 @@ pub next-labels :
     ∷ (11 ∷ 0 ∷ zeros 48)
     ∷ (3 ∷ 0 ∷ zeros 48)
     ∷ [])
-unfolding callsOpen nextOpen fresh sampleA longest
+unfolding callsOpen nextOpen freshIn fresh sampleA longest
 next-labels = refl

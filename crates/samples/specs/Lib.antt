@@ -13,4 +13,5 @@ pub mod Builds
 pub mod KeyLimit
 pub mod ChainBuilds
 pub mod SplitBuilds
+pub mod Embedding
 pub mod RefusalOrder

@@ -12,6 +12,7 @@ pub data Letter : Type 0 where
 -- what the value is
 pub data Says : Type 0 where
   answer count root block : Says
+  countIn : ℕ → Says  -- the count in an edition
   cell : ℕ → Says  -- the bytes of a cell
   link : ℕ → Says  -- the word at 1C of a cell
   orderWord : Says

@@ -14,7 +14,7 @@ use Rattle.snapshots.specs.Snapshots.{snapshot}
 use Rattle.snapshots.specs.Computing.{snapshotsOpen}
 use Rattle.store.specs.Computing.{callsOpen}
 use Rattle.samples.specs.Line.{word}
-use Rattle.samples.specs.Calls.{fresh, rootOf, sampleA, sampleE, sampleH}
+use Rattle.samples.specs.Calls.{freshIn, fresh, rootOf, sampleA, sampleE, sampleH}
 
 -- one character each, in turn, with the values from one on
 unfoldable pub insertedAll : List ℕ → List ℕ → ℕ → List ℕ
@@ -46,7 +46,7 @@ pub split-of-seven :
     ∷ (word 0x0000009C ++ zeros 4 ++ word 0x000000BC ++ zeros 20)
     ∷ (zeros 24 ++ word 0x0000003C ++ zeros 4)
     ∷ [])
-unfolding callsOpen fresh insertedAll sixth seventh
+unfolding callsOpen freshIn fresh insertedAll sixth seventh
 split-of-seven = refl
 
 -- H's prefix cell, the trailer after a second slot's snapshot of A
@@ -56,7 +56,7 @@ pub prefix-and-slot-bytes :
     ((word 0x00000005 ++ word 0xFF000000 ++ zeros 20 ++ word 0x0000003A)
     ∷ (word 0x0000003B ++ zeros 4 ++ word 0x0000003B ++ zeros 4 ++ word 0x02000000 ++ word 0x00000004 ++ zeros 4 ++ word 0x00000001)
     ∷ [])
-unfolding callsOpen snapshotsOpen fresh sampleA sampleE sampleH
+unfolding callsOpen snapshotsOpen freshIn fresh sampleA sampleE sampleH
 prefix-and-slot-bytes = refl
 
 -- a label of so many bytes 41
@@ -74,10 +74,10 @@ pub limits :
     ∷ insert (fresh 4) (label 1) 2147483648 .answer
     ∷ [])
     (0x20 ∷ 0x5B ∷ 0x48 ∷ 3 ∷ 3 ∷ 4 ∷ [])
-unfolding callsOpen fresh
+unfolding callsOpen freshIn fresh
 limits = refl
 
--- sizes of 3 and 4 cells and 31 bytes more, then sample A with one byte of its trailer or of its chain altered
+-- sizes of 3 and 4 cells and 31 bytes more, then sample A with one byte of its trailer or of its chain altered: with edition 2 it is sound
 pub refused-blocks :
     _≡_ {A = List ℕ}
     (validate (zeros 96)
@@ -87,12 +87,13 @@ pub refused-blocks :
     ∷ validate (set (sampleA .block) 113 1)
     ∷ validate (set (sampleA .block) 119 5)
     ∷ validate (set (sampleA .block) 127 2)
+    ∷ validate (set (sampleA .block) 127 3)
     ∷ validate (set (sampleA .block) 103 0x3B)
     ∷ validate (set (sampleA .block) 99 0x3D)
     ∷ validate (set (sampleA .block) 60 0x3B)
     ∷ validate (withWord (sampleA .block) 60 0)
     ∷ validate (set (sampleA .block) 40 0x99)
     ∷ [])
-    (1 ∷ 1 ∷ 0 ∷ 0 ∷ 2 ∷ 2 ∷ 2 ∷ 2 ∷ 2 ∷ 2 ∷ 2 ∷ 0 ∷ [])
-unfolding callsOpen fresh sampleA
+    (1 ∷ 1 ∷ 0 ∷ 0 ∷ 2 ∷ 2 ∷ 0 ∷ 2 ∷ 2 ∷ 2 ∷ 2 ∷ 2 ∷ 0 ∷ [])
+unfolding callsOpen freshIn fresh sampleA
 refused-blocks = refl

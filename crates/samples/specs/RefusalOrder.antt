@@ -29,9 +29,9 @@ full one two three bits edition = rooted 0x0000005B one two three bits edition
 abbrev held : List ℕ
 held = full 0x0000003B 0 0 0x01000000 0x00000001
 
--- edition 2
+-- an edition that there is none of
 abbrev unsound : List ℕ
-unsound = full 0x0000003B 0 0 0x01000000 0x00000002
+unsound = full 0x0000003B 0 0 0x01000000 0x00000003
 
 -- 129 bytes
 abbrev oddSize : List ℕ
@@ -114,23 +114,39 @@ pub empty-slot-calls :
 unfolding callsOpen snapshotsOpen
 empty-slot-calls = refl
 
--- making a fresh block of 3 cells, of a byte less than 4 cells and of one more: 1; of 4 cells, whatever they hold
+-- making a fresh block of 3 cells, of a byte less than 4 cells and of one more: 1; of 4 cells, whatever they hold; 02, 3: "asked for
+-- by edition, 1 or 2, else answer 1": edition 2, then 0 and 3, of 4 cells and of 3
 pub formats :
     _≡_ {A = List (List ℕ)}
-    (map changed (format (replicate 96 0xA5) ∷ format (replicate 127 0xA5) ∷ format (replicate 129 0xA5) ∷ format [] ∷ format unsound ∷ []))
+    (map changed
+    (format (replicate 96 0xA5) 1
+    ∷ format (replicate 127 0xA5) 1
+    ∷ format (replicate 129 0xA5) 1
+    ∷ format [] 1
+    ∷ format unsound 1
+    ∷ format unsound 2
+    ∷ format held 0
+    ∷ format held 3
+    ∷ format (replicate 96 0xA5) 3
+    ∷ []))
     ((1 ∷ replicate 96 0xA5)
     ∷ (1 ∷ replicate 127 0xA5)
     ∷ (1 ∷ replicate 129 0xA5)
     ∷ (1 ∷ [])
     ∷ (0 ∷ zeros 96 ++ eightWords 0 0 0 0 0x00000000 0x00000004 0x00000000 0x00000001)
+    ∷ (0 ∷ zeros 96 ++ eightWords 0 0 0 0 0x00000000 0x00000004 0x00000000 0x00000002)
+    ∷ (1 ∷ held)
+    ∷ (1 ∷ held)
+    ∷ (1 ∷ replicate 96 0xA5)
     ∷ [])
 unfolding callsOpen
 formats = refl
 
--- 01, answer 1: "length no multiple of 32, or n outside 4 to 2,048", for every block, whatever it says of itself: of a fresh block
-pub new-sizes : (block : List ℕ) → badNewSize 1 block ≡ badLength 4 (length block)
+-- 01, answer 1: "length no multiple of 32, or n outside 4 to 2,048", for every block, whatever it says of itself: of a fresh block of
+-- any edition
+pub new-sizes : (edition : ℕ) (block : List ℕ) → badNewSize edition block ≡ badLength 4 (length block)
 unfolding trailerCells
-new-sizes block = refl
+new-sizes edition block = refl
 
 -- of every other call
 pub any-sizes : (block : List ℕ) → badSize block ≡ badLength 4 (length block)

@@ -17,10 +17,10 @@ use Rattle.dosing.specs.Sheet.{validSection, validLength, validSheet, doseOf}
 use Rattle.dosing.specs.Verdict.{verdictOf, verdict}
 use Rattle.samples.specs.Line.{Line, line}
 use Rattle.samples.specs.Line.Letter.{A, B, C, D, E, F, G, H, I, J, K, L}
-use Rattle.samples.specs.Line.Says.{answer, count, root, block, cell, link, orderWord, validWord, packed, answerOn, dose, degrees}
+use Rattle.samples.specs.Line.Says.{answer, count, countIn, root, block, cell, link, orderWord, validWord, packed, answerOn, dose, degrees}
 use Rattle.samples.specs.Line.Value.{number, bytes, truth, float}
 use Rattle.samples.specs.Bytes.{blockA, cellD, cellF}
-use Rattle.samples.specs.Calls.{fresh, sampleA, sampleB, sampleC, sampleD, sampleE, sampleF, sampleG, sampleH, expiryJ, verdictOn, rootOf}
+use Rattle.samples.specs.Calls.{freshIn, fresh, sampleA, sampleB, sampleC, sampleD, sampleE, sampleF, sampleG, sampleH, sampleHIn, expiryJ, verdictOn, rootOf}
 
 -- what the definitions compute, and what 01 says of each sample
 pub samples :
@@ -40,6 +40,7 @@ pub samples :
     ∷ line H count (number (sampleH .count))
     ∷ line H (link 2) (number (wordAt (memoryOf (sampleH .block) 2) 0x1C))
     ∷ line H root (number (rootOf (sampleH .block)))
+    ∷ line H (countIn 2) (number (sampleHIn 2 .count))
     ∷ line I (validWord 0x0006) (truth (validOrder 0x0006))
     ∷ line I (validWord 0x0026) (truth (validOrder 0x0026))
     ∷ line I (validWord 0x8129) (truth (validOrder 0x8129))
@@ -67,6 +68,7 @@ pub samples :
     ∷ line H count (number 2)
     ∷ line H (link 2) (number 0x0000003A)
     ∷ line H root (number 0x0000007B)
+    ∷ line H (countIn 2) (number 2)
     ∷ line I (validWord 0x0006) (truth true)
     ∷ line I (validWord 0x0026) (truth true)
     ∷ line I (validWord 0x8129) (truth true)
@@ -79,5 +81,5 @@ pub samples :
     ∷ line K dose (float (whole (pos 240)))
     ∷ line L degrees (float (whole (pos 200)))
     ∷ [])
-unfolding callsOpen snapshotsOpen februaryDays daysOfMonth isDate isAfter onScale toCelsius celsius validReading validGate inGate validSection validLength validSheet doseOf verdictOf verdict Ieee.ofInt Ieee.sub Ieee.mul Ieee.div Ieee.le fresh sampleA sampleB sampleC sampleD sampleE sampleF sampleG sampleH expiryJ verdictOn
+unfolding callsOpen snapshotsOpen februaryDays daysOfMonth isDate isAfter onScale toCelsius celsius validReading validGate inGate validSection validLength validSheet doseOf verdictOf verdict Ieee.ofInt Ieee.sub Ieee.mul Ieee.div Ieee.le freshIn fresh sampleA sampleB sampleC sampleD sampleE sampleF sampleG sampleH sampleHIn expiryJ verdictOn
 samples = refl

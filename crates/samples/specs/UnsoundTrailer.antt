@@ -42,7 +42,7 @@ pub zero-bytes :
 unfolding callsOpen words
 zero-bytes = refl
 
--- 01: "14-17", "n", which is 4: 3, 5, 0 and the length 128; "1C-1F", "edition, 1": 0, 2, 3 and 1 with its bytes turned round
+-- 01: "14-17", "n", which is 4: 3, 5, 0 and the length 128; "1C-1F", "edition", 1 or 2 by 02, 3: 0, 3, 4 and 1 with its bytes turned round
 pub size-and-edition :
     OnlyBrokenRefused
     (beside (trailer 0 0 0 0x00000000 0x00000003 0x00000000 0x00000001)
@@ -50,8 +50,8 @@ pub size-and-edition :
     ∷ beside (trailer 0 0 0 0x00000000 0x00000000 0x00000000 0x00000001)
     ∷ beside (trailer 0 0 0 0x00000000 0x00000080 0x00000000 0x00000001)
     ∷ beside (trailer 0 0 0 0x00000000 0x00000004 0x00000000 0x00000000)
-    ∷ beside (trailer 0 0 0 0x00000000 0x00000004 0x00000000 0x00000002)
     ∷ beside (trailer 0 0 0 0x00000000 0x00000004 0x00000000 0x00000003)
+    ∷ beside (trailer 0 0 0 0x00000000 0x00000004 0x00000000 0x00000004)
     ∷ beside (trailer 0 0 0 0x00000000 0x00000004 0x00000000 0x01000000)
     ∷ [])
 unfolding callsOpen words

@@ -11,7 +11,7 @@ use store::inserting::insert;
 // Enters a label into a fresh block of four cells and writes the root.
 fn label_root(name: &[u8], label: &[u8]) {
     let mut block = [0u8; 128];
-    format(&mut block);
+    format(&mut block, 1);
     insert(&mut block, label, 0);
     lines::word(name, word_at(&block, 96));
 }
@@ -23,7 +23,7 @@ pub fn labels() {
     label_root(b"29 bytes root ", &label[..29]);
     label_root(b"48 bytes root ", &label[..48]);
     let mut block = [0u8; 128];
-    format(&mut block);
+    format(&mut block, 1);
     lines::number(
         b"49 bytes answer ",
         insert_number(insert(&mut block, &label, 0)),
@@ -38,7 +38,7 @@ fn child(block: &mut [u8], key: &[u8], value: u32) {
 // The seven children that make a split.
 pub fn seven_children() {
     let mut block = [0u8; 512];
-    format(&mut block);
+    format(&mut block, 1);
     child(&mut block, b"3", 0);
     child(&mut block, b"5", 1);
     child(&mut block, b"A", 2);
@@ -52,15 +52,15 @@ pub fn seven_children() {
 // Blocks of 3 and of 2,049 cells.
 pub fn sizes() {
     let mut small = [0u8; 96];
-    lines::number(b"3 cells answer ", change_number(format(&mut small)));
+    lines::number(b"3 cells answer ", change_number(format(&mut small, 1)));
     let mut large = [0u8; 65568];
-    lines::number(b"2049 cells answer ", change_number(format(&mut large)));
+    lines::number(b"2049 cells answer ", change_number(format(&mut large, 1)));
 }
 
 // A cell visited twice: a chain whose end leads into its own cell.
 pub fn visited_twice() {
     let mut block = [0u8; 128];
-    format(&mut block);
+    format(&mut block, 1);
     insert(&mut block, b"A", 0);
     lines::number(b"visited once answer ", change_number(validate(&block)));
     cells::put_word(&mut block, 60, 0x3B);

@@ -1,5 +1,6 @@
 // Runs the bench samples of the specification and its "Also run" cases on the code, and writes what they give.
 mod also;
+mod edition_two;
 mod verdicts;
 
 use blocks::answer::ChangeAnswer;
@@ -38,7 +39,7 @@ pub fn change_number(answer: ChangeAnswer) -> u32 {
 // Samples A to D, on a block of four cells.
 fn four_cells() {
     let mut block = [0xA5u8; 128];
-    format(&mut block);
+    format(&mut block, 1);
     lines::number(b"A count ", insert_count(insert(&mut block, b"A", 0)));
     lines::bytes(b"A block ", &block);
     snapshot(&mut block, 1);
@@ -54,7 +55,7 @@ fn four_cells() {
 // Samples E to G, on a block of eight cells.
 fn eight_cells() {
     let mut block = [0xA5u8; 256];
-    format(&mut block);
+    format(&mut block, 1);
     insert(&mut block, b"CHA", 0);
     lines::word(b"E root ", word_at(&block, 224));
     insert(&mut block, b"A", 1);
@@ -68,7 +69,7 @@ fn eight_cells() {
 // Sample H, on a block of eight cells.
 fn prefix_cell() {
     let mut block = [0xA5u8; 256];
-    format(&mut block);
+    format(&mut block, 1);
     insert(&mut block, b"CHA", 0);
     lines::number(b"H count ", insert_count(insert(&mut block, b"C", 5)));
     lines::word(b"H link of cell 2 ", word_at(&block, 92));
@@ -86,4 +87,5 @@ fn main() {
     also::seven_children();
     also::sizes();
     also::visited_twice();
+    edition_two::cases();
 }

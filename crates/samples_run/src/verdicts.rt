@@ -53,7 +53,7 @@ const EXPIRY: u32 = 1036903;
 // A cartridge that expires on 7 March 2025, judged on a day with a gate and a reading, for K's bead.
 fn judged(today: Date, gate: TemperatureGate, reading: Reading) -> VerdictAnswer {
     let mut block = [0u8; 128];
-    format(&mut block);
+    format(&mut block, 1);
     insert(&mut block, b"A", EXPIRY);
     let sheet = ProductSheet {
         gate,

@@ -11,7 +11,7 @@ use Rattle.cells.specs.Word.{withWord}
 use Rattle.cells.specs.Memory.{Memory, memoryOf}
 use Rattle.cells.proofs.Words.{set-bytes, zeros-length, bytes-zeros, length-withWord, remainder-byte, withWord-bytes}
 use Rattle.cells.proofs.Memory.{memory-length, memory-bytes}
-use Rattle.staging.specs.NewCells.{blank, chainCell, prefixCell, pairCell, sparsePair, withoutCharacters, sparseCopy, withOrder, appendedCell, branchCopy, headCopy, withWords}
+use Rattle.staging.specs.NewCells.{blank, chainCell, prefixCell, withPrefix, pairCell, sparsePair, withoutCharacters, sparseCopy, withOrder, appendedCell, branchCopy, headCopy, withWords}
 
 -- 32 bytes
 pub record IsCell (s : List ℕ) : Type 0 where
@@ -45,6 +45,10 @@ chain-cell x word small = set-cell _ 27 x small (word-cell _ 28 word blank-cell)
 pub prefix-cell : (value word : ℕ) → IsCell (prefixCell value word)
 unfolding prefixCell
 prefix-cell value word = set-cell _ 4 255 (omega arith) (word-cell _ 28 word (word-cell _ 0 value blank-cell))
+
+pub embedded-cell : (s : List ℕ) (value offset : ℕ) → offset < 256 → IsCell s → IsCell (withPrefix s value offset)
+unfolding withPrefix
+embedded-cell s value offset small h = set-cell _ 4 offset small (word-cell s 0 value h)
 
 pair-cell : (x word y other : ℕ) → x < 256 → y < 256 → IsCell (pairCell x word y other)
 unfolding pairCell

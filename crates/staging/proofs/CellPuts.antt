@@ -9,7 +9,7 @@ use borrow.Author.Tests.{lt-ltb, le-ltb, ne-eqb, eq-eqb}
 use Rattle.cells.specs.Word.{wordAt, withWord}
 use Rattle.cells.specs.Memory.{memoryOf}
 use Rattle.cells.proofs.Memory.{memory-word}
-use Rattle.staging.specs.NewCells.{blank, chainCell, prefixCell, pairCell, sparsePair, branchCopy, headCopy, withWords}
+use Rattle.staging.specs.NewCells.{blank, chainCell, prefixCell, withPrefix, pairCell, sparsePair, branchCopy, headCopy, withWords}
 use Rattle.staging.specs.Code.Stage.{Put}
 use Rattle.staging.proofs.StageLaws.{put-then, put-as}
 
@@ -78,6 +78,12 @@ put-same-law {s} {after} {at} block cell offset word inside is put =
 pub put-word-over : {s between after bytes : List ℕ} {at : ℕ} (offset word : ℕ) → Put s between at bytes
     → Put between after at (withWord (memoryOf between at) offset word) → Put s after at (withWord bytes offset word)
 put-word-over offset word first second = put-then (λ b. withWord b offset word) first second
+
+-- a prefix embedded in a cell that is in the stage
+pub put-embedded-law : {s between after : List ℕ} {at : ℕ} (value offset : ℕ) → Put s between at (withWord (memoryOf s at) 0 value)
+    → Put between after at (set (memoryOf between at) 4 offset) → Put s after at (withPrefix (memoryOf s at) value offset)
+unfolding withPrefix
+put-embedded-law value offset first second = put-then (λ b. set b 4 offset) first second
 
 -- words side by side: those written and those left make up the cell
 module _ (words : ℕ → ℕ) (goal : List ℕ) where

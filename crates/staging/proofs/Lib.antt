@@ -1,5 +1,6 @@
 pub mod CellBytes
 pub mod CellZeros
+pub mod EmbeddedCells
 pub mod BranchWords
 pub mod StageLaws
 pub mod StageWrites

@@ -3,7 +3,7 @@ ghost use Prim.Native.Nat.{_+_, _*_, _/_, _≤_, _<_};
 ghost use lib.ListN.{length, getD};
 ghost use Rattle.cells.specs.Word.{wordAt, withWord};
 ghost use Rattle.cells.specs.Memory.{memoryOf};
-ghost use Rattle.staging.specs.NewCells.{blank, chainCell, prefixCell, pairCell, sparsePair, branchCopy, headCopy, withWords};
+ghost use Rattle.staging.specs.NewCells.{blank, chainCell, prefixCell, withPrefix, pairCell, sparsePair, branchCopy, headCopy, withWords};
 ghost use Rattle.staging.specs.Code.Stage.{stageCells, Put};
 use crate::stage::STAGE_SIZE;
 use crate::stage::put_blank;
@@ -31,6 +31,15 @@ pub fn put_prefix(stage: &mut [u8; STAGE_SIZE], at: usize, value: u32, word: u32
     put_word_in(stage, at, 0, value);
     put_word_in(stage, at, 28, word);
     put_byte(stage, at, 4, 255);
+}
+
+// A value before the node of a cell that is in the stage, and the node's offset.
+pub fn put_embedded(stage: &mut [u8; STAGE_SIZE], at: usize, value: u32, offset: u8)
+    requires { ⌜ at < stageCells ⌝ }
+    ensures { λ _. ⌜ Put (now (stage .entry)) (now (stage .exit)) at (withPrefix (memoryOf (now (stage .entry)) at) value offset) ⌝ }
+{
+    put_word_in(stage, at, 0, value);
+    put_byte(stage, at, 4, offset);
 }
 
 // Two children, the lower character first.

@@ -9,9 +9,9 @@ use Rattle.store.specs.Insert.{insertRefusals}
 use Rattle.store.specs.Remove.{removeRefusals}
 
 module _ (block : List ℕ) where
-  pub format-answers : Answers (formatRefusals 1 block)
+  pub format-answers : (edition : ℕ) → Answers (formatRefusals edition block)
   unfolding distinct all occurrences
-  format-answers = answers (formatRefusals 1 block) refl
+  format-answers edition = answers (formatRefusals edition block) refl
 
   pub insert-answers : (key : List ℕ) (value : ℕ) → Answers (insertRefusals block key value)
   unfolding distinct all occurrences

@@ -12,7 +12,7 @@ use Rattle.store.specs.Remove.{remove}
 use Rattle.store.specs.Computing.{callsOpen}
 
 unfoldable pub inserted : Counted
-inserted = insert (format (zeros 128) .block) (0x41 ∷ []) 0
+inserted = insert (format (zeros 128) 1 .block) (0x41 ∷ []) 0
 
 -- "The block is 32 zeros; 27 zeros, 41, FFFFFFFF; 32 zeros; then 0000003B, four zero words, 00000004, 00000000, 00000001."
 pub one-inserted :

@@ -1,7 +1,7 @@
 -- The tables of answers leave nothing free: whatever meets the table of a call equals the call, in its answer, its count and
 -- every byte of the block. 01: "Every public call's contract determines its result and every byte of the block"
 use mathlib.Core.Path.{_≡_, refl, sym, ap, _∙_}
-use mathlib.Core.Logic.{_≢_}
+use mathlib.Core.Logic.{_≢_, _⊎_}
 use mathlib.Core.Bool.{Bool, true, false}
 use mathlib.Core.List.{List}
 use Prim.Native.Nat.{ℕ, _-_, _/_, _%_, _≤_, _<_}
@@ -11,6 +11,7 @@ use lib.ListN.{length, getD}
 use lib.Seq.{ext-getD}
 use Rattle.cells.specs.Bytes.{IsBytes}
 use Rattle.cells.specs.Memory.{memoryOf}
+use Rattle.nodes.specs.Layout.{validEdition}
 use Rattle.updates.specs.Built.{Built}
 use Rattle.blocks.specs.Trailer.{cellsAt, editionAt}
 use Rattle.blocks.specs.Refusal.{Changed, Counted, badKey, badNewKey, badValue}
@@ -20,9 +21,10 @@ use Rattle.blocks.proofs.Trailer.{byte-in-cell}
 use Rattle.blocks.proofs.Left.{word-or, word-told}
 use Rattle.blocks.proofs.Determined.{both, passes-key-or, beside-told, changed-told}
 use Rattle.blocks.proofs.ReadCalls.{missing-none}
-use Rattle.store.specs.Format.{newLayout, badNewSize, format}
+use Rattle.store.specs.Format.{newLayout, badNewSize, badFresh, format}
 use Rattle.store.specs.Insert.{cellsFree, cellsToInsert, blockBuild, insert}
 use Rattle.store.specs.Remove.{cellsToRemove, blockRemoval, remove}
+use Rattle.store.proofs.Format.{bad-parts, good-parts}
 use Rattle.store.proofs.RemoveCall.{is-there}
 use Rattle.store.proofs.WriteCalls.{format-table, insert-table, remove-table}
 use Rattle.store.specs.Laid.{Laid}
@@ -51,18 +53,22 @@ fresh-told edition b q r x y =
     (λ no-cells. word-or stated i (word-told q r stated (x .bytes) (y .bytes) (x .edition-word ∙ sym (y .edition-word)) i)
     (λ no-edition. x .zero i no-cells no-edition ∙ sym (y .zero i no-cells no-edition))))
 
-module _ (b : List ℕ) where
-  -- a fresh block
-  pub format-told : (r : Changed) → FormatTable b r → r ≡ format b
-  format-told r t =
-      let u = format-table b in
-      let same : r .answer ≡ format b .answer = go (badNewSize 1 b) refl in
-      changed-told r (format b) same
-      (beside-told (r .answer) (format b .answer) (r .block) (format b .block) b same (λ e f. fresh-told 1 b _ _ (t .left e) (u .left f)) (t .refused) (u .refused))
-    where
-      go : (s : Bool) → badNewSize 1 b ≡ s → r .answer ≡ format b .answer
-      go true e = both (t .bad-size) (format-table b .bad-size) e
-      go false e = both (t .done) (format-table b .done) e
+-- a fresh block is refused, or made
+fresh-or : (edition : ℕ) (b : List ℕ) {Goal : Type 0} → ((validEdition edition ≡ false) ⊎ (badNewSize edition b ≡ true) → Goal)
+    → ((validEdition edition ≡ true) × (badNewSize edition b ≡ false) → Goal) → Goal
+fresh-or edition b {Goal} bad good = go (badFresh edition b) refl
+  where
+    go : (s : Bool) → badFresh edition b ≡ s → Goal
+    go true e = bad (bad-parts edition b e)
+    go false e = good (good-parts edition b e)
+
+pub format-told : (edition : ℕ) (b : List ℕ) (r : Changed) → FormatTable edition b r → r ≡ format b edition
+format-told edition b r t =
+    let f : Changed = format b edition in
+    let u : FormatTable edition b f = format-table edition b in
+    let same : r .answer ≡ f .answer = fresh-or edition b (both (t .bad-size) (u .bad-size)) (both (t .done) (u .done)) in
+    changed-told r f same
+    (beside-told (r .answer) (f .answer) (r .block) (f .block) b same (λ e g. fresh-told edition b _ _ (t .left e) (u .left g)) (t .refused) (u .refused))
 
 -- enough cells are free, or not
 room-or : (needed free : ℕ) {Goal : Type 0} → (free < needed → Goal) → (needed ≤ free → Goal) → Goal

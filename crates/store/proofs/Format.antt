@@ -1,7 +1,7 @@
 -- Laws of a formatted block: it is sound, shows nothing, has no slot in use, and every usable cell is free.
 use mathlib.Core.Path.{_≡_, refl, sym, ap, _∙_, subst}
 use mathlib.Core.Logic.{_≢_, _⊎_, inl, inr}
-use mathlib.Core.Bool.{true, false}
+use mathlib.Core.Bool.{Bool, true, false, not, _||_, or-true}
 use mathlib.Core.List.{List}
 use Prim.Native.Nat.{ℕ, _+_, _-_, _/_, _%_, _^_, _≤_, _<_}
 use native.Mathlib.Nat.{div-eq-of-lt}
@@ -9,6 +9,7 @@ use native.Mathlib.Omega.{arith}
 use lib.Dec.{eqb}
 use lib.ListN.{length, getD}
 use lib.Pow.{pow-pos}
+use borrow.Author.Tests.{not-false}
 use Rattle.cells.specs.Bytes.{IsBytes, zeros}
 use Rattle.cells.specs.Word.{wordAt}
 use Rattle.cells.specs.Memory.{memoryOf}
@@ -26,10 +27,10 @@ use Rattle.blocks.specs.TrailerWrites.{withCells}
 use Rattle.blocks.specs.Code.Fits.{Fits}
 use Rattle.blocks.specs.Sound.{soundWith, reachable}
 use Rattle.blocks.proofs.Refusals.{done-block, refused-block}
-use Rattle.blocks.proofs.Trailer.{good-length, slot-apart, parts-trailer}
+use Rattle.blocks.proofs.Trailer.{either-left, either-right, good-length, slot-apart, parts-trailer}
 use Rattle.blocks.proofs.Roots.{zero-valid, zero-cells, parts-sound, unreachable}
 use Rattle.store.specs.Free.{allocationOrder}
-use Rattle.store.specs.Format.{formatted, newLayout, freshOf, badNewSize, formatRefusals, format}
+use Rattle.store.specs.Format.{formatted, newLayout, freshOf, badNewSize, badFresh, formatRefusals, format}
 use Rattle.store.proofs.CallAnswers.{format-answers}
 use Rattle.store.proofs.Free.{free-every, free-all}
 use Rattle.store.specs.Tables.{Fresh, FreshLeft}
@@ -174,26 +175,44 @@ module _ (edition : ℕ) (b : List ℕ) where
         zero = formatted-byte layout (length b) fits;
       }
 
--- the call
-first-edition : validEdition 1 ≡ true
-unfolding validEdition
-first-edition = refl
+-- answer 1 has two conditions: no such edition, or a bad length
+either-bad : (known bad : Bool) → not known || bad ≡ true → (known ≡ false) ⊎ (bad ≡ true)
+either-bad true bad e = inr e
+either-bad false bad e = inl refl
 
-module _ (b : List ℕ) where
-  pub format-done : badNewSize 1 b ≡ false → format b .answer ≡ 0
-  unfolding format
-  format-done good = format-answers b .1 .given (good, tt)
+module _ (edition : ℕ) (b : List ℕ) where
+  pub bad-parts : badFresh edition b ≡ true → (validEdition edition ≡ false) ⊎ (badNewSize edition b ≡ true)
+  bad-parts = either-bad (validEdition edition) (badNewSize edition b)
 
-  pub format-law : format b .answer ≡ 0 → Fresh 1 b (format b .block)
-  unfolding format
-  format-law e =
-      subst (Fresh 1 b) (sym (done-block (formatRefusals 1 b) b (freshOf 1 b) e)) (formatted-fresh 1 b first-edition (format-answers b .1 .only e .0))
+  pub parts-bad : (validEdition edition ≡ false) ⊎ (badNewSize edition b ≡ true) → badFresh edition b ≡ true
+  parts-bad (inl unknown) = rw unknown
+  parts-bad (inr bad) = rw (bad, or-true (not (validEdition edition)))
 
-  pub format-left : format b .answer ≡ 0 → FreshLeft 1 b (format b .block)
-  unfolding format
-  format-left e =
-      subst (FreshLeft 1 b) (sym (done-block (formatRefusals 1 b) b (freshOf 1 b) e)) (formatted-left 1 b first-edition (format-answers b .1 .only e .0))
+  pub good-parts : badFresh edition b ≡ false → (validEdition edition ≡ true) × (badNewSize edition b ≡ false)
+  good-parts good = (not-false _ (either-left _ _ good), either-right (not (validEdition edition)) _ good)
 
-  pub format-refused : format b .answer ≢ 0 → format b .block ≡ b
+  pub parts-good : (validEdition edition ≡ true) × (badNewSize edition b ≡ false) → badFresh edition b ≡ false
+  parts-good good = rw (good .0, good .1)
+
+  -- the call
+  pub format-done : validEdition edition ≡ true → badNewSize edition b ≡ false → format b edition .answer ≡ 0
   unfolding format
-  format-refused n = refused-block (formatRefusals 1 b) b (freshOf 1 b) n
+  format-done known good = format-answers b edition .1 .given (parts-good (known, good), tt)
+
+  done-parts : format b edition .answer ≡ 0 → (validEdition edition ≡ true) × (badNewSize edition b ≡ false)
+  unfolding format
+  done-parts e = good-parts (format-answers b edition .1 .only e .0)
+
+  done-fresh : format b edition .answer ≡ 0 → freshOf edition b ≡ format b edition .block
+  unfolding format
+  done-fresh e = sym (done-block (formatRefusals edition b) b (freshOf edition b) e)
+
+  pub format-law : format b edition .answer ≡ 0 → Fresh edition b (format b edition .block)
+  format-law e = subst (Fresh edition b) (done-fresh e) (formatted-fresh edition b (done-parts e .0) (done-parts e .1))
+
+  pub format-left : format b edition .answer ≡ 0 → FreshLeft edition b (format b edition .block)
+  format-left e = subst (FreshLeft edition b) (done-fresh e) (formatted-left edition b (done-parts e .0) (done-parts e .1))
+
+  pub format-refused : format b edition .answer ≢ 0 → format b edition .block ≡ b
+  unfolding format
+  format-refused n = refused-block (formatRefusals edition b) b (freshOf edition b) n

@@ -22,14 +22,14 @@ use Rattle.store.proofs.FreeWrites as free-writes
 use Rattle.store.proofs.InsertZeros as zeros
 use Rattle.store.proofs.RemoveZeros as removal-zeros
 
-pub format-meets : (b : List ℕ) → FormatTable b (format b)
+pub format-meets : (edition : ℕ) (b : List ℕ) → FormatTable edition b (format b edition)
 format-meets = format-table
 
 -- the fields of a fresh block tell every byte of it
 pub fresh-told : (edition : ℕ) (b q r : List ℕ) → FreshLeft edition b q → FreshLeft edition b r → q ≡ r
 fresh-told = determined.fresh-told
 
-pub format-told : (b : List ℕ) (r : Changed) → FormatTable b r → r ≡ format b
+pub format-told : (edition : ℕ) (b : List ℕ) (r : Changed) → FormatTable edition b r → r ≡ format b edition
 format-told = determined.format-told
 
 pub insert-meets : (b key : List ℕ) (value : ℕ) → InsertTable b key value (insert b key value)

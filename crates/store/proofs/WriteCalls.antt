@@ -5,27 +5,26 @@ use mathlib.Core.Bool.{not}
 use mathlib.Core.List.{List}
 use Prim.Native.Nat.{ℕ}
 use borrow.Author.Tests.{not-true, not-false}
-use Rattle.blocks.proofs.Refusals.{refused-block}
 use Rattle.blocks.specs.Read.{shown}
 use Rattle.blocks.proofs.ReadCalls.{asked, refusals-none, exactly, missing-none, none-missing}
-use Rattle.store.specs.Format.{freshOf, formatRefusals, format}
+use Rattle.store.specs.Format.{format}
 use Rattle.store.specs.Insert.{insert}
 use Rattle.store.specs.Remove.{remove}
 use Rattle.store.proofs.CallAnswers.{format-answers, insert-answers, remove-answers}
-use Rattle.store.proofs.Format.{format-law, format-left}
+use Rattle.store.proofs.Format.{bad-parts, parts-bad, good-parts, parts-good, format-law, format-left, format-refused}
 use Rattle.store.proofs.InsertCall.{insert-number, insert-zero, insert-seven, insert-refused, insert-refused-count, insert-after, insert-laid}
 use Rattle.store.proofs.RemoveCall.{remove-number, remove-zero, remove-seven, remove-refused, remove-refused-count, remove-after, remove-laid}
 use Rattle.store.specs.Tables.{FormatTable, InsertTable, RemoveTable}
 
-pub format-table : (b : List ℕ) → FormatTable b (format b)
+pub format-table : (edition : ℕ) (b : List ℕ) → FormatTable edition b (format b edition)
 unfolding format
-format-table b =
+format-table edition b =
     record {
-      bad-size = exactly refl (format-answers b .0) (λ c. c .1) (λ d. (tt, d));
-      done = exactly refl (format-answers b .1) (λ c. c .0) (λ d. (d, tt));
-      refused = refused-block (formatRefusals 1 b) b (freshOf 1 b);
-      left = format-left b;
-      fresh = format-law b;
+      bad-size = exactly refl (format-answers b edition .0) (λ c. bad-parts edition b (c .1)) (λ d. (tt, parts-bad edition b d));
+      done = exactly refl (format-answers b edition .1) (λ c. good-parts edition b (c .0)) (λ d. (parts-good edition b d, tt));
+      refused = format-refused edition b;
+      left = format-left edition b;
+      fresh = format-law edition b;
     }
 
 pub insert-table : (b key : List ℕ) (value : ℕ) → InsertTable b key value (insert b key value)

@@ -8,10 +8,11 @@ use Rattle.order_words.specs.Extended.{withDigit, extendedOrder}
 use Rattle.nodes.specs.Pointer.{leafWord}
 use Rattle.nodes.specs.Sparse.{positionOf}
 use Rattle.nodes.specs.Value.{pointerValue}
-use Rattle.staging.specs.NewCells.{blank, chainCell, prefixCell, pairCell, sparsePair, withoutCharacters, sparseCopy, withOrder, appendedCell, branchCopy, headCopy, withWords}
-use Rattle.updates.specs.Built.{allocate, room, characterBefore, chainWith, chainOver}
+use Rattle.staging.specs.NewCells.{blank, chainCell, prefixCell, withPrefix, pairCell, sparsePair, withoutCharacters, sparseCopy, withOrder, appendedCell, branchCopy, headCopy, withWords}
+use Rattle.updates.specs.Built.{allocate, room, firstUsed, characterBefore, chainWith, chainOver}
 use Rattle.updates.specs.SplitBuild.{branchRow, rows, endRow, midRow, splitOf, splitCopied}
 use Rattle.updates.specs.SetChild.{chainSet, sparseSet, setChild}
+use Rattle.updates.specs.PrefixOver.{embeds, prefixBefore, prefixOver}
 use Rattle.updates.specs.Build.{wordAside, putBack, childOf, pathCopy, valueAt, build, cellsNeeded}
 use Rattle.removals.specs.RisingCell.{charactersFrom, withCharacters, risingOrder, risingCell}
 use Rattle.removals.specs.SplitLeft.{splitLeft}
@@ -31,7 +32,7 @@ use Rattle.store.specs.Committed.{commitWrites}
 
 -- the builds of an insertion and of a removal
 unfoldable pub buildsOpen : Unit {0}
-unfolding withWord written wordWrites select encode withDigit extendedOrder leafWord positionOf blank chainCell prefixCell pairCell sparsePair withoutCharacters sparseCopy withOrder appendedCell branchCopy headCopy withWords allocate room characterBefore chainWith chainOver branchRow rows endRow midRow splitOf splitCopied chainSet sparseSet setChild wordAside pointerValue putBack childOf pathCopy valueAt build cellsNeeded charactersFrom withCharacters risingOrder risingCell splitLeft ofKept splitStays loseChild changeChild putBackLeft removal neededToRemove numberFrom buildWrites
+unfolding withWord written wordWrites select encode withDigit extendedOrder leafWord positionOf blank chainCell prefixCell withPrefix pairCell sparsePair withoutCharacters sparseCopy withOrder appendedCell branchCopy headCopy withWords allocate room firstUsed characterBefore chainWith chainOver branchRow rows endRow midRow splitOf splitCopied chainSet sparseSet setChild wordAside pointerValue embeds prefixBefore prefixOver putBack childOf pathCopy valueAt build cellsNeeded charactersFrom withCharacters risingOrder risingCell splitLeft ofKept splitStays loseChild changeChild putBackLeft removal neededToRemove numberFrom buildWrites
 buildsOpen = tt
 
 -- the calls, with all of these

@@ -1,10 +1,10 @@
 -- 01: "A fresh book is all zero but for n and the edition."
-use mathlib.Core.Bool.{Bool}
+use mathlib.Core.Bool.{Bool, _||_, not}
 use mathlib.Core.List.{List, [], _∷_}
 use Prim.Native.Nat.{ℕ, _/_}
 use lib.ListN.{length}
 use Rattle.cells.specs.Bytes.{zeros}
-use Rattle.nodes.specs.Layout.{Layout, leastCells}
+use Rattle.nodes.specs.Layout.{Layout, leastCells, validEdition}
 use Rattle.blocks.specs.Trailer.{badLength}
 use Rattle.blocks.specs.TrailerWrites.{withCells, withEdition}
 use Rattle.blocks.specs.Refusal.{Refusal, refusal, Changed, changedBy}
@@ -25,10 +25,14 @@ freshOf edition block = formatted (newLayout edition block) (length block)
 abbrev pub badNewSize : ℕ → List ℕ → Bool
 badNewSize edition block = badLength (leastCells (newLayout edition block)) (length block)
 
+-- 02, 3: "A fresh book is asked for by edition, 1 or 2, else answer 1": there is no such edition, or the length is bad by its layout
+abbrev pub badFresh : ℕ → List ℕ → Bool
+badFresh edition block = not (validEdition edition) || badNewSize edition block
+
 -- no other answer than 1 is asked for
 abbrev pub formatRefusals : ℕ → List ℕ → List Refusal
-formatRefusals edition block = refusal 1 (badNewSize edition block) ∷ []
+formatRefusals edition block = refusal 1 (badFresh edition block) ∷ []
 
--- making a fresh block; 01: "edition, 1"
-unfoldable pub format : List ℕ → Changed
-format block = changedBy (formatRefusals 1 block) block (freshOf 1 block)
+-- making a fresh block of the edition asked for
+unfoldable pub format : List ℕ → ℕ → Changed
+format block edition = changedBy (formatRefusals edition block) block (freshOf edition block)

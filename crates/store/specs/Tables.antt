@@ -1,7 +1,7 @@
 -- 01, "When the answer is no", for making a fresh block, for an insertion and for a removal: each answer exactly under its condition,
 -- and the block that is left.
 use mathlib.Core.Path.{_≡_}
-use mathlib.Core.Logic.{_≢_}
+use mathlib.Core.Logic.{_≢_, _⊎_}
 use mathlib.Core.Bool.{true, false}
 use mathlib.Core.List.{List}
 use mathlib.Core.Option.{none}
@@ -10,7 +10,7 @@ use lib.ListN.{length, getD}
 use Rattle.cells.specs.Bytes.{IsBytes}
 use Rattle.cells.specs.Word.{wordAt}
 use Rattle.cells.specs.Occurrences.{occurrences}
-use Rattle.nodes.specs.Layout.{usable}
+use Rattle.nodes.specs.Layout.{usable, validEdition}
 use Rattle.trees.specs.Lookup.{emptyTable, update, erase}
 use Rattle.blocks.specs.Trailer.{cellsAt, editionAt, badSize, layoutOf, inUse}
 use Rattle.blocks.specs.Sound.{sound, reachable}
@@ -48,15 +48,16 @@ pub record FreshLeft (edition : ℕ) (b fresh : List ℕ) : Type 0 where
   pub edition-word : wordAt fresh (editionAt (newLayout edition b)) ≡ edition
   pub zero : (i : ℕ) → OutsideWord (cellsAt (newLayout edition b)) i → OutsideWord (editionAt (newLayout edition b)) i → getD fresh i 0 ≡ 0
 
--- 01's table for a fresh block: the old one is not asked, neither what it says nor whether it is sound
-pub record FormatTable (b : List ℕ) (r : Changed) : Type 0 where
-  pub bad-size : Exactly (r .answer) 1 (badNewSize 1 b ≡ true)
-  pub done : Exactly (r .answer) 0 (badNewSize 1 b ≡ false)
+-- 01's table for a fresh block of an edition: the old one is not asked, neither what it says nor whether it is sound
+pub record FormatTable (edition : ℕ) (b : List ℕ) (r : Changed) : Type 0 where
+  -- 02, 3: "asked for by edition, 1 or 2, else answer 1", whatever the length
+  pub bad-size : Exactly (r .answer) 1 ((validEdition edition ≡ false) ⊎ (badNewSize edition b ≡ true))
+  pub done : Exactly (r .answer) 0 ((validEdition edition ≡ true) × (badNewSize edition b ≡ false))
   pub refused : r .answer ≢ 0 → r .block ≡ b
-  -- all zero but for n and the edition, 1
-  pub left : r .answer ≡ 0 → FreshLeft 1 b (r .block)
+  -- all zero but for n and the edition
+  pub left : r .answer ≡ 0 → FreshLeft edition b (r .block)
   -- which is sound, shows nothing and has no slot in use
-  pub fresh : r .answer ≡ 0 → Fresh 1 b (r .block)
+  pub fresh : r .answer ≡ 0 → Fresh edition b (r .block)
 
 -- 01's table for an insertion
 pub record InsertTable (b key : List ℕ) (value : ℕ) (r : Counted) : Type 0 where

@@ -10,6 +10,7 @@ use blocks::trailer_fields::is_bad_length;
 use blocks::trailer_writes::put_cells;
 use blocks::trailer_writes::put_edition;
 use nodes::layout::Layout;
+use nodes::layout::is_valid_edition;
 use nodes::layout::least_cells;
 
 // Sets every byte to zero.
@@ -23,15 +24,16 @@ fn clear(bytes: &mut [u8])
     }
 }
 
-// Makes a block fresh: all zero but for its number of cells and its edition.
-pub fn format(block: &mut [u8]) -> ChangeAnswer
-    ensures { λ r. ⌜ format (now (block .entry)) ≡ changedOutcome r (now (block .exit)) ⌝ }
+// Makes a block fresh, of an edition: all zero but for its number of cells and its edition.
+pub fn format(block: &mut [u8], edition: u32) -> ChangeAnswer
+    ensures { λ r. ⌜ format (now (block .entry)) edition ≡ changedOutcome r (now (block .exit)) ⌝ }
 {
+    if !is_valid_edition(edition) {
+        return ChangeAnswer::Refused(Refusal::BadSize);
+    }
     let size = block.len();
-    let layout = Layout {
-        edition: 1,
-        cells: size / 32,
-    };
+    let cells = size / 32;
+    let layout = Layout { edition, cells };
     if is_bad_length(least_cells(layout), size) {
         return ChangeAnswer::Refused(Refusal::BadSize);
     }

@@ -1,7 +1,8 @@
 -- A tree, its table and its pairs are the same in any memory that is alike on the cells that the tree visits.
 use mathlib.Core.Path.{_≡_, refl, sym, ap, _∙_, subst}
 use mathlib.Core.Logic.{⊎-elim}
-use mathlib.Core.List.{List, [], _∷_, _++_}
+use mathlib.Core.Bool.{Bool, true, false}
+use mathlib.Core.List.{List, [], _∷_, _++_, append-assoc}
 use mathlib.Core.Option.{none, some}
 use Prim.Native.Nat.{ℕ, zero, suc, _+_, _-_, _≤_, _<_}
 use native.Mathlib.Decide.{decLt, ℕ-discrete}
@@ -10,15 +11,16 @@ use Rattle.cells.specs.Bytes.{IsBytes}
 use Rattle.cells.specs.Memory.{Memory}
 use Rattle.cells.specs.Occurrences.{occurrences}
 use Rattle.cells.proofs.Choice.{never}
-use Rattle.cells.proofs.Occurrences.{occurrences-none, occurrences-one, occurrences-same, occurrences-cons-other, occurrences-here, Agree, agree-less}
-use Rattle.nodes.specs.Layout.{Layout, cellLimit}
+use Rattle.cells.proofs.Occurrences.{occurrences-none, occurrences-one, occurrences-cons-other, occurrences-append, occurrences-here, Agree, agree-less}
+use Rattle.nodes.specs.Layout.{Layout, usable, cellLimit}
 use Rattle.nodes.specs.Pointer.{Pointer, pointer, wordTo}
 use Rattle.nodes.specs.Pointer.Pointer.{nothing, leaf, chain, split, sparse, prefix, invalid}
 use Rattle.nodes.specs.Chain.{chainCharacter}
 use Rattle.nodes.specs.Split.{gather, under}
-use Rattle.nodes.specs.Prefix.{prefixLink}
+use Rattle.nodes.specs.Prefix.{prefixOffset, standalone, prefixLink, prefixCells, validPrefix}
 use Rattle.nodes.specs.Node.{Node, childless, plain, readAt, read}
 use Rattle.nodes.proofs.Pointers.{names, usable-low, made-chain}
+use Rattle.nodes.proofs.Prefixes.{cells-alone, embedded-link}
 use Rattle.nodes.proofs.Gather.{Framed, words-frame}
 use Rattle.nodes.proofs.Chain.{chain-footprint, chain-cells-end, chain-next}
 use Rattle.nodes.proofs.Frame.{Like, chain-cut, split-cut, sparse-cut, prefix-cut, read-is, plain-read, read-frame}
@@ -34,9 +36,9 @@ abbrev Inside : List ℕ → Node → Type 0
 Inside cs X = (c : ℕ) → 1 ≤ occurrences c (X .footprint) → 1 ≤ occurrences c cs
 
 module _ (layout : Layout) (m : Memory) where
-  -- the tree of a prefix is that of the node linked and one cell more
+  -- the tree of a prefix is that of the node linked, and one cell more where the prefix has it for itself
   pub link-tree : (d w c : ℕ) (cs : List ℕ) → pointer layout w ≡ prefix c → tree layout m d w ≡ some cs
-      → (es : List ℕ) × (tree layout m d (prefixLink c (m c)) ≡ some es) × (c ∷ es ≡ cs)
+      → (es : List ℕ) × (tree layout m d (prefixLink c (m c)) ≡ some es) × (prefixCells c (m c) ++ es ≡ cs)
   link-tree d w c cs named found =
       let q = tree-cut layout m d w cs found in
       let r = read-prefix layout m w (q .0) (q .2) c named in
@@ -46,7 +48,7 @@ module _ (layout : Layout) (m : Memory) where
       subst (λ (Z : Node). gather (λ y. under (kids layout m d) (Z .child y)) 256 0 ≡ some (q .1)) (sym (r .3)) (q .3) in (
         r .0 .cells ++ q .1,
         tree-join layout m d (prefixLink c (m c)) (r .0) (q .1) linked below,
-        ap (λ (Z : Node). Z .cells ++ q .1) (r .3) ∙ q .4,
+        sym (append-assoc (prefixCells c (m c)) (r .0 .cells) (q .1)) ∙ ap (λ (Z : Node). Z .cells ++ q .1) (r .3) ∙ q .4,
       )
 
 module _ (layout : Layout) (small : layout .cells ≤ cellLimit) (m : Memory) (bytes : (c : ℕ) → IsBytes (m c)) where
@@ -106,6 +108,21 @@ module _ (layout : Layout) (small : layout .cells ≤ cellLimit) (m : Memory) (b
   plain-in d w cs (prefix c) X named found node = never node
   plain-in d w cs invalid X named found node = never node
 
+  -- an embedded prefix stands in a cell that its node was read from
+  embedded-in : (c : ℕ) (Z : Node) → usable layout c ≡ true → validPrefix layout (m c) ≡ true → standalone (m c) ≡ false
+      → plain layout m (pointer layout (prefixLink c (m c))) ≡ some Z → 1 ≤ occurrences c (Z .footprint)
+  embedded-in c Z u valid other node =
+      ⊎-elim
+      (λ named.
+      let first : Z .footprint ≡ c ∷ [] =
+      ap (λ (N : Node). N .footprint) (sym (chain-cut layout m c (prefixOffset (m c)) Z (ap (plain layout m) (sym named) ∙ node) .1))
+      ∙ chain-footprint (m c) c (prefixOffset (m c)) in
+      omega (arith, occurrences-here c [], ap (occurrences c) first))
+      (λ named.
+      let p = split-cut layout m c Z (ap (plain layout m) (sym named) ∙ node) in
+      omega (arith, occurrences-here c (p .0), ap (λ (N : Node). occurrences c (N .footprint)) (p .3)))
+      (embedded-link layout c (m c) small u valid other)
+
   prefix-in : (d w c : ℕ) (cs : List ℕ) (X : Node) → pointer layout w ≡ prefix c → tree layout m d w ≡ some cs
       → readAt layout m (prefix c) ≡ some X → Inside cs X
   prefix-in d w c cs X named found node x h =
@@ -114,14 +131,24 @@ module _ (layout : Layout) (small : layout .cells ≤ cellLimit) (m : Memory) (b
       let linked : Inside (l .0) (r .0) = plain-in d (prefixLink c (m c)) (l .0) (pointer layout (prefixLink c (m c))) (r .0) refl (l .1) (r .2) in
       let here : 1 ≤ occurrences x (c ∷ r .0 .footprint) = subst (λ (Z : Node). 1 ≤ occurrences x (Z .footprint)) (sym (r .3)) h in
       subst (λ a. 1 ≤ occurrences x a) (l .2) (elim (ℕ-discrete x c) [
-        | yes same ↦ omega (arith, occurrences-same x c (l .0) same)
+        | yes same ↦
+            subst (λ z. 1 ≤ occurrences z (prefixCells c (m c) ++ l .0)) (sym same)
+            (own (standalone (m c)) refl (r .0) (names layout w (prefix c) named .0) (r .1) (r .2) (l .0) (linked c))
         | no other ↦
             omega (
               arith,
-              occurrences-cons-other x c (l .0) other,
+              occurrences-append x (prefixCells c (m c)) (l .0),
               linked x (omega (arith, here, occurrences-cons-other x c (r .0 .footprint) other)),
             )
       ])
+    where
+      -- the prefix's own cell: visited by it, or with its node
+      own : (alone : Bool) → standalone (m c) ≡ alone → (Z : Node) → usable layout c ≡ true → validPrefix layout (m c) ≡ true
+          → plain layout m (pointer layout (prefixLink c (m c))) ≡ some Z → (es : List ℕ) → (1 ≤ occurrences c (Z .footprint) → 1 ≤ occurrences c es)
+          → 1 ≤ occurrences c (prefixCells c (m c) ++ es)
+      own true t Z u valid linked es below =
+          omega (arith, occurrences-append c (prefixCells c (m c)) es, occurrences-here c [], ap (occurrences c) (cells-alone c (m c) t))
+      own false t Z u valid linked es below = omega (arith, occurrences-append c (prefixCells c (m c)) es, below (embedded-in c Z u valid t linked))
 
   readAt-in : (d w : ℕ) (cs : List ℕ) (p : Pointer) (X : Node) → pointer layout w ≡ p → tree layout m d w ≡ some cs
       → readAt layout m p ≡ some X → Inside cs X

@@ -14,10 +14,11 @@ use Rattle.nodes.specs.Layout.{Layout, usable}
 use Rattle.nodes.specs.Pointer.{Pointer, pointer}
 use Rattle.nodes.specs.Pointer.Pointer.{nothing, leaf, chain, split, sparse, prefix, invalid}
 use Rattle.nodes.specs.Split.{gather, under, endCells, midCells, headWord, branchWord}
-use Rattle.nodes.specs.Prefix.{prefixLink}
+use Rattle.nodes.specs.Prefix.{prefixLink, prefixCells}
 use Rattle.nodes.specs.Node.{Node, childless, plain, readAt, read}
 use Rattle.nodes.proofs.Pointers.{names}
 use Rattle.nodes.proofs.Gather.{gather-cut, under-zero, under-word}
+use Rattle.nodes.proofs.Prefixes.{prefix-cells-most}
 use Rattle.nodes.proofs.Chain.{chain-footprint}
 use Rattle.nodes.proofs.Frame.{end-cut, mid-cut, head-is, chain-cut, split-cut, sparse-cut, prefix-cut, read-is, cells-most}
 use Rattle.nodes.proofs.Read.{read-plain}
@@ -108,7 +109,9 @@ module _ (layout : Layout) where
     readAt-usable w (prefix c) X named e =
         let p = prefix-cut layout m c X e in
         subst (λ (Z : Node). Usable layout (Z .cells)) (p .3)
-        (usable-cons c (p .0 .cells) (names layout w (prefix c) named .0) (plain-usable (prefixLink c (m c)) (pointer layout (prefixLink c (m c))) (p .0) refl (p .2)))
+        (usable-append (prefixCells c (m c)) (p .0 .cells)
+        (λ z h. usable-cons c [] (names layout w (prefix c) named .0) usable-none z (omega (arith, prefix-cells-most c (m c) z)))
+        (plain-usable (prefixLink c (m c)) (pointer layout (prefixLink c (m c))) (p .0) refl (p .2)))
     readAt-usable w invalid X named e = never e
 
     -- of a node, and of a tree

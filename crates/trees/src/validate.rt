@@ -7,6 +7,7 @@ ghost use Rattle.trees.specs.Code.Parts.{childTree, plainTree, splitBran
 ghost use Rattle.nodes.specs.Code.Covered.{Covered};
 use crate::stamps::stamp_branch;
 use crate::stamps::stamp_cell;
+use crate::stamps::stamp_prefix;
 use cells::cell;
 use cells::word_at;
 use nodes::layout::CELL_LIMIT;
@@ -14,8 +15,7 @@ use nodes::layout::KEY_LIMIT;
 use nodes::layout::Layout;
 use nodes::pointer::Pointer;
 use nodes::pointer::pointer_of;
-use nodes::prefix::is_valid_prefix;
-use nodes::prefix::linked_word;
+use nodes::prefix::link_at;
 use nodes::sparse::is_valid_sparse;
 use nodes::sparse::sparse_count;
 use nodes::sparse::sparse_position;
@@ -128,18 +128,18 @@ fn child_check(
     if depth == 0 {
         return false;
     }
+    let mut node = word;
     match pointer_of(layout, word) {
-        Pointer::Leaf(_) => true,
+        Pointer::Leaf(_) => return true,
         Pointer::Prefix(number) => {
-            let bytes = cell(block, number);
-            if !stamp_cell(stamps, stamp, number, is_valid_prefix(layout, bytes)) {
+            if !stamp_prefix(layout, block, stamps, stamp, number) {
                 return false;
             }
-            let link = linked_word(number, bytes);
-            node_check(layout, block, stamps, stamp, link, depth - 1)
+            node = link_at(block, number);
         }
-        _ => node_check(layout, block, stamps, stamp, word, depth - 1),
+        _ => {}
     }
+    node_check(layout, block, stamps, stamp, node, depth - 1)
 }
 
 // Judges the tree of a root.

@@ -24,6 +24,7 @@ use Rattle.staging.specs.NewCells.{replacedCell, appendedCell}
 use Rattle.updates.specs.Built.{Built, allocate, roomOf, characterBefore, chainWith, chainOver}
 use Rattle.updates.specs.SplitBuild.{splitOf, splitCopied}
 use Rattle.updates.specs.SetChild.{withChild, chainSet, sparseSet, setChild}
+use Rattle.updates.specs.PrefixOver.{embeds, prefixBefore, prefixOver}
 use Rattle.updates.specs.Build.{wordAside, putBack, childOf, nodeCopy, pathCopy, valueAt, build}
 use Rattle.updates.proofs.SplitNodes.SplitBound.{split-sparse-most}
 
@@ -125,10 +126,21 @@ module _ (number : ℕ → ℕ) where
     setChild-sized (prefix c) x b = inl (record { low = omega arith; high = omega arith })
     setChild-sized invalid x b = inl (record { low = omega arith; high = omega arith })
 
+    -- a value over a build is one cell more, or none where it is embedded; and one at least
+    before-sized : (v word : ℕ) (cells : List (List ℕ)) → Sized 1 (1 + length cells) (prefixBefore number v word cells)
+    unfolding prefixBefore
+    before-sized v word [] = allocate-sized 31 _ []
+    before-sized v word (newest ∷ rest) = record { low = omega arith; high = omega arith }
+
+    pub prefixOver-sized : (v : ℕ) (b : Built) → Sized 1 (1 + length (b .cells)) (prefixOver layout number v b)
+    unfolding prefixOver
+    prefixOver-sized v b =
+        cond-sized (embeds layout (b .own) (b .word)) 1 (1 + length (b .cells)) (before-sized v (b .word) (b .cells)) (allocate-sized 31 _ (b .cells))
+
     pub putBack-most : (value : Option ℕ) (b : Built) → length (putBack layout number value b .cells) ≤ 1 + length (b .cells)
-    unfolding putBack allocate
+    unfolding putBack
     putBack-most none b = omega arith
-    putBack-most (some v) b = omega arith
+    putBack-most (some v) b = prefixOver-sized v b .high
 
     -- a node over a sparse cell that lacks the character has no child there
     sparse-lacks : (c x : ℕ) (X : Node) → Lacks (m c) x → plain layout m (sparse c) ≡ some X → X .child x ≡ 0
@@ -214,13 +226,13 @@ module _ (number : ℕ → ℕ) where
 
     step-least : (word x : ℕ) (b : Built) (p : Pointer) → pointer layout word ≡ p → p ≢ invalid
         → 1 ≤ length (putBack layout number (pointerValue m p) (setChild layout number m (pointer layout (wordAside layout m p word)) x b) .cells)
-    unfolding putBack pointerValue wordAside allocate leastSet
+    unfolding putBack pointerValue wordAside leastSet
     step-least word x b nothing is named = rw is (setChild-least nothing x b)
-    step-least word x b (leaf v) is named = omega arith
+    step-least word x b (leaf v) is named = prefixOver-sized v _ .low
     step-least word x b (chain c k) is named = rw is (setChild-least (chain c k) x b)
     step-least word x b (split c) is named = rw is (setChild-least (split c) x b)
     step-least word x b (sparse c) is named = rw is (setChild-least (sparse c) x b)
-    step-least word x b (prefix c) is named = omega arith
+    step-least word x b (prefix c) is named = prefixOver-sized _ _ .low
     step-least word x b invalid is named = absurd (named refl)
 
     pub pathCopy-least : (atEnd : ℕ → Built) (word x : ℕ) (key : List ℕ) → pointer layout word ≢ invalid

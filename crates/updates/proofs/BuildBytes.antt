@@ -1,14 +1,15 @@
 -- Every cell that a build allocates is 32 bytes.
 use mathlib.Core.Path.{_≡_, refl, ap}
 use mathlib.Core.List.{List, [], _∷_}
-use Prim.Native.Nat.{ℕ, _<_}
+use native.Mathlib.Omega.{arith}
+use Prim.Native.Nat.{ℕ, _%_, _<_}
 use lib.Dec.{eqb}
 use Rattle.cells.specs.Bytes.{IsBytes}
 use Rattle.cells.specs.Memory.{Memory}
 use Rattle.cells.proofs.Words.{bytes-tail}
 use Rattle.nodes.specs.Layout.{Layout}
 use Rattle.staging.specs.NewCells.{blank}
-use Rattle.staging.proofs.CellBytes.{IsCell, blank-cell, chain-cell, prefix-cell, sparsePair-cell, sparseCopy-cell, appended-cell, words-cell, headCopy-cell, branchCopy-cell, set-cell, word-cell}
+use Rattle.staging.proofs.CellBytes.{IsCell, blank-cell, chain-cell, prefix-cell, embedded-cell, sparsePair-cell, sparseCopy-cell, appended-cell, words-cell, headCopy-cell, branchCopy-cell, set-cell, word-cell}
 use Rattle.updates.specs.Built.{Built, room, firstUsed}
 use Rattle.updates.specs.Build.{build}
 use Rattle.updates.proofs.Related.{Contents, Characters, Relation, EachCell, Related, build-related}
@@ -31,6 +32,7 @@ whole-contents m each =
       branchCopied = λ u at w. word-cell _ at w (branchCopy-cell m each u);
       headCopied = λ c at w. word-cell _ at w (headCopy-cell (m c));
       prefixed = λ v w. prefix-cell v w;
+      embedded = λ s v w cell. embedded-cell s v (w % 32) (omega arith) cell;
     }
 
 pub key-characters : (key : List ℕ) → IsBytes key → Characters (λ x. x < 256) key

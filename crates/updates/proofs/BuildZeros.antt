@@ -23,7 +23,8 @@ use Rattle.updates.specs.Zeros.{CleanBuild}
 use Rattle.updates.proofs.Count.{Numbering}
 use Rattle.updates.proofs.PrefixNodes.Aside.{child-of, aside}
 use Rattle.updates.proofs.Zeros.Known.{CleanBuilt}
-use Rattle.updates.proofs.Zeros.NodeZeros.{chainOver-clean, chainSet-clean, sparseSet-clean, prefix-over, prefix-alone}
+use Rattle.updates.proofs.Zeros.NodeZeros.{chainOver-clean, chainSet-clean, sparseSet-clean}
+use Rattle.updates.proofs.Zeros.PrefixZeros.{prefix-alone, prefixOver-clean}
 use Rattle.updates.proofs.Zeros.SplitZeros.{splitCopied-clean}
 
 module _ (number : ℕ → ℕ) (n : Numbering number) (layout : Layout) (m : Memory) (whole : (c : ℕ) → length (m c) ≡ 32) where
@@ -42,7 +43,7 @@ module _ (number : ℕ → ℕ) (n : Numbering number) (layout : Layout) (m : Me
   pub putBack-clean : (value : Option ℕ) (b : Built) → CleanBuilt number n b → CleanBuilt number n (putBack layout number value b)
   unfolding putBack
   putBack-clean none b built = built
-  putBack-clean (some v) b built = prefix-over number n v b built
+  putBack-clean (some v) b built = prefixOver-clean number n v layout b built
 
   -- a path copied, where what is made at its end is clean
   pathCopy-clean : (atEnd : ℕ → Built) → ((word : ℕ) → CleanBuilt number n (atEnd word)) → (key : List ℕ) → IsBytes key → (d w : ℕ) (cs : List ℕ)
@@ -64,7 +65,7 @@ module _ (number : ℕ → ℕ) (n : Numbering number) (layout : Layout) (m : Me
   module _ (value : ℕ) (clear : value < 2147483648) where
     leaf-clean : CleanBuilt number n (unowned (leafWord value) [])
     unfolding leafWord
-    leaf-clean = record { nonzero = omega arith; small = omega arith; clean = tt }
+    leaf-clean = record { nonzero = omega arith; small = omega arith; clean = tt; whole = λ low. tt }
 
     valueAt-clean : (p : Pointer) (word : ℕ) → CleanBuilt number n (valueAt layout number m value p word)
     unfolding valueAt

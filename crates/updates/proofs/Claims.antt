@@ -5,18 +5,18 @@ use mathlib.Core.Bool.{true}
 use mathlib.Core.List.{List, [], _∷_}
 use mathlib.Core.Option.{Option, none, some}
 use native.Mathlib.Omega.{arith}
-use Prim.Native.Nat.{ℕ, zero, suc, _+_, _≤_, _<_}
+use Prim.Native.Nat.{ℕ, zero, suc, _+_, _/_, _≤_, _<_}
 use lib.ListN.{length, getD}
 use Rattle.cells.specs.Memory.{Memory}
 use Rattle.cells.specs.Occurrences.{occurrences}
 use Rattle.cells.proofs.Occurrences.{Agree}
 use Rattle.nodes.specs.Layout.{Layout, usable}
-use Rattle.nodes.specs.Pointer.{pointer, wordTo}
+use Rattle.nodes.specs.Pointer.{pointer}
 use Rattle.nodes.specs.Node.{Node, read, plain}
 use Rattle.trees.specs.Tree.{tree}
 use Rattle.trees.specs.Lookup.{lookup, assign}
 use Rattle.trees.specs.Root.{isRoot}
-use Rattle.updates.specs.Built.{Built, roomOf, firstUsedOf}
+use Rattle.updates.specs.Built.{Built, firstUsedOf}
 use Rattle.updates.specs.SetChild.{withChild}
 
 -- a cell's bytes are those of s from byte k on; all of them where k is 0
@@ -27,6 +27,10 @@ From (suc k) bytes s = (j : ℕ) → suc k ≤ j → j < 32 → getD bytes j 0 �
 pub from-all : (k : ℕ) (bytes s : List ℕ) → bytes ≡ s → From k bytes s
 from-all zero bytes s e = e
 from-all (suc k) bytes s e = λ j a b. ap (λ z. getD z j 0) e
+
+pub from-behind : (k : ℕ) (bytes s : List ℕ) → 1 ≤ k → ((j : ℕ) → k ≤ j → j < 32 → getD bytes j 0 ≡ getD s j 0) → From k bytes s
+from-behind zero bytes s low each = absurd (omega arith)
+from-behind (suc k) bytes s low each = each
 
 pub from-at : (k : ℕ) (bytes s : List ℕ) (j : ℕ) → From k bytes s → k ≤ j → j < 32 → getD bytes j 0 ≡ getD s j 0
 from-at zero bytes s j f a b = ap (λ z. getD z j 0) f
@@ -69,16 +73,16 @@ module _ (layout : Layout) (number : ℕ → ℕ) where
   cells-stand-from m k [] h = tt
   cells-stand-from m k (newest ∷ rest) h = (record { free = h .0 .free; bytes = from-all k _ _ (h .0 .bytes) }, h .1)
 
-  -- a chain that can take a character before it stands in the newest cell
+  -- a node with free bytes before it, a chain or a split, stands in the newest cell
   abbrev pub InNewest : ℕ → ℕ → List (List ℕ) → Type 0
   InNewest zero word cells = Unit {0}
   InNewest (suc k) word [] = ⊥
-  InNewest (suc k) word (newest ∷ rest) = (word ≡ wordTo (number (length rest)) (suc k)) × (suc k ≤ 27) × (length newest ≡ 32)
+  InNewest (suc k) word (newest ∷ rest) = (word / 32 ≡ number (length rest)) × (length newest ≡ 32)
 
   -- the word of a build is one of 32 bits, and goes with its cells
   pub record Consistent (b : Built) : Type 0 where
     pub small : b .word < 4294967296
-    pub in-newest : InNewest (roomOf b) (b .word) (b .cells)
+    pub in-newest : InNewest (firstUsedOf b) (b .word) (b .cells)
 
   -- the node at the word of `after` has the children of Y with the word of b for the character x, and no value:
   -- it visits no more than the cells of Y and those allocated since b, and each of the latter

@@ -65,6 +65,7 @@ any-contents m =
       branchCopied = λ u at w. tt;
       headCopied = λ c at w. tt;
       prefixed = λ v w. tt;
+      embedded = λ s v w _. tt;
     }
 
 pub any-characters : (key : List ℕ) → Characters Any key

@@ -1,6 +1,6 @@
 -- Two builds of one change, under two numberings or in two memories: one law over every step, of which counts, bytes, numbers
 -- and the cells needed are instances.
-use mathlib.Core.Path.{_≡_, refl, ap, _∙_, subst}
+use mathlib.Core.Path.{_≡_, refl, sym, ap, _∙_, subst}
 use mathlib.Core.Bool.{Bool, true, false, cond}
 use mathlib.Core.List.{List, [], _∷_}
 use mathlib.Core.Option.{Option, none, some}
@@ -10,6 +10,7 @@ use lib.Dec.{eqb, ltb}
 use lib.ListN.{length, set}
 use Rattle.cells.specs.Word.{withWord}
 use Rattle.cells.specs.Memory.{Memory}
+use Rattle.cells.proofs.Choice.{absurd-bool, absurd-false}
 use Rattle.nodes.specs.Layout.{Layout}
 use Rattle.nodes.specs.Pointer.{Pointer, pointer, leafWord, wordTo}
 use Rattle.nodes.specs.Pointer.Pointer.{nothing, leaf, chain, split, sparse, prefix, invalid}
@@ -18,12 +19,14 @@ use Rattle.nodes.specs.Sparse.{someWord, sparseCount, positionOf}
 use Rattle.nodes.specs.Split.{headWord, wordBelow}
 use Rattle.nodes.specs.Node.{read}
 use Rattle.nodes.specs.Value.{pointerValue}
-use Rattle.staging.specs.NewCells.{blank, chainCell, prefixCell, sparsePair, replacedCell, appendedCell, branchCopy, headCopy, withWords}
+use Rattle.staging.specs.NewCells.{blank, chainCell, prefixCell, withPrefix, sparsePair, replacedCell, appendedCell, branchCopy, headCopy, withWords}
 use Rattle.updates.specs.Built.{Built, unowned, allocate, room, roomOf, firstUsed, firstUsedOf, characterBefore, chainWith, chainOver}
 use Rattle.updates.specs.SplitBuild.{Row, branchRow, rows, endRow, midRow, splitOf, splitCopied}
 use Rattle.updates.specs.SetChild.{chainSet, sparseSet, setChild}
+use Rattle.updates.specs.PrefixOver.{embeds, prefixBefore, prefixOver}
 use Rattle.updates.specs.Build.{wordAside, putBack, childOf, nodeCopy, pathCopy, valueAt, build}
-use Rattle.updates.proofs.ChainNodes.Rooms.{room-most}
+use Rattle.updates.proofs.ChainNodes.Rooms.{room-most, first-kind}
+use Rattle.updates.proofs.PrefixNodes.Embedded.{embeds-parts, embeds-same}
 
 -- what holds of every cell that a build writes, by the ways to write one; the characters of its key are `Character`
 pub record Contents (m : Memory) (Character : ℕ → Type 0) (Content : List ℕ → Type 0) : Type 0 where
@@ -36,6 +39,7 @@ pub record Contents (m : Memory) (Character : ℕ → Type 0) (Content : List �
   pub branchCopied : (u at w : ℕ) → Content (withWord (branchCopy m u) at w)
   pub headCopied : (c at w : ℕ) → Content (withWord (headCopy (m c)) at w)
   pub prefixed : (v w : ℕ) → Content (prefixCell v w)
+  pub embedded : (s : List ℕ) (v w : ℕ) → Content s → Content (withPrefix s v (w % 32))
 
 -- every character of a key is one
 abbrev pub Characters : (ℕ → Type 0) → List ℕ → Type 0
@@ -241,7 +245,7 @@ module _ (Words : ℕ → ℕ → ℕ → Type 0) (Cells : ℕ → List ℕ → 
     related-room b b′ r =
         relation .room (length (b .cells)) (b .word) (b′ .word) (b .own) (r .word) ∙ ap (λ own. room own (b′ .word)) (r .own)
 
-    pub related-firstUsed : (b b′ : Built) → Related b b′ → firstUsedOf b ≡ firstUsedOf b′
+    related-firstUsed : (b b′ : Built) → Related b b′ → firstUsedOf b ≡ firstUsedOf b′
     related-firstUsed b b′ r =
         relation .firstUsed (length (b .cells)) (b .word) (b′ .word) (b .own) (r .word) ∙ ap (λ own. firstUsed own (b′ .word)) (r .own)
 
@@ -294,10 +298,47 @@ module _ (Words : ℕ → ℕ → ℕ → Type 0) (Cells : ℕ → List ℕ → 
       setChild-related (prefix c) x b b′ is r = r
       setChild-related invalid x b b′ is r = r
 
+      -- a value over a build: it is embedded in both or in neither, and at the same offset
+      before-related : (v w w′ : ℕ) (cells cells′ : List (List ℕ)) → w % 32 ≡ w′ % 32 → Words (length cells) w w′ → EachCell cells cells′
+          → Related (prefixBefore number v w cells) (prefixBefore number′ v w′ cells′)
+      unfolding prefixBefore
+      before-related v w w′ [] [] kind word e =
+          allocate-related 31 _ _ [] [] (omega arith) (relation .ofWord 0 w w′ (prefixCell v) (λ u. contents .prefixed v u) word) tt
+      before-related v w w′ [] (s′ ∷ rest′) kind word e = absurd e
+      before-related v w w′ (s ∷ rest) [] kind word e = absurd e
+      before-related v w w′ (s ∷ rest) (s′ ∷ rest′) kind word e =
+          record {
+            own = refl;
+            word = new-word 31 rest rest′ (omega arith) (e .1);
+            cells = (
+              subst (λ k. Cells (length rest) (withPrefix s v (w % 32)) (withPrefix s′ v k)) kind
+                  (relation .ofCell (length rest) s s′ (λ t. withPrefix t v (w % 32)) (λ t content. contents .embedded t v w content) (e .0)),
+              e .1,
+            );
+          }
+
+      prefixOver-related : (v : ℕ) (b b′ : Built) → Related b b′ → Related (prefixOver layout number v b) (prefixOver layout number′ v b′)
+      unfolding prefixOver
+      prefixOver-related v b b′ r = go (embeds layout (b .own) (b .word)) refl (embeds layout (b′ .own) (b′ .word)) (sym same)
+        where
+          same : embeds layout (b .own) (b .word) ≡ embeds layout (b′ .own) (b′ .word)
+          same = embeds-same layout (b .own) (b′ .own) (b .word) (b′ .word) (related-firstUsed b b′ r)
+
+          go : (t : Bool) → embeds layout (b .own) (b .word) ≡ t → (t′ : Bool) → t′ ≡ t
+              → Related (cond t (prefixBefore number v (b .word) (b .cells)) (allocate number 31 (prefixCell v (b .word)) (b .cells)))
+              (cond t′ (prefixBefore number′ v (b′ .word) (b′ .cells)) (allocate number′ 31 (prefixCell v (b′ .word)) (b′ .cells)))
+          go true t true both =
+              before-related v (b .word) (b′ .word) (b .cells) (b′ .cells)
+              (first-kind (b .own) (b′ .own) (b .word) (b′ .word) (related-room b b′ r) (related-firstUsed b b′ r)
+              (omega (arith, embeds-parts layout (b .own) (b .word) t .1))) (r .word) (r .cells)
+          go true t false both = absurd-false both
+          go false t true both = absurd-bool both
+          go false t false both = over-related 31 (prefixCell v) b b′ (omega arith) (λ w. contents .prefixed v w) r
+
       pub putBack-related : (value : Option ℕ) (b b′ : Built) → Related b b′ → Related (putBack layout number value b) (putBack layout number′ value b′)
       unfolding putBack
       putBack-related none b b′ r = r
-      putBack-related (some v) b b′ r = over-related 31 (prefixCell v) b b′ (omega arith) (λ w. contents .prefixed v w) r
+      putBack-related (some v) b b′ r = prefixOver-related v b b′ r
 
       -- in one memory under two numberings a path is copied alike, where the rules at its end are related
       along-numbers : (atEnd atEnd′ : ℕ → Built) → ((word : ℕ) → Related (atEnd word) (atEnd′ word)) → (word : ℕ) (key : List ℕ) → Characters Character key

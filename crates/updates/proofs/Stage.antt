@@ -4,6 +4,7 @@ pub mod StagedCell
 pub mod StagedChains
 pub mod StagedDescent
 pub mod StagedEnds
+pub mod StagedPrefixes
 pub mod StagedRows
 pub mod StagedSparse
 pub mod StagedSplitOf

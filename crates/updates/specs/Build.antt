@@ -13,6 +13,7 @@ use Rattle.nodes.specs.Node.{Node, read}
 use Rattle.staging.specs.NewCells.{prefixCell}
 use Rattle.updates.specs.Built.{Built, allocate, unowned}
 use Rattle.updates.specs.SetChild.{setChild}
+use Rattle.updates.specs.PrefixOver.{prefixOver}
 
 -- a node's word without its value. 01: "set aside the node's value (a leaf counts as a value over NONE)"
 unfoldable pub wordAside : Layout → Memory → Pointer → ℕ → ℕ
@@ -24,10 +25,10 @@ wordAside layout m (sparse c) word = word
 wordAside layout m (prefix c) word = prefixLink c (m c)
 wordAside layout m invalid word = word
 
--- 01: "then put the value back with a new prefix cell"
+-- 01: "then put the value back with a new prefix cell"; 02, 3: or embedded
 unfoldable pub putBack : Layout → (ℕ → ℕ) → Option ℕ → Built → Built
 putBack layout number none b = b
-putBack layout number (some value) b = allocate number 0x1F (prefixCell value (b .word)) (b .cells)
+putBack layout number (some value) b = prefixOver layout number value b
 
 -- the child word of a node that was read, NONE where there is no node
 unfoldable pub childOf : Option Node → ℕ → ℕ
@@ -49,7 +50,7 @@ pathCopy layout m copy atEnd word (x ∷ key) =
     copy word x below
 
 -- 01: "At the label's end: NONE or leaf becomes a leaf. A prefix is replaced by a new prefix cell to the same linked node;
--- any other node gets a new prefix cell."
+-- any other node gets a new prefix cell." The node there is old, so no prefix is embedded.
 unfoldable pub valueAt : Layout → (ℕ → ℕ) → Memory → ℕ → Pointer → ℕ → Built
 valueAt layout number m value nothing word = unowned (leafWord value) []
 valueAt layout number m value (leaf v) word = unowned (leafWord value) []

@@ -1,8 +1,9 @@
 pub mod Built
 pub mod SplitBuild
 pub mod SetChild
+pub mod OldChild
+pub mod PrefixOver
 pub mod Build
 pub mod Commit
 pub mod Zeros
-pub mod OldChild
 pub mod Code

@@ -2,13 +2,15 @@
 -- the bytes which have no meaning for that use are zero.
 use mathlib.Core.Path.{_≡_}
 use mathlib.Core.Logic.{_⊎_}
+use mathlib.Core.Bool.{true, false}
 use mathlib.Core.List.{List, [], _∷_}
-use Prim.Native.Nat.{ℕ, _<_}
+use Prim.Native.Nat.{ℕ, _≤_, _<_}
 use lib.ListN.{length, getD}
 use Rattle.cells.specs.Word.{wordAt}
 use Rattle.nodes.specs.Pointer.{wordTo}
 use Rattle.nodes.specs.Sparse.{sparseWord, sparseCount}
 use Rattle.nodes.specs.Split.{headWord, branchWord}
+use Rattle.nodes.specs.Prefix.{prefixOffset}
 use Rattle.nodes.specs.Meaning.{InChain, InSparse, InHead, InBranch, InPrefix}
 use Rattle.updates.specs.Built.{Built}
 
@@ -16,6 +18,8 @@ use Rattle.updates.specs.Built.{Built}
 pub data Use : Type 0 where
   chainFrom : ℕ → Use  -- the place of its first character
   sparseUse headUse midUse endUse prefixUse : Use
+  embeddedChain : ℕ → Use  -- the same with a prefix embedded before it
+  embeddedHead : Use
 
 -- the kind in the word that leads to it
 abbrev pub kindOf : Use → ℕ
@@ -25,6 +29,8 @@ kindOf headUse = 0x1C
 kindOf midUse = 0x1C
 kindOf endUse = 0x1C
 kindOf prefixUse = 0x1F
+kindOf (embeddedChain place) = 0x1F
+kindOf embeddedHead = 0x1F
 
 -- whether it is a node (0), a split's mid (1) or an end (2)
 abbrev pub part : Use → ℕ
@@ -34,6 +40,8 @@ part headUse = 0
 part midUse = 1
 part endUse = 2
 part prefixUse = 0
+part (embeddedChain place) = 0
+part embeddedHead = 0
 
 -- what the words in it lead to: from a head to mids, from a mid to ends, else to nodes
 abbrev pub partBelow : Use → ℕ
@@ -43,6 +51,8 @@ partBelow headUse = 1
 partBelow midUse = 2
 partBelow endUse = 0
 partBelow prefixUse = 0
+partBelow (embeddedChain place) = 0
+partBelow embeddedHead = 1
 
 -- the bytes that have a meaning
 abbrev pub Meant : Use → List ℕ → ℕ → Type 0
@@ -51,16 +61,20 @@ Meant sparseUse bytes i = InSparse (sparseCount bytes) i
 Meant headUse bytes i = InHead i
 Meant midUse bytes i = InBranch i
 Meant endUse bytes i = InBranch i
-Meant prefixUse bytes i = InPrefix i
+Meant prefixUse bytes i = InPrefix true i
+Meant (embeddedChain place) bytes i = InPrefix false i ⊎ InChain place i
+Meant embeddedHead bytes i = InPrefix false i ⊎ InHead i
 
--- a chain begins before the word at its end
-abbrev pub Proper : Use → Type 0
-Proper (chainFrom place) = place < 0x1C
-Proper sparseUse = Unit {0}
-Proper headUse = Unit {0}
-Proper midUse = Unit {0}
-Proper endUse = Unit {0}
-Proper prefixUse = Unit {0}
+-- a chain begins before the word at its end; the byte at 04 of a prefix says which of the three uses it is
+abbrev pub Proper : Use → List ℕ → Type 0
+Proper (chainFrom place) bytes = place < 0x1C
+Proper sparseUse bytes = Unit {0}
+Proper headUse bytes = Unit {0}
+Proper midUse bytes = Unit {0}
+Proper endUse bytes = Unit {0}
+Proper prefixUse bytes = prefixOffset bytes ≡ 0xFF
+Proper (embeddedChain place) bytes = (prefixOffset bytes ≡ place) × (0x05 ≤ place) × (place < 0x1C)
+Proper embeddedHead bytes = prefixOffset bytes ≡ 0x1C
 
 -- a word that leads from it stands in its bytes
 abbrev pub Holds : Use → List ℕ → ℕ → Type 0
@@ -70,10 +84,12 @@ Holds headUse bytes word = (j : ℕ) × (j < 4) × (headWord bytes j ≡ word)
 Holds midUse bytes word = (j : ℕ) × (j < 8) × (branchWord bytes j ≡ word)
 Holds endUse bytes word = (j : ℕ) × (j < 8) × (branchWord bytes j ≡ word)
 Holds prefixUse bytes word = wordAt bytes 0x1C ≡ word
+Holds (embeddedChain place) bytes word = wordAt bytes 0x1C ≡ word
+Holds embeddedHead bytes word = (j : ℕ) × (j < 4) × (headWord bytes j ≡ word)
 
 -- the bytes of a cell used so: those with no meaning are zero
 pub record Clean (role : Use) (bytes : List ℕ) : Type 0 where
-  pub proper : Proper role
+  pub proper : Proper role bytes
   pub zeros : (i : ℕ) → i < 32 → (Meant role bytes i → ⊥) → getD bytes i 0 ≡ 0
 
 -- a word that leads from a cell used so to a node, a mid or an end

@@ -20,12 +20,11 @@ use crate::prefix::at_end;
 use crate::prefix::put_back;
 use crate::sparse_set::sparse_set;
 use crate::split::split_set;
-use cells::cell;
 use nodes::layout::KEY_LIMIT;
 use nodes::layout::Layout;
 use nodes::pointer::Pointer;
 use nodes::pointer::pointer_of;
-use nodes::prefix::linked_word;
+use nodes::prefix::link_at;
 use nodes::step::ChildStep;
 use nodes::step::child_step;
 use nodes::value::value_at;
@@ -51,13 +50,13 @@ fn child_word(layout: Layout, block: &[u8], word: u32, x: u8) -> u32
 
 // A node's word without its value: NONE for a leaf, the node linked for a prefix.
 pub fn word_aside(layout: Layout, block: &[u8], word: u32) -> u32
-    requires { ⌜ layout .cells * 32 ≤ length (now block) ⌝ }
+    requires { ⌜ Covered layout (now block) ⌝ }
     ensures { λ r. ⌜ r ≡ wordAside layout (memoryOf (now (block .entry))) (pointer layout word) word ⌝ }
 {
     let named = pointer_of(layout, word);
     match named {
         Pointer::Leaf(_) => 0,
-        Pointer::Prefix(number) => linked_word(number, cell(block, number)),
+        Pointer::Prefix(number) => link_at(block, number),
         _ => word,
     }
 }

@@ -23,7 +23,7 @@ use staging::stage::put_byte;
 use staging::stage::word_to;
 
 // The free bytes before a chain in a cell that this call allocated; none before any other node.
-fn room_before(own: bool, word: u32) -> usize
+pub fn room_before(own: bool, word: u32) -> usize
     ensures { λ r. ⌜ r ≡ room own word ⌝ }
 {
     if !own {

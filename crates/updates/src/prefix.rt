@@ -5,23 +5,28 @@ ghost use lib.ListN.{length, take};
 ghost use Rattle.cells.specs.Memory.{memoryOf};
 ghost use Rattle.nodes.specs.Code.Coded.{heldOf};
 ghost use Rattle.staging.specs.NewCells.{prefixCell};
-ghost use Rattle.updates.specs.Built.{allocate};
+ghost use Rattle.updates.specs.Built.{allocate, firstUsed};
+ghost use Rattle.updates.specs.PrefixOver.{embeds, prefixOver};
 ghost use Rattle.updates.specs.Build.{putBack, insertedAt};
 ghost use Rattle.staging.specs.Numbering.{numberFrom};
 ghost use Rattle.staging.specs.Code.Stage.{stageCells, staged, Numbered};
 ghost use Rattle.updates.specs.Code.Staged.{builtOf, leafMade, Fitting};
-use cells::cell;
+use crate::chain::room_before;
 use nodes::layout::Layout;
+use nodes::layout::may_embed;
 use nodes::pointer::Pointer;
 use nodes::pointer::leaf_word;
 use nodes::pointer::pointer_of;
-use nodes::prefix::linked_word;
+use nodes::prefix::link_at;
 use nodes::value::Value;
+use staging::new_cells::put_embedded;
 use staging::new_cells::put_prefix;
 use staging::stage::BuildState;
 use staging::stage::STAGE_CELLS;
 use staging::stage::STAGE_SIZE;
 use staging::stage::allocated_as;
+use staging::stage::number_at;
+use staging::stage::word_to;
 
 // A value over a node, in a new cell.
 fn new_prefix(
@@ -40,6 +45,62 @@ fn new_prefix(
     allocated_as(layout, numbers, free, 31, count)
 }
 
+// The first byte that a node uses of a cell that this call allocated: a chain's place, 16 of a split head, 0 of any other.
+fn first_used(own: bool, word: u32) -> usize
+    ensures { λ r. ⌜ r ≡ firstUsed own word ⌝ }
+{
+    if !own {
+        return 0;
+    }
+    if 2147483648 <= word {
+        return 0;
+    }
+    if word % 32 == 28 {
+        return 16;
+    }
+    room_before(own, word)
+}
+
+// Whether a value goes into the cell of the node that it is over.
+fn is_embedding(layout: Layout, own: bool, word: u32) -> bool
+    ensures { λ r. ⌜ r ≡ embeds layout own word ⌝ }
+{
+    if !may_embed(layout) {
+        return false;
+    }
+    5 <= first_used(own, word)
+}
+
+// A value over a node that this call has built: in the node's cell, or in a new one.
+fn prefix_over(
+    layout: Layout,
+    numbers: &[u16; STAGE_CELLS],
+    free: usize,
+    stage: &mut [u8; STAGE_SIZE],
+    value: u32,
+    built: BuildState,
+) -> BuildState
+    requires { ⌜ Numbered layout free × Fitting (prefixOver layout (numberFrom layout (take free (now numbers))) value (builtOf built (now stage))) ⌝ }
+    ensures { λ r. ⌜ builtOf r (now (stage .exit)) ≡ prefixOver layout (numberFrom layout (take free (now (numbers .entry)))) value (builtOf built (now (stage .entry))) ⌝ }
+{
+    let word = built.word;
+    let count = built.count;
+    if !is_embedding(layout, built.own, word) {
+        return new_prefix(layout, numbers, free, stage, value, word, count);
+    }
+    if count == 0 {
+        return new_prefix(layout, numbers, free, stage, value, word, count);
+    }
+    put_embedded(stage, count - 1, value, (word % 32) as u8);
+    let number = number_at(layout, numbers, free, count - 1);
+    let joined = word_to(number, 31);
+    BuildState {
+        word: joined,
+        own: true,
+        count,
+    }
+}
+
 // A value that was set aside put back.
 pub fn put_back(
     layout: Layout,
@@ -52,12 +113,9 @@ pub fn put_back(
     requires { ⌜ Numbered layout free × Fitting (putBack layout (numberFrom layout (take free (now numbers))) (heldOf held) (builtOf built (now stage))) ⌝ }
     ensures { λ r. ⌜ builtOf r (now (stage .exit)) ≡ putBack layout (numberFrom layout (take free (now (numbers .entry)))) (heldOf held) (builtOf built (now (stage .entry))) ⌝ }
 {
-    let word = built.word;
-    let own = built.own;
-    let count = built.count;
     match held {
-        Value::Held(value) => new_prefix(layout, numbers, free, stage, value, word, count),
-        Value::Empty => BuildState { word, own, count },
+        Value::Held(value) => prefix_over(layout, numbers, free, stage, value, built),
+        Value::Empty => built,
     }
 }
 
@@ -92,7 +150,7 @@ pub fn at_end(
         Pointer::Leaf(_) => leaf_alone(value),
         Pointer::Invalid => leaf_alone(value),
         Pointer::Prefix(number) => {
-            let link = linked_word(number, cell(block, number));
+            let link = link_at(block, number);
             new_prefix(layout, numbers, free, stage, value, link, 0)
         }
         _ => new_prefix(layout, numbers, free, stage, value, word, 0),

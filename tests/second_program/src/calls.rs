@@ -1,9 +1,10 @@
 //! Every call of the specification on a block, its answers tried in the order in which they are to be given.
 
-use crate::coverage::{BuildCase, Change, Coverage};
-use crate::encode::{entered, fresh_cells, Cases, Layer};
+use crate::counted::{BuildCase, Change};
+use crate::coverage::Coverage;
+use crate::encode::{entered, fresh_cells, Build, Layer};
 use crate::limits::{held_limits, limits_met};
-use crate::model::{put_word, word_at, Node, Store, CELL, LONGEST_KEY};
+use crate::model::{put_word, word_at, Node, Store, CELL, EDITIONS, LONGEST_KEY};
 use crate::removal::without;
 use crate::verdict::{verdict, Question};
 use std::ops::Bound;
@@ -11,7 +12,7 @@ use std::ops::Bound;
 /// A call with its arguments.
 #[derive(Clone, Debug)]
 pub enum Call {
-    Format,
+    Format { edition: u32 },
     Validate,
     Insert { key: Vec<u8>, value: u32 },
     Get { key: Vec<u8> },
@@ -48,7 +49,7 @@ impl Call {
     /// The call's place in the list of calls.
     pub fn number(&self) -> usize {
         match self {
-            Call::Format => 0,
+            Call::Format { .. } => 0,
             Call::Validate => 1,
             Call::Insert { .. } => 2,
             Call::Get { .. } => 3,
@@ -75,8 +76,8 @@ fn answer(block: &mut [u8], call: &Call, coverage: &mut Coverage) -> Outcome {
     if !valid_length(block.len()) {
         return Outcome::bare(1);
     }
-    if let Call::Format = call {
-        return format(block);
+    if let Call::Format { edition } = call {
+        return format(block, *edition);
     }
     let store = match Store::decode(block) {
         Ok(store) => store,
@@ -87,7 +88,7 @@ fn answer(block: &mut [u8], call: &Call, coverage: &mut Coverage) -> Outcome {
     };
     coverage.meet(&store.met);
     match call {
-        Call::Format | Call::Validate => Outcome::bare(0),
+        Call::Format { .. } | Call::Validate => Outcome::bare(0),
         Call::Insert { key, value } => insert(block, store, key, *value, coverage),
         Call::Remove { key } => remove(block, store, key, coverage),
         Call::Get { key } => get(&store, key),
@@ -115,12 +116,15 @@ pub fn valid_key(key: &[u8]) -> bool {
     (1..=LONGEST_KEY).contains(&key.len())
 }
 
-/// Makes a block fresh: all zero but for the number of cells and the edition.
-fn format(block: &mut [u8]) -> Outcome {
+/// Makes a block fresh: all zero but for the number of cells and the edition, which must be one that there is.
+fn format(block: &mut [u8], edition: u32) -> Outcome {
+    if !EDITIONS.contains(&edition) {
+        return Outcome::bare(1);
+    }
     let trailer = block.len() - CELL;
     block.fill(0);
     put_word(block, trailer + 0x14, (trailer / CELL + 1) as u32);
-    put_word(block, trailer + 0x1C, 1);
+    put_word(block, trailer + 0x1C, edition);
     Outcome::bare(0)
 }
 
@@ -133,9 +137,9 @@ fn insert(block: &mut [u8], store: Store, key: &[u8], value: u32, coverage: &mut
         return Outcome::bare(4);
     }
     let free = store.free_cells();
-    let mut cases = Cases::new();
-    let tree = entered(store.root.top, key, value, &mut cases);
-    lay_down(block, free, Some(tree), (Change::Insertion, cases), coverage)
+    let mut build = Build { edition: store.edition, cases: Vec::new() };
+    let tree = entered(store.root.top, key, value, &mut build);
+    lay_down(block, free, Some(tree), (Change::Insertion, build), coverage)
 }
 
 /// Takes one key out of the root's table; the number is the count of cells taken, which may be none.
@@ -147,9 +151,9 @@ fn remove(block: &mut [u8], store: Store, key: &[u8], coverage: &mut Coverage) -
         return Outcome::bare(11);
     }
     let free = store.free_cells();
-    let mut cases = Cases::new();
-    let tree = without(store.root.top.expect("the root shows a key"), key, &mut cases);
-    lay_down(block, free, tree, (Change::Removal, cases), coverage)
+    let mut build = Build { edition: store.edition, cases: Vec::new() };
+    let tree = without(store.root.top.expect("the root shows a key"), key, &mut build);
+    lay_down(block, free, tree, (Change::Removal, build), coverage)
 }
 
 /// Writes a new tree and its root word, where the free cells are enough; the number is the count of cells taken.
@@ -157,7 +161,7 @@ fn lay_down(
     block: &mut [u8],
     free: Vec<usize>,
     tree: Option<Node>,
-    (change, mut cases): (Change, Cases),
+    (change, mut build): (Change, Build),
     coverage: &mut Coverage,
 ) -> Outcome {
     let count = tree.as_ref().map_or(0, fresh_cells);
@@ -166,9 +170,9 @@ fn lay_down(
         return Outcome::bare(7);
     }
     if count == 0 {
-        cases.push(BuildCase::NothingTaken);
+        build.push(BuildCase::NothingTaken);
     }
-    coverage.built(change, &cases);
+    coverage.built(change, &build.cases);
     let trailer = block.len() - CELL;
     let mut layer = Layer { block, free: free.into_iter() };
     let root = tree.map_or(0, |tree| layer.lay(&tree));

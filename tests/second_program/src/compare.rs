@@ -2,9 +2,10 @@
 
 use crate::calls::{perform, Call, Outcome};
 use crate::coverage::Coverage;
+use crate::display::{block_in_words, differing_cells, hexadecimal};
 use crate::ledger::Ledger;
-use crate::lists::{run, Ended, List, BAD_SIZE};
-use crate::model::{Store, CELL};
+use crate::lists::{run, Ended, List, NOT_FRESH};
+use crate::model::Store;
 use std::fmt::Debug;
 
 /// The other program's way to make a call and a list of calls, and to judge an order word.
@@ -16,8 +17,8 @@ pub struct Other {
     pub order_word: fn(u16) -> bool,
 }
 
-/// The most differences that are printed in full.
-const PRINTED: u64 = 5;
+/// The most differences that are kept to be printed at the end.
+const KEPT: usize = 4;
 
 /// The counts of a run, its differences, and the other program where there is one.
 pub struct Comparison {
@@ -28,12 +29,15 @@ pub struct Comparison {
     pub seed: u64,
     other: Option<Other>,
     traced: bool,
+    /// Differences on small blocks, each with the size of its block and its text.
+    kept: Vec<(usize, String)>,
 }
 
 impl Comparison {
     /// Nothing compared yet; a traced run prints each call before it is made, to find one that never comes back.
     pub fn new(other: Option<Other>, traced: bool) -> Comparison {
-        Comparison { coverage: Coverage::new(), listed: Coverage::new(), differences: 0, seed: 0, other, traced }
+        let (coverage, listed) = (Coverage::new(), Coverage::new());
+        Comparison { coverage, listed, differences: 0, seed: 0, other, traced, kept: Vec::new() }
     }
 
     /// Makes a call on the block, compares, and leaves the model's bytes in the block.
@@ -47,9 +51,9 @@ impl Comparison {
             let mut their_block = before.clone();
             let their = (other.call)(&mut their_block, call);
             if own != their || *block != their_block {
+                let cells = differing_cells(block, &their_block);
                 let (own, their) = (describe(&own), describe(&their));
-                self.note(call, &before, &format!("the model answers   {own}\nthe library answers {their}"));
-                self.print_cells(block, &their_block);
+                self.note(call, &before, &format!("the model answers   {own}\nthe library answers {their}{cells}"));
             }
         }
         #[cfg(alone)]
@@ -89,17 +93,17 @@ impl Comparison {
             let their_end = (other.list)(&mut their);
             if ended != their_end || own != their {
                 let (answers, their_answers) = (hexadecimal(&own.answers), hexadecimal(&their.answers));
-                let ends = format!("the model   {ended:?} {answers}\nthe library {their_end:?} {their_answers}");
-                self.note(&format_args!("a list, {}", hexadecimal(&list.bytes)), &list.block, &ends);
-                self.print_cells(&own.block, &their.block);
+                let cells = differing_cells(&own.block, &their.block);
+                let ends = format!("the model   {ended:?} {answers}\nthe library {their_end:?} {their_answers}{cells}");
+                self.note(&list, &list.block, &ends);
             }
         }
         let mut ledger = Ledger::default();
         let fed = made.iter().zip(&own.answers).all(|(call, answer)| ledger.feed(call, *answer == 7) == Some(*answer));
-        let shown = ended.number == BAD_SIZE || Store::decode(&own.block).is_ok_and(|store| ledger.shown_by(&store));
+        let shown = ended.number == NOT_FRESH || Store::decode(&own.block).is_ok_and(|store| ledger.shown_by(&store));
         if !fed || !shown {
             let what = "a list's answers or its last block are not the ledger's";
-            self.note(&format_args!("a list, {}", hexadecimal(&list.bytes)), &list.block, what);
+            self.note(&list, &list.block, what);
         }
     }
 
@@ -112,27 +116,27 @@ impl Comparison {
         }
     }
 
-    /// Counts a difference, and prints the first few with the call and the block as it was before.
+    /// Counts a difference; the first is printed at once, of the others those on the smallest blocks are kept.
     pub fn note(&mut self, call: &dyn Debug, before: &[u8], what: &str) {
         self.differences += 1;
-        if self.differences <= PRINTED {
-            println!("DIFFERENCE in the scene of seed {}", self.seed);
-            println!("call: {call:02X?}");
-            println!("block of {} bytes before it: {}", before.len(), hexadecimal(before));
-            println!("{what}");
-        }
-    }
-
-    /// Prints the cells in which two blocks differ.
-    fn print_cells(&self, own: &[u8], their: &[u8]) {
-        if self.differences > PRINTED {
+        let first = self.differences == 1;
+        let largest = self.kept.last().filter(|_| self.kept.len() == KEPT).map_or(usize::MAX, |(size, _)| *size);
+        if !first && before.len() >= largest {
             return;
         }
-        let cells = own.chunks(CELL).zip(their.chunks(CELL)).enumerate();
-        for (cell, (own, their)) in cells.filter(|(_, (own, their))| own != their) {
-            println!("cell {cell} of the model:   {}", hexadecimal(own));
-            println!("cell {cell} of the library: {}", hexadecimal(their));
+        let block = block_in_words(before);
+        let text = format!("DIFFERENCE in the scene of seed {}\ncall: {call:02X?}\n{block}\n{what}", self.seed);
+        if first {
+            return println!("{text}");
         }
+        self.kept.push((before.len(), text));
+        self.kept.sort_by_key(|(size, _)| *size);
+        self.kept.truncate(KEPT);
+    }
+
+    /// Prints the differences that were kept.
+    pub fn print_kept(&self) {
+        self.kept.iter().for_each(|(_, text)| println!("{text}"));
     }
 }
 
@@ -140,9 +144,4 @@ impl Comparison {
 fn describe(outcome: &Outcome) -> String {
     let key = hexadecimal(&outcome.key);
     format!("{}, number {}, key {key}, dose {:08X}", outcome.answer, outcome.number, outcome.dose)
-}
-
-/// Bytes as hexadecimal digits.
-fn hexadecimal(bytes: &[u8]) -> String {
-    bytes.iter().map(|byte| format!("{byte:02X}")).collect()
 }

@@ -1,6 +1,8 @@
 //! What the calls have met: answers by call, shapes of nodes, build cases, broken rules.
 
+use crate::counted::{BuildCase, Change, Flaw, ListCase, Room, Shape, Spoilt, BUILT};
 use crate::limits::{all_limits, Limit};
+use crate::model::{FIRST_EMBEDDED, SPLIT};
 use std::collections::BTreeMap;
 
 /// The calls, in the order of `Call::number`.
@@ -25,124 +27,15 @@ const REACHABLE: [&[usize]; 10] = [
 const LISTED: [(usize, &[usize]); 6] =
     [(0, &[0, 1]), (2, &[0, 3, 4, 7]), (5, &[0, 5]), (6, &[0, 5, 6]), (7, &[0, 5, 6]), (9, &[0, 3, 7, 11])];
 
-/// Declares an enum of things to be counted, with its number of cases and their names.
-macro_rules! counted {
-    ($(#[$comment:meta])* $name:ident: $($case:ident),+ $(,)?) => {
-        $(#[$comment])*
-        #[derive(Clone, Copy, Debug)]
-        pub enum $name { $($case),+ }
+/// The places at which an embedded prefix's node may stand: those of a chain and, last, the head of a split.
+const PLACES: usize = (SPLIT - FIRST_EMBEDDED) as usize + 1;
 
-        impl $name {
-            /// The cases' names, in order.
-            pub const NAMES: &'static [&'static str] = &[$(stringify!($case)),+];
-        }
-    };
-}
-
-counted! {
-    /// The rules of soundness, one for each way to break them.
-    Flaw: HeldBits, StrayBytes, CellCount, Edition, OpenSlotWord, RootLeaf, RootPrefix, SnapshotLeaf, SnapshotPrefix,
-    CellZero, TrailerCell, BeyondTrailer, NoKind, EnteredTwice, ChainWithoutChild, DeepChain, DeepSparse, DeepSplit,
-    SparseGap, SparseOfFew, Characters, OrderWord, PartWord, EmptyHead, EmptyMid, EmptyEnd, PrefixValue, PrefixFlag,
-    PrefixOverNone, PrefixOverLeaf, PrefixOverPrefix,
-}
-
-counted! {
-    /// What sound blocks are made of.
-    Shape: EmptyRoot, Leaf, Chain, SparseOfTwo, SparseOfThree, SparseOfFour, SparseOfFive, SparseOfSix, SplitOfFew,
-    SplitOfMany, Prefix, DepthLimit, SharedCell, SharedAtAnotherKind, JunkBeforeRun, JunkPastChildren, JunkInHead,
-    JunkInPrefix,
-}
-
-counted! {
-    /// The cases of the build that the specification lays down for an insertion or a removal.
-    BuildCase: Leaf, PrefixReplaced, PrefixAdded, NewChain, FullChain, CharacterBefore, ChainPair, SparseReplaced,
-    SparseAppended, SeventhChild, SplitEndPresent, SplitEndAbsent, SplitMidAbsent, ValuePutBack, LeafGone,
-    PrefixToLinked, ValueToLeaf, OldChainNotJoined, KeptGrown, SplitReplaced, FewReplaced, NoneKept, OneKept, TwoKept,
-    ThreeToFiveKept, SixKept, SevenKept, MoreKept, OrderRewritten, SplitToNone, SplitToChain, SplitToSparse, EndEmptied,
-    MidEmptied, NothingTaken,
-}
-
-use BuildCase::*;
-
-/// The cases that each change can go through, in the order of `Change`; every one must be met, and no other.
-const BUILT: [(&str, &[BuildCase]); 2] = [
-    (
-        "build cases of insertions",
-        &[
-            Leaf,
-            PrefixReplaced,
-            PrefixAdded,
-            NewChain,
-            FullChain,
-            CharacterBefore,
-            ChainPair,
-            SparseReplaced,
-            SparseAppended,
-            SeventhChild,
-            SplitEndPresent,
-            SplitEndAbsent,
-            SplitMidAbsent,
-            ValuePutBack,
-        ],
-    ),
-    (
-        "build cases of removals",
-        &[
-            NewChain,
-            FullChain,
-            CharacterBefore,
-            SparseReplaced,
-            ValuePutBack,
-            LeafGone,
-            PrefixToLinked,
-            ValueToLeaf,
-            OldChainNotJoined,
-            KeptGrown,
-            SplitReplaced,
-            FewReplaced,
-            NoneKept,
-            OneKept,
-            TwoKept,
-            ThreeToFiveKept,
-            SixKept,
-            SevenKept,
-            MoreKept,
-            OrderRewritten,
-            SplitToNone,
-            SplitToChain,
-            SplitToSparse,
-            EndEmptied,
-            MidEmptied,
-            NothingTaken,
-        ],
-    ),
-];
-
-/// The two calls that build a new tree.
-#[derive(Clone, Copy)]
-pub enum Change {
-    Insertion,
-    Removal,
-}
-
-counted! {
-    /// How closely a change meets the free cells: it takes all, one at least, or lacks a single one.
-    Room: TookLastFree, OneShort,
-}
-
-counted! {
-    /// How a list of calls ends, what is left over there, and what stands in it.
-    ListCase: AtEnd, BadSize, NoCall, Full, EndAsAnswersFill, NothingAtAll, AnswersLeftOver, NoAnswerByte,
-    FullBeforeNoCall, OtherTag, InsertCut, SlotCut, RemoveCut, OneByteShort, KeyOf0, KeyOf48, KeyOf49, KeyOf255,
-    RemovedOf0, RemovedOf48, RemovedOf49, RemovedOf255, LongList, LargeBlock,
-}
-
-/// The shapes and order words of one block.
+/// The shapes and order words of one block, and by place the nodes of its embedded prefixes.
 #[derive(Default)]
 pub struct Met {
     shapes: [u64; Shape::NAMES.len()],
     orders: Vec<u16>,
+    places: [u64; PLACES],
 }
 
 impl Met {
@@ -158,6 +51,16 @@ impl Met {
         self.add(shapes[children - 2], 1);
         self.orders.push(order);
     }
+
+    /// Counts an embedded prefix by its offset.
+    pub fn add_embedded(&mut self, offset: u8) {
+        self.places[usize::from(offset - FIRST_EMBEDDED)] += 1;
+    }
+
+    /// How many embedded prefixes the block has.
+    pub fn embedded(&self) -> u64 {
+        self.places.iter().sum()
+    }
 }
 
 /// All counts of a run.
@@ -170,6 +73,8 @@ pub struct Coverage {
     flaws: [u64; Flaw::NAMES.len()],
     rooms: [[u64; Room::NAMES.len()]; 2],
     orders: BTreeMap<u16, u64>,
+    places: [u64; PLACES],
+    spoilt: [u64; Spoilt::NAMES.len()],
     limits: BTreeMap<Limit, u64>,
     lists: [u64; ListCase::NAMES.len()],
 }
@@ -186,6 +91,8 @@ impl Coverage {
             flaws: [0; Flaw::NAMES.len()],
             rooms: [[0; Room::NAMES.len()]; 2],
             orders: BTreeMap::new(),
+            places: [0; PLACES],
+            spoilt: [0; Spoilt::NAMES.len()],
             limits: all_limits().into_iter().map(|limit| (limit, 0)).collect(),
             lists: [0; ListCase::NAMES.len()],
         }
@@ -203,6 +110,9 @@ impl Coverage {
         for (sum, count) in self.shapes.iter_mut().zip(met.shapes) {
             *sum += count;
         }
+        for (sum, count) in self.places.iter_mut().zip(met.places) {
+            *sum += count;
+        }
         for order in &met.orders {
             *self.orders.entry(*order).or_default() += 1;
         }
@@ -213,11 +123,22 @@ impl Coverage {
         self.flaws[flaw as usize] += 1;
     }
 
+    /// Counts a way to spoil an embedded prefix that was refused as it must be.
+    pub fn spoilt(&mut self, way: Spoilt) {
+        self.spoilt[way as usize] += 1;
+    }
+
     /// Counts the build cases of an accepted change.
     pub fn built(&mut self, change: Change, cases: &[BuildCase]) {
         for case in cases {
             self.cases[change as usize][*case as usize] += 1;
         }
+    }
+
+    /// How many values were put into the cells of their nodes.
+    pub fn embedded(&self) -> u64 {
+        let cases = [BuildCase::EmbeddedPast05, BuildCase::EmbeddedAt05, BuildCase::EmbeddedInHead];
+        cases.iter().map(|case| self.cases[0][*case as usize] + self.cases[1][*case as usize]).sum()
     }
 
     /// Counts a change whose cells meet the free ones closely.
@@ -241,7 +162,7 @@ impl Coverage {
 
     /// How many lists were run.
     pub fn lists(&self) -> u64 {
-        let ends = [ListCase::AtEnd, ListCase::BadSize, ListCase::NoCall, ListCase::Full];
+        let ends = [ListCase::AtEnd, ListCase::NotFresh, ListCase::NoCall, ListCase::Full];
         ends.iter().map(|case| self.lists[*case as usize]).sum()
     }
 
@@ -263,6 +184,10 @@ impl Coverage {
             short += print_counts("room", Room::NAMES, &self.rooms[change], least);
         }
         short += print_counts("broken rules", Flaw::NAMES, &self.flaws, least);
+        short += print_counts("embedded prefixes spoilt and refused", Spoilt::NAMES, &self.spoilt, least);
+        let places: Vec<String> = (FIRST_EMBEDDED..=SPLIT).map(|place| format!("at {place:02X}")).collect();
+        let places: Vec<&str> = places.iter().map(String::as_str).collect();
+        short += print_counts("nodes of embedded prefixes", &places, &self.places, least);
         short += self.report_limits();
         let words = self.orders.len();
         println!("order words met: {words} of 436");

@@ -8,7 +8,7 @@ use crate::random::Random;
 type Trap = fn(&mut [u8], &mut Random) -> u32;
 
 /// All traps, each with how often it is drawn; those with several ends come more often.
-const TRAPS: [(usize, Trap); 9] = [
+const TRAPS: [(usize, Trap); 11] = [
     (1, chain_into_itself),
     (1, split_in_one_cell),
     (1, prefix_into_itself),
@@ -18,6 +18,8 @@ const TRAPS: [(usize, Trap); 9] = [
     (1, pair_into_one_cell),
     (2, prefix_over_prefix),
     (1, single_chain),
+    (3, embedded_deep),
+    (2, embedded_head),
 ];
 
 /// A block with one trap, reached from the root or from a snapshot.
@@ -25,10 +27,11 @@ pub fn crafted_block(cells: usize, random: &mut Random) -> Vec<u8> {
     let mut block = junk(cells.max(8), random);
     let (_, trap) = TRAPS[random.weighted(&TRAPS.map(|(weight, _)| weight))];
     let root = trap(&mut block, random);
+    let edition = random.pick(&[1, 1, 1, 1, 2, 2, 2, 2, 2, 3]);
     match random.below(4) {
-        0 => write_trailer(&mut block, 0, &[None, Some(root), None]),
-        1 => write_trailer(&mut block, root, &[Some(0), None, Some(root)]),
-        _ => write_trailer(&mut block, root, &[None; 3]),
+        0 => write_trailer(&mut block, edition, 0, &[None, Some(root), None]),
+        1 => write_trailer(&mut block, edition, root, &[Some(0), None, Some(root)]),
+        _ => write_trailer(&mut block, edition, root, &[None; 3]),
     }
     block
 }
@@ -53,15 +56,21 @@ fn put_child(block: &mut [u8], cell: usize, word: u32) {
     put_word(block, cell * CELL + 0x1C, word);
 }
 
-/// Writes a prefix.
+/// Writes a standalone prefix.
 fn put_prefix(block: &mut [u8], cell: usize, link: u32, random: &mut Random) {
     put_word(block, cell * CELL, random.word() >> 1);
     block[cell * CELL + 4] = 0xFF;
     put_child(block, cell, link);
 }
 
+/// Writes an embedded prefix over a chain or head in its cell.
+fn put_embedded(block: &mut [u8], cell: usize, place: u8, random: &mut Random) {
+    put_word(block, cell * CELL, random.word() >> 1);
+    block[cell * CELL + 4] = place;
+}
+
 /// Writes a sparse node of two children.
-fn put_pair(block: &mut [u8], cell: usize, first: u32, second: u32) {
+pub fn put_pair(block: &mut [u8], cell: usize, first: u32, second: u32) {
     let image = &mut block[cell * CELL..][..CELL];
     image[..0x18].fill(0);
     put_word(image, 0, first);
@@ -161,12 +170,18 @@ fn pair_into_one_cell(block: &mut [u8], random: &mut Random) -> u32 {
     pointer(cell, 0x1E)
 }
 
-/// A prefix that links to a prefix, a leaf or NONE, and now and then to a chain as it may.
+/// A prefix that links to a prefix of either sort, a leaf or NONE, and now and then to a chain as it may.
 fn prefix_over_prefix(block: &mut [u8], random: &mut Random) -> u32 {
     let leaf = any_leaf(random);
     put_child(block, 1, pointer(2, 0x1F));
     put_child(block, 4, leaf);
-    put_prefix(block, 3, pointer(4, 0x1B), random);
+    match random.chance(50) {
+        true => put_prefix(block, 3, pointer(4, 0x1B), random),
+        false => {
+            put_child(block, 3, leaf);
+            put_embedded(block, 3, random.between(0x05, 0x1B) as u8, random);
+        }
+    }
     let link = random.pick(&[pointer(3, 0x1F), pointer(3, 0x1F), leaf, 0, pointer(4, 0x1B)]);
     put_prefix(block, 2, link, random);
     any_chain(1, random)
@@ -179,4 +194,37 @@ fn single_chain(block: &mut [u8], random: &mut Random) -> u32 {
     let child = random.pick(&[u32::MAX, 0x8000_0000, 0, 0x1B, pointer(trailer, 0x1B), pointer(cell, 0x1D)]);
     put_child(block, cell, child);
     any_chain(cell, random)
+}
+
+/// An embedded prefix over a chain that ends at a depth about the limit, with any offset about those that there are.
+fn embedded_deep(block: &mut [u8], random: &mut Random) -> u32 {
+    let place = random.pick(&[0x00, 0x04, 0x05, 0x05, 0x06, 0x10, 0x1A, 0x1B, 0x1B, 0x1D, 0x1E, 0x1F, 0xFE]);
+    let run = 0x1C - usize::from(place).clamp(4, 0x1B);
+    let above = random.between(47, 49) - run;
+    put_child(block, 1, pointer(2, 0x1C - above.clamp(1, 28)));
+    put_child(block, 2, pointer(3, 0x1F));
+    let leaf = any_leaf(random);
+    put_child(block, 3, leaf);
+    put_embedded(block, 3, place, random);
+    match above {
+        29.. => pointer(1, 0x1C - (above - 28)),
+        _ => pointer(2, 0x1C - above),
+    }
+}
+
+/// An embedded prefix over a split head of one child at a depth about the limit; the head may have no pointer, or one
+/// into its own cell.
+fn embedded_head(block: &mut [u8], random: &mut Random) -> u32 {
+    let depth = random.pick(&[29, 47, 47, 48, 49]);
+    put_child(block, 1, pointer(2, 0x1C - (depth - 28)));
+    put_child(block, 2, pointer(3, 0x1F));
+    block[3 * CELL + 0x10..6 * CELL].fill(0);
+    let word =
+        random.pick(&[pointer(4, 0x1C), pointer(4, 0x1C), pointer(4, 0x1C), 0, pointer(3, 0x1C), pointer(3, 0x1F)]);
+    put_word(block, 3 * CELL + 0x14, word);
+    put_word(block, 4 * CELL + 0x08, pointer(5, 0x1C));
+    let leaf = any_leaf(random);
+    put_word(block, 5 * CELL + 0x1C, leaf);
+    put_embedded(block, 3, 0x1C, random);
+    pointer(1, 0)
 }

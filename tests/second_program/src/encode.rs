@@ -1,66 +1,106 @@
 //! An insertion: the owned tree rebuilt along the key's path; and how the new cells of a tree are numbered and written.
 
-use crate::coverage::BuildCase as Case;
-use crate::model::{put_word, order_word, pointer, End, Mid, Node, Place, CELL};
+use crate::counted::BuildCase as Case;
+use crate::model::{order_word, pointer, put_word, End, Mid, Node, Place, Seat, CELL, FIRST_EMBEDDED, PREFIX};
 use std::collections::BTreeMap;
 
-/// The build cases that one insertion or removal went through, in the order met.
-pub type Cases = Vec<Case>;
+/// One insertion or removal: the edition of its block, and the build cases that it went through, in the order met.
+pub struct Build {
+    pub edition: u32,
+    pub cases: Vec<Case>,
+}
+
+impl Build {
+    /// Notes a build case.
+    pub fn push(&mut self, case: Case) {
+        self.cases.push(case);
+    }
+}
 
 /// The most characters that one chain cell holds.
 const LONGEST_RUN: usize = 0x1C;
 
 /// The node that a key and value make of an old one: down by the key, built on the way back up.
-pub fn entered(node: Option<Node>, key: &[u8], value: u32, cases: &mut Cases) -> Node {
+pub fn entered(node: Option<Node>, key: &[u8], value: u32, build: &mut Build) -> Node {
     let Some((character, rest)) = key.split_first() else {
-        return with_value(node, value, cases);
+        return with_value(node, value, build);
     };
     let (set_aside, bare) = match node {
         Some(Node::Leaf(old)) => (Some(old), None),
-        Some(Node::Prefix { value: old, linked, .. }) => (Some(old), Some(*linked)),
+        Some(Node::Prefix { seat, value: old, linked }) => {
+            build.cases.extend(matches!(seat, Seat::Embedded).then_some(Case::ThroughEmbedded));
+            (Some(old), Some(*linked))
+        }
         other => (None, other),
     };
-    let build_child = |old: Option<Node>, cases: &mut Cases| entered(old, rest, value, cases);
+    let build_child = |old: Option<Node>, build: &mut Build| entered(old, rest, value, build);
     let built = match bare {
-        None => before(*character, build_child(None, cases), cases),
+        None => before(*character, build_child(None, build), build),
         Some(Node::Chain { place, run, child }) => {
             let old_child = after_first(place, &run, child);
             if run[0] == *character {
-                before(*character, build_child(Some(old_child), cases), cases)
+                before(*character, build_child(Some(old_child), build), build)
             } else {
-                pair((run[0], old_child), (*character, build_child(None, cases)), cases)
+                pair((run[0], old_child), (*character, build_child(None, build)), build)
             }
         }
-        Some(Node::Sparse { children, .. }) => sparse_with(children, *character, build_child, cases),
-        Some(Node::Split { mids, .. }) => split_with(mids, *character, build_child, cases),
+        Some(Node::Sparse { children, .. }) => sparse_with(children, *character, build_child, build),
+        Some(Node::Split { mids, .. }) => split_with(mids, *character, build_child, build),
         Some(Node::Leaf(_) | Node::Prefix { .. }) => unreachable!("a value was set aside before"),
     };
     match set_aside {
         None => built,
-        Some(old) => {
-            cases.push(Case::ValuePutBack);
-            Node::Prefix { place: Place::Fresh, value: old, linked: Box::new(built) }
-        }
+        Some(old) => put_back(old, built, build),
+    }
+}
+
+/// A value put back over a node: in edition 2 in the node's own cell, where that is new to this call and has room, else in
+/// a cell of its own.
+pub fn put_back(value: u32, node: Node, build: &mut Build) -> Node {
+    let roomy = matches!(first_place(&node), Some((Place::Fresh, FIRST_EMBEDDED..)));
+    let embedded = roomy && build.edition == 2;
+    build.push(Case::ValuePutBack);
+    build.push(match (build.edition, first_place(&node)) {
+        (1, _) if roomy => Case::RoomInEditionOne,
+        (1, _) => Case::NoRoomInEditionOne,
+        (_, None) => Case::StandaloneOverSparse,
+        (_, Some((_, 0x04))) => Case::StandaloneAt04,
+        (_, Some(_)) if !embedded => Case::StandaloneUnder04,
+        (_, Some(_)) if matches!(node, Node::Split { .. }) => Case::EmbeddedInHead,
+        (_, Some((_, FIRST_EMBEDDED))) => Case::EmbeddedAt05,
+        (_, Some(_)) => Case::EmbeddedPast05,
+    });
+    let seat = if embedded { Seat::Embedded } else { Seat::Standalone(Place::Fresh) };
+    Node::Prefix { seat, value, linked: Box::new(node) }
+}
+
+/// The place of a chain or split, and the first byte of the cell that the node needs; nothing for the others.
+fn first_place(node: &Node) -> Option<(Place, u8)> {
+    match node {
+        Node::Chain { place, run, .. } => Some((*place, (LONGEST_RUN - run.len()) as u8)),
+        Node::Split { place, .. } => Some((*place, 0x10)),
+        _ => None,
     }
 }
 
 /// The node at the key's end with its new value.
-fn with_value(node: Option<Node>, value: u32, cases: &mut Cases) -> Node {
+fn with_value(node: Option<Node>, value: u32, build: &mut Build) -> Node {
     let linked = match node {
         None | Some(Node::Leaf(_)) => {
-            cases.push(Case::Leaf);
+            build.push(Case::Leaf);
             return Node::Leaf(value);
         }
-        Some(Node::Prefix { linked, .. }) => {
-            cases.push(Case::PrefixReplaced);
+        Some(Node::Prefix { seat, linked, .. }) => {
+            build.push(if matches!(seat, Seat::Embedded) { Case::EmbeddedReplaced } else { Case::PrefixReplaced });
             linked
         }
         Some(other) => {
-            cases.push(Case::PrefixAdded);
+            let roomy = first_place(&other).is_some_and(|(_, place)| place >= FIRST_EMBEDDED) && build.edition == 2;
+            build.push(if roomy { Case::OldNodeWithRoom } else { Case::PrefixAdded });
             Box::new(other)
         }
     };
-    Node::Prefix { place: Place::Fresh, value, linked }
+    Node::Prefix { seat: Seat::Standalone(Place::Fresh), value, linked }
 }
 
 /// What a chain leads to by its first character: the rest of its run in the same cell, or its child.
@@ -72,17 +112,21 @@ pub fn after_first(place: Place, run: &[u8], child: Box<Node>) -> Node {
 }
 
 /// A character set before a new child: in the child's own chain cell while there is room, else in a new one.
-pub fn before(character: u8, child: Node, cases: &mut Cases) -> Node {
+pub fn before(character: u8, child: Node, build: &mut Build) -> Node {
     match child {
         Node::Chain { place: Place::Fresh, mut run, child } if run.len() < LONGEST_RUN => {
-            cases.push(Case::CharacterBefore);
+            build.push(Case::CharacterBefore);
             run.insert(0, character);
             Node::Chain { place: Place::Fresh, run, child }
         }
         other => {
-            cases.push(Case::NewChain);
-            if matches!(other, Node::Chain { place: Place::Fresh, .. }) {
-                cases.push(Case::FullChain);
+            build.push(Case::NewChain);
+            match &other {
+                Node::Chain { place: Place::Fresh, .. } => build.push(Case::FullChain),
+                Node::Prefix { seat: Seat::Embedded, linked, .. } if is_fresh(linked) => {
+                    build.push(Case::ChainOverEmbedded)
+                }
+                _ => {}
             }
             Node::Chain { place: Place::Fresh, run: vec![character], child: Box::new(other) }
         }
@@ -90,8 +134,8 @@ pub fn before(character: u8, child: Node, cases: &mut Cases) -> Node {
 }
 
 /// A sparse node of an old and a new child in rising order.
-fn pair(old: (u8, Node), new: (u8, Node), cases: &mut Cases) -> Node {
-    cases.push(Case::ChainPair);
+fn pair(old: (u8, Node), new: (u8, Node), build: &mut Build) -> Node {
+    build.push(Case::ChainPair);
     let children = if old.0 < new.0 { vec![old, new] } else { vec![new, old] };
     Node::Sparse { place: Place::Fresh, children }
 }
@@ -100,21 +144,21 @@ fn pair(old: (u8, Node), new: (u8, Node), cases: &mut Cases) -> Node {
 fn sparse_with(
     mut children: Vec<(u8, Node)>,
     character: u8,
-    build_child: impl Fn(Option<Node>, &mut Cases) -> Node,
-    cases: &mut Cases,
+    build_child: impl Fn(Option<Node>, &mut Build) -> Node,
+    build: &mut Build,
 ) -> Node {
     if let Some(position) = children.iter().position(|(held, _)| *held == character) {
         let (_, old) = children.remove(position);
-        children.insert(position, (character, build_child(Some(old), cases)));
-        cases.push(Case::SparseReplaced);
+        children.insert(position, (character, build_child(Some(old), build)));
+        build.push(Case::SparseReplaced);
         return Node::Sparse { place: Place::Fresh, children };
     }
-    children.push((character, build_child(None, cases)));
+    children.push((character, build_child(None, build)));
     if children.len() <= 6 {
-        cases.push(Case::SparseAppended);
+        build.push(Case::SparseAppended);
         return Node::Sparse { place: Place::Fresh, children };
     }
-    cases.push(Case::SeventhChild);
+    build.push(Case::SeventhChild);
     let mut mids = BTreeMap::new();
     for (character, child) in children {
         let mid: &mut Mid = mids.entry(character >> 6).or_insert_with(new_mid);
@@ -128,8 +172,8 @@ fn sparse_with(
 fn split_with(
     mut mids: BTreeMap<u8, Mid>,
     character: u8,
-    build_child: impl Fn(Option<Node>, &mut Cases) -> Node,
-    cases: &mut Cases,
+    build_child: impl Fn(Option<Node>, &mut Build) -> Node,
+    build: &mut Build,
 ) -> Node {
     let (leading, middle, last) = (character >> 6, character >> 3 & 7, character & 7);
     let case = match mids.get(&leading) {
@@ -142,8 +186,8 @@ fn split_with(
     let end = mid.ends.entry(middle).or_insert_with(new_end);
     end.place = Place::Fresh;
     let old = end.children.remove(&last);
-    end.children.insert(last, build_child(old, cases));
-    cases.push(case);
+    end.children.insert(last, build_child(old, build));
+    build.push(case);
     Node::Split { place: Place::Fresh, mids }
 }
 
@@ -162,11 +206,17 @@ fn taken(place: Place) -> usize {
     usize::from(matches!(place, Place::Fresh))
 }
 
+/// Whether a node's cell is still to be taken.
+fn is_fresh(node: &Node) -> bool {
+    matches!(first_place(node), Some((Place::Fresh, _)))
+}
+
 /// How many cells a tree has yet to take; nothing below a held node is new.
 pub fn fresh_cells(node: &Node) -> usize {
     match node {
         Node::Chain { place: Place::Fresh, child, .. } => 1 + fresh_cells(child),
-        Node::Prefix { place: Place::Fresh, linked, .. } => 1 + fresh_cells(linked),
+        Node::Prefix { seat: Seat::Standalone(Place::Fresh), linked, .. } => 1 + fresh_cells(linked),
+        Node::Prefix { seat: Seat::Embedded, linked, .. } => fresh_cells(linked),
         Node::Sparse { place: Place::Fresh, children } => {
             1 + children.iter().map(|(_, child)| fresh_cells(child)).sum::<usize>()
         }
@@ -246,9 +296,16 @@ impl Layer<'_> {
                 let cell = self.settle(*place, |layer| image::chain(run, layer.lay(child)));
                 pointer(cell, 0x1C - run.len())
             }
-            Node::Prefix { place, value, linked } => {
+            Node::Prefix { seat: Seat::Standalone(place), value, linked } => {
                 let cell = self.settle(*place, |layer| image::prefix(*value, layer.lay(linked)));
-                pointer(cell, 0x1F)
+                pointer(cell, PREFIX.into())
+            }
+            Node::Prefix { seat: Seat::Embedded, value, linked } => {
+                let word = self.lay(linked) as usize;
+                if is_fresh(linked) {
+                    self.embed(word / CELL, *value, (word % CELL) as u8);
+                }
+                pointer(word / CELL, PREFIX.into())
             }
             Node::Sparse { place, children } => {
                 let lay_all = |layer: &mut Self| {
@@ -259,6 +316,12 @@ impl Layer<'_> {
             }
             Node::Split { place, mids } => pointer(self.settle(*place, |layer| layer.lay_split(mids)), 0x1C),
         }
+    }
+
+    /// Writes value and offset of an embedded prefix into its node's new cell.
+    fn embed(&mut self, cell: usize, value: u32, offset: u8) {
+        put_word(self.block, cell * CELL, value);
+        self.block[cell * CELL + 4] = offset;
     }
 
     /// The cell of a node: its own, or a new one for the image made from the cells below it.

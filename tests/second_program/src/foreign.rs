@@ -2,7 +2,7 @@
 
 use crate::calls::valid_length;
 use crate::generate::Scene;
-use crate::model::{pointer, put_word, Store, CELL, LONGEST_KEY};
+use crate::model::{pointer, put_word, Store, CELL, EDITIONS, FIRST_EMBEDDED, LONGEST_KEY, PREFIX, SPLIT};
 use crate::random::Random;
 use std::collections::{BTreeMap, BTreeSet};
 
@@ -26,6 +26,8 @@ struct Planter<'a> {
     block: Vec<u8>,
     unused: Vec<usize>,
     entered: BTreeSet<usize>,
+    /// The cells in which a prefix is embedded.
+    embedded: BTreeSet<usize>,
     planted: Vec<Planted>,
     weights: [usize; 4],
     limit: usize,
@@ -35,22 +37,23 @@ struct Planter<'a> {
 const WEIGHTS: [[usize; 4]; 7] =
     [[40, 30, 20, 10], [30, 60, 10, 0], [2, 96, 1, 1], [45, 5, 45, 5], [45, 10, 5, 40], [60, 5, 5, 90], [90, 3, 2, 95]];
 
-/// A foreign block of so many cells; it is sound when the depth limit is the specification's.
+/// A foreign block of so many cells and of the scene's edition; it is sound when the depth limit is the specification's or
+/// less.
 pub fn foreign_block(cells: usize, limit: usize, scene: &Scene, random: &mut Random) -> Vec<u8> {
     let mut unused: Vec<usize> = (1..cells - 1).collect();
     random.shuffle(&mut unused);
     unused.truncate(random.between(1, cells - 2));
     let weights = random.pick(&WEIGHTS);
     let block = junk(cells, random);
-    let (entered, planted) = (BTreeSet::new(), Vec::new());
-    let mut planter = Planter { random, scene, block, unused, entered, planted, weights, limit };
+    let (entered, embedded, planted) = (BTreeSet::new(), BTreeSet::new(), Vec::new());
+    let mut planter = Planter { random, scene, block, unused, entered, embedded, planted, weights, limit };
     let root = if planter.random.chance(92) { planter.tree() } else { 0 };
     let mut snapshots = [None; 3];
     for snapshot in &mut snapshots {
         *snapshot = planter.snapshot(root);
     }
     let mut block = planter.block;
-    write_trailer(&mut block, root, &snapshots);
+    write_trailer(&mut block, scene.edition, root, &snapshots);
     if limit == LONGEST_KEY && random.chance(25) {
         cross_read(&mut block, random);
     }
@@ -73,8 +76,8 @@ pub fn junk(cells: usize, random: &mut Random) -> Vec<u8> {
     block
 }
 
-/// Writes a valid trailer with a root and snapshots.
-pub fn write_trailer(block: &mut [u8], root: u32, snapshots: &[Option<u32>; 3]) {
+/// Writes a trailer with an edition, a root and snapshots; it is valid where they are.
+pub fn write_trailer(block: &mut [u8], edition: u32, root: u32, snapshots: &[Option<u32>; 3]) {
     let cells = block.len() / CELL;
     let trailer = &mut block[(cells - 1) * CELL..];
     trailer.fill(0);
@@ -84,7 +87,7 @@ pub fn write_trailer(block: &mut [u8], root: u32, snapshots: &[Option<u32>; 3]) 
         trailer[0x10] |= u8::from(snapshot.is_some()) << slot;
     }
     put_word(trailer, 0x14, cells as u32);
-    put_word(trailer, 0x1C, 1);
+    put_word(trailer, 0x1C, edition);
 }
 
 /// Aims snapshots at cells that other trees use, at any kind, and keeps those that leave the block sound.
@@ -119,7 +122,8 @@ pub fn order_word_block(order: u16, random: &mut Random) -> Vec<u8> {
         character += random.between(1, 15) as u8;
     }
     block[CELL + 0x1E..CELL + 0x20].copy_from_slice(&order.to_be_bytes());
-    write_trailer(&mut block, pointer(1, 0x1E), &[None; 3]);
+    let edition = random.pick(&EDITIONS);
+    write_trailer(&mut block, edition, pointer(1, 0x1E), &[None; 3]);
     assert!(valid_length(block.len()));
     block
 }
@@ -138,14 +142,28 @@ impl Planter<'_> {
             1 => Some(0),
             2 => Some(root),
             3 | 4 if !self.planted.is_empty() => {
-                let word = self.planted[self.random.below(self.planted.len())].word;
-                match word % 32 {
-                    0x1F => Some(root),
-                    kind @ 0..=0x1A => Some(word + self.random.below(0x1C - kind as usize) as u32),
-                    _ => Some(word),
+                let planted = self.planted[self.random.below(self.planted.len())].clone();
+                match planted.word % 32 {
+                    0x1F if !self.embedded.contains(&(planted.word as usize / CELL)) => Some(root),
+                    0x1F => Some(self.under_prefix(&planted)),
+                    kind @ 0..=0x1A => Some(planted.word + self.random.below(0x1C - kind as usize) as u32),
+                    _ => Some(planted.word),
                 }
             }
             _ => Some(self.tree()),
+        }
+    }
+
+    /// A word into the cell of an embedded prefix that may be a root: its head, a place in its run, or one before it
+    /// where the longer run still fits, value and offset then being characters.
+    fn under_prefix(&mut self, planted: &Planted) -> u32 {
+        let cell = planted.word as usize / CELL;
+        let place = usize::from(self.block[cell * CELL + 4]);
+        let earliest = place.saturating_sub(self.limit - planted.height);
+        match place {
+            0x1C => pointer(cell, place),
+            _ if self.random.chance(25) => pointer(cell, self.random.between(earliest, place)),
+            _ => pointer(cell, self.random.between(place, 0x1B)),
         }
     }
 
@@ -177,14 +195,33 @@ impl Planter<'_> {
             return leaf(value);
         }
         let shared = if self.random.chance(15) { self.shared(depth) } else { None };
-        let prefix = if self.random.chance(20) { self.take() } else { None };
+        let embedded = self.scene.edition == 2 && self.random.chance(30);
+        let prefix = if !embedded && self.random.chance(20) { self.take() } else { None };
         let node = shared.or_else(|| self.node(depth));
         match (prefix, node) {
             (_, None) => leaf(value),
-            (None, Some(node)) => node,
-            (Some(_), Some(node)) if node.word % 32 == 0x1F => node,
+            (_, Some(node)) if node.word % 32 == 0x1F => node,
             (Some(cell), Some(node)) => self.prefix(cell, value, node),
+            (None, Some(node)) if embedded && node.word % 32 <= 0x1C => self.embed(value, node),
+            (None, Some(node)) => node,
         }
+    }
+
+    /// A prefix in the cell of a chain or head, which an older tree may use as it is; a chain's run is often cut, and
+    /// bytes between the offset and the node are left as they are.
+    fn embed(&mut self, value: u32, node: Planted) -> Planted {
+        let (cell, kind) = (node.word as usize / CELL, (node.word % 32) as u8);
+        let first = kind.max(FIRST_EMBEDDED);
+        let embedded_before = !self.embedded.insert(cell);
+        let place = match kind {
+            SPLIT => SPLIT,
+            _ if embedded_before => self.block[cell * CELL + 4],
+            _ if self.random.chance(70) => first,
+            _ => self.random.between(first.into(), 0x1B) as u8,
+        };
+        put_word(&mut self.block, cell * CELL, value & 0x7FFF_FFFF);
+        self.block[cell * CELL + 4] = place;
+        self.keep(pointer(cell, PREFIX.into()), node.height - usize::from(place - kind), Vec::new(), &[node])
     }
 
     /// A prefix over a node, its bytes 05 to 1B left as they are.
@@ -220,7 +257,12 @@ impl Planter<'_> {
     fn chain(&mut self, depth: usize) -> Option<Planted> {
         let cell = self.take()?;
         let most = (self.limit - depth).min(0x1C);
-        let run = if self.random.chance(30) { most } else { self.random.between(1, most.min(6)) };
+        let run = match self.random.below(20) {
+            0..=5 => most,
+            6 | 7 => self.random.between(1, most),
+            8 | 9 => self.random.pick(&[22, 23, 24, 25]).min(most),
+            _ => self.random.between(1, most.min(6)),
+        };
         for place in 0x1C - run..0x1C {
             self.block[cell * CELL + place] = self.random.byte();
         }

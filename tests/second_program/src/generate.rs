@@ -1,6 +1,7 @@
 //! Seeded arguments: keys, values, dates, sheets and whole calls, valid and not.
 
 use crate::calls::Call;
+use crate::model::EDITIONS;
 use crate::random::Random;
 use crate::verdict::{celsius, days_in_month, Question, CELSIUS, FAHRENHEIT, GATE_ANY, GATE_AT_LEAST, GATE_BETWEEN};
 use std::collections::BTreeSet;
@@ -24,8 +25,9 @@ pub const BAD_LENGTH: Weights = [1; 10];
 /// The most keys that a scene remembers.
 const REMEMBERED: usize = 64;
 
-/// What the calls of one scene have in common, so that they meet: characters, earlier keys, a day.
+/// What the calls of one scene have in common, so that they meet: an edition, characters, earlier keys, a day.
 pub struct Scene {
+    pub edition: u32,
     alphabet: Vec<u8>,
     longest: usize,
     keys: Vec<Vec<u8>>,
@@ -52,7 +54,8 @@ impl Scene {
         let year = random.pick(&[2000, 2023, 2024, 2025, 2100, 2104, 2199]);
         let month = random.between(1, 12) as u32;
         let day = random.between(1, days_in_month(year, month) as usize) as u32;
-        Scene { alphabet, longest, keys: Vec::new(), day: [year, month, day] }
+        let edition = if random.chance(60) { 2 } else { 1 };
+        Scene { edition, alphabet, longest, keys: Vec::new(), day: [year, month, day] }
     }
 
     /// Remembers keys that the block shows.
@@ -86,7 +89,7 @@ impl Scene {
     /// A key that owes nothing to earlier ones.
     fn new_key(&self, random: &mut Random) -> Vec<u8> {
         let length = match random.below(10) {
-            0 if self.longest == 48 => random.pick(&[27, 28, 29, 47, 48]),
+            0 if self.longest == 48 => random.pick(&[23, 24, 25, 27, 28, 29, 47, 48]),
             1 => random.between(1, self.longest),
             _ => random.between(1, self.longest.min(4)),
         };
@@ -167,7 +170,7 @@ impl Scene {
     /// A call with its arguments.
     pub fn call(&mut self, weights: &Weights, random: &mut Random) -> Call {
         match random.weighted(weights) {
-            0 => Call::Format,
+            0 => Call::Format { edition: self.asked_edition(random) },
             1 => Call::Validate,
             2 => {
                 let value = if random.chance(4) { random.word() | 1 << 31 } else { self.value(random) };
@@ -181,6 +184,15 @@ impl Scene {
             7 => Call::Release { slot: slot(random) },
             8 => Call::Verdict(self.question(random)),
             _ => Call::Remove { key: self.key_to_remove(random) },
+        }
+    }
+
+    /// An edition to ask for: mostly one that there is.
+    fn asked_edition(&self, random: &mut Random) -> u32 {
+        match random.below(10) {
+            0..=5 => self.edition,
+            6..=7 => random.pick(&EDITIONS),
+            _ => other_edition(random),
         }
     }
 
@@ -249,6 +261,34 @@ pub fn children_of(random: &mut Random) -> Vec<Vec<u8>> {
     }
     random.shuffle(&mut keys);
     keys
+}
+
+/// Keys of which most begin another: runs one below the other, their lengths about those that leave room for a value in
+/// the cell; beside some a key that differs in its last character, below some a few children.
+pub fn stems(random: &mut Random) -> Vec<Vec<u8>> {
+    let mut keys = Vec::new();
+    let mut key = vec![random.byte(); random.pick(&[1, 1, 2, 3, 12, 20])];
+    while key.len() < 48 && keys.len() < 12 {
+        keys.push(key.clone());
+        if random.chance(30) {
+            let children = random.pick(&[2, 3, 6, 7, 8]);
+            keys.extend((0..children).map(|_| [&key[..], &[random.byte()]].concat()));
+        }
+        let run = random.pick(&[1, 2, 3, 5, 22, 23, 23, 23, 24, 24, 24, 25, 28]);
+        key.extend((0..run).map(|_| random.byte()));
+        key.truncate(48);
+        if random.chance(50) {
+            let (last, path) = key.split_last().expect("a key is not empty");
+            keys.push([path, &[last ^ 1]].concat());
+        }
+    }
+    keys.push(key);
+    keys
+}
+
+/// The number of no edition.
+pub fn other_edition(random: &mut Random) -> u32 {
+    random.pick(&[0, 3, 3, 4, 255, 256, 257, 258, 0x0100_0000, 0x0200_0000, 0x8000_0001, u32::MAX])
 }
 
 /// A number that is the given one or close to it.

@@ -1,7 +1,7 @@
 //! Hostile and damaged blocks: sound ones with one rule broken, noise, bad lengths.
 
 use crate::foreign::{junk, write_trailer};
-use crate::model::{pointer, put_word, split_children, word_at, Node, Place, Store, CELL};
+use crate::model::{pointer, put_word, split_children, word_at, Node, Place, Seat, Store, CELL, EDITIONS};
 use crate::random::Random;
 
 /// What stands at an offset that has a meaning.
@@ -14,18 +14,21 @@ enum Role {
     Character,
     PrefixFlag,
     PrefixValue,
+    EmbeddedOffset,
     SplitCell,
     SparseCell,
 }
 
 /// All roles; those that many blocks are without stand more than once.
-const ROLES: [Role; 13] = [
+const ROLES: [Role; 15] = [
     Role::Child,
     Role::Order,
     Role::Character,
     Role::SparseCell,
     Role::PrefixFlag,
     Role::PrefixValue,
+    Role::EmbeddedOffset,
+    Role::EmbeddedOffset,
     Role::Link,
     Role::Link,
     Role::Part,
@@ -54,9 +57,15 @@ fn find_spots(node: &Node, spots: &mut Vec<Spot>) {
             spots.push((held(*place) + 0x1C, Role::Child));
             find_spots(child, spots);
         }
-        Node::Prefix { place, linked, .. } => {
+        Node::Prefix { seat: Seat::Standalone(place), linked, .. } => {
             let cell = held(*place);
             spots.extend([(cell, Role::PrefixValue), (cell + 4, Role::PrefixFlag), (cell + 0x1C, Role::Link)]);
+            find_spots(linked, spots);
+        }
+        Node::Prefix { seat: Seat::Embedded, linked, .. } => {
+            if let Node::Chain { place, .. } | Node::Split { place, .. } = &**linked {
+                spots.extend([(held(*place), Role::PrefixValue), (held(*place) + 4, Role::EmbeddedOffset)]);
+            }
             find_spots(linked, spots);
         }
         Node::Sparse { place, children } => {
@@ -82,6 +91,14 @@ fn find_spots(node: &Node, spots: &mut Vec<Spot>) {
             split_children(mids).for_each(|(_, child)| find_spots(child, spots));
         }
     }
+}
+
+/// The cells of a tree's embedded prefixes.
+pub fn embedded_cells(top: &Node) -> Vec<usize> {
+    let mut spots = Vec::new();
+    find_spots(top, &mut spots);
+    spots.retain(|(_, role)| *role == Role::EmbeddedOffset);
+    spots.into_iter().map(|(offset, _)| offset / CELL).collect()
 }
 
 /// Breaks a sound block in one place.
@@ -156,7 +173,7 @@ fn spoil_trailer(trailer: &mut [u8], random: &mut Random) {
             let others = [0, 3, cells - 1, cells + 1, cells * CELL as u32, cells << 8, cells | 1 << 16];
             put_word(trailer, 0x14, random.pick(&others));
         }
-        3 => put_word(trailer, 0x1C, random.pick(&[0, 2, 3, 4, 0x100_0000, 0x101, u32::MAX])),
+        3 => put_word(trailer, 0x1C, random.pick(&[0, 1, 1, 2, 3, 3, 4, 0x100_0000, 0x101, u32::MAX])),
         4 => {
             let slot = random.below(3);
             trailer[0x10] &= !(1 << slot);
@@ -195,7 +212,10 @@ fn spoil_spot(block: &mut [u8], offset: usize, role: Role, spots: &[Spot], rando
                 _ => block.swap(first, first + 1),
             }
         }
-        Role::PrefixFlag => block[offset] = random.pick(&[0, 5, 0x1B, 0x1C, 0xFE, 0x7F]),
+        Role::PrefixFlag | Role::EmbeddedOffset => {
+            let about = [0, 1, 3, 4, 5, 6, 0x10, 0x1A, 0x1B, 0x1C, 0x1D, 0x1E, 0x1F, 0x20, 0x7F, 0x80, 0xFE, 0xFF];
+            block[offset] = random.pick(&about);
+        }
         Role::PrefixValue => block[offset] |= 0x80,
         Role::SplitCell => {
             let from = random.pick(&[0, 0x10]);
@@ -217,7 +237,7 @@ fn hostile_word(block: &[u8], offset: usize, spots: &[Spot], random: &mut Random
     let own = offset / CELL;
     let usable = random.between(1, cells - 2);
     let reached = random.pick(spots).0 / CELL;
-    match random.below(14) {
+    match random.below(15) {
         0 => 0,
         1 => random.between(1, 31) as u32,
         2 => pointer(cells - 1, random.below(32)),
@@ -230,6 +250,7 @@ fn hostile_word(block: &[u8], offset: usize, spots: &[Spot], random: &mut Random
         9 => pointer(reached, random.below(32)),
         10 => pointer(usable, random.below(32)),
         11 => pointer(word_at(block, offset) as usize / CELL % cells, random.pick(&[0x1C, 0x1E, 0x1F, 0x1B, 0])),
+        12 => pointer(reached, usize::from(block[reached * CELL + 4]) % 32),
         _ => word_at(block, random.pick(spots).0 / 4 * 4),
     }
 }
@@ -239,7 +260,7 @@ pub fn noise_block(cells: usize, random: &mut Random) -> Vec<u8> {
     let mut block = junk(cells, random);
     if random.chance(85) {
         let root = pointer(random.below(cells + 1), random.below(32));
-        write_trailer(&mut block, root, &[None; 3]);
+        write_trailer(&mut block, random.pick(&EDITIONS), root, &[None; 3]);
     }
     block
 }
@@ -250,7 +271,7 @@ pub fn bad_length_block(random: &mut Random) -> Vec<u8> {
     let cells = if random.chance(6) { random.pick(&[2049, 2049, 2050, 4096]) } else { cells };
     let mut block = junk(cells, random);
     if cells > 0 {
-        write_trailer(&mut block, random.pick(&[0, 0x3B, 0x3E]), &[None; 3]);
+        write_trailer(&mut block, random.pick(&EDITIONS), random.pick(&[0, 0x3B, 0x3E]), &[None; 3]);
     }
     if random.chance(50) {
         let whole = random.between(0, 20) * CELL;

@@ -4,7 +4,7 @@ use crate::calls::{perform, Call, Outcome};
 use crate::coverage::Coverage;
 use crate::encode::Layer;
 use crate::ledger::Ledger;
-use crate::model::{put_word, word_at, Node, Place, Store, CELL};
+use crate::model::{put_word, word_at, Node, Place, Seat, Store, CELL};
 
 /// The first promise that a call broke, in words.
 type Verdict = Result<(), String>;
@@ -34,7 +34,9 @@ pub fn check(before: &[u8], after: &[u8], call: &Call, outcome: &Outcome) -> Ver
     }
     let store = Store::decode(after).map_err(|flaw| format!("broken: the block is sound after the call ({flaw:?})"))?;
     match call {
-        Call::Format => demand(is_fresh(after), "a fresh block is zero but for its size and edition"),
+        Call::Format { edition } => {
+            demand(is_fresh(after, *edition), "a fresh block is zero but for its size and edition")
+        }
         Call::Validate | Call::Get { .. } | Call::NextKey { .. } | Call::Verdict(_) => {
             demand(before == after, "a reading call leaves the block")
         }
@@ -48,12 +50,13 @@ pub fn check(before: &[u8], after: &[u8], call: &Call, outcome: &Outcome) -> Ver
     }
 }
 
-/// Whether a block is a fresh one.
-fn is_fresh(block: &[u8]) -> bool {
+/// Whether a block is a fresh one of an edition that there is.
+fn is_fresh(block: &[u8], edition: u32) -> bool {
     let trailer = block.len() - CELL;
     let numbers = [trailer + 0x16, trailer + 0x17, trailer + 0x1F];
     let zero = (0..block.len()).all(|offset| numbers.contains(&offset) || block[offset] == 0);
-    zero && word_at(block, trailer + 0x14) as usize == block.len() / CELL && word_at(block, trailer + 0x1C) == 1
+    let numbers = (word_at(block, trailer + 0x14) as usize, word_at(block, trailer + 0x1C));
+    zero && numbers == (block.len() / CELL, edition) && (1..=2).contains(&edition)
 }
 
 /// The next key is shown, is greater, and no shown key lies between.
@@ -96,6 +99,7 @@ fn check_bytes(before: &[u8], after: &[u8], call: &Call, old: &Store, new: &Stor
     demand(new_path.windows(2).all(|pair| pair[0] > pair[1]), "the deepest node takes its cell first")?;
     demand(least == 1 || new_path.len() == count, "a removal takes cells for the key's path alone")?;
     demand(least == 1 || kept_shapes(before, after, key), "a node is rebuilt by what it keeps")?;
+    demand(seated(after, key, &taken), "a value stands where the edition and its node ask for")?;
     check_enlarged(before, call, count as u32)
 }
 
@@ -149,8 +153,12 @@ fn as_new(node: Node, taken: &[usize]) -> Node {
         Node::Chain { place, run, child } => {
             Node::Chain { place: place_of(place), run, child: Box::new(as_new(*child, taken)) }
         }
-        Node::Prefix { place, value, linked } => {
-            Node::Prefix { place: place_of(place), value, linked: Box::new(as_new(*linked, taken)) }
+        Node::Prefix { seat, value, linked } => {
+            let seat = match seat {
+                Seat::Standalone(place) => Seat::Standalone(place_of(place)),
+                Seat::Embedded => Seat::Embedded,
+            };
+            Node::Prefix { seat, value, linked: Box::new(as_new(*linked, taken)) }
         }
         Node::Sparse { place, children } => {
             let children = children.into_iter().map(|(character, child)| (character, as_new(child, taken))).collect();
@@ -168,6 +176,30 @@ fn as_new(node: Node, taken: &[usize]) -> Node {
             Node::Split { place: place_of(place), mids }
         }
     }
+}
+
+/// The linked word of a prefix, read from the bytes.
+fn link(block: &[u8], prefix: u32) -> u32 {
+    let cell = (prefix / 32) as usize * CELL;
+    match block[cell + 4] {
+        0xFF => word_at(block, cell + 0x1C),
+        offset => prefix - 0x1F + u32::from(offset),
+    }
+}
+
+/// Whether each value that a change wrote on its key's path is embedded where the edition is 2 and the node's cell was taken
+/// and has room, and stands alone where not, told from the bytes.
+fn seated(block: &[u8], key: &[u8], taken: &[usize]) -> bool {
+    let second_edition = word_at(block, block.len() - 4) == 2;
+    (0..=key.len()).all(|depth| {
+        let (word, _) = follow(block, &key[..depth]);
+        if word == 0 || word >> 31 == 1 || word % 32 != 0x1F || !taken.contains(&((word / 32) as usize)) {
+            return true;
+        }
+        let (alone, node) = (block[(word / 32) as usize * CELL + 4] == 0xFF, link(block, word));
+        let roomy = matches!(node % 32, 0x05..=0x1C) && taken.contains(&((node / 32) as usize));
+        alone != (roomy && second_edition)
+    })
 }
 
 /// The child word of a pointer by one character, read from the bytes; the cells on the way are noted.
@@ -203,7 +235,7 @@ fn follow(block: &[u8], key: &[u8]) -> (u32, Vec<usize>) {
         }
         if word % 32 == 0x1F {
             cells.push((word / 32) as usize);
-            word = word_at(block, (word / 32) as usize * CELL + 0x1C);
+            word = link(block, word);
         }
         word = child_word(block, word, *character, &mut cells);
     }
@@ -233,7 +265,7 @@ fn path_cells(block: &[u8], key: &[u8]) -> Vec<usize> {
 /// Whether a removal left of the key's end and of each node on its path what the specification asks for, told from the bytes.
 fn kept_shapes(before: &[u8], after: &[u8], key: &[u8]) -> bool {
     let (end, _) = follow(before, key);
-    let linked = if end >> 31 == 1 { 0 } else { word_at(before, (end / 32) as usize * CELL + 0x1C) };
+    let linked = if end >> 31 == 1 { 0 } else { link(before, end) };
     let kept = |depth: usize| {
         let (old, new) = (bare_node(before, &key[..depth]), bare_node(after, &key[..depth]));
         let (mut had, keeps) = (characters(before, old), characters(after, new));
@@ -271,7 +303,7 @@ fn same_shape(before: &[u8], old: u32, after: &[u8], new: u32, count: usize) -> 
 fn bare_node(block: &[u8], path: &[u8]) -> u32 {
     match follow(block, path).0 {
         word if word >> 31 == 1 => 0,
-        word if word % 32 == 0x1F => word_at(block, (word / 32) as usize * CELL + 0x1C),
+        word if word % 32 == 0x1F => link(block, word),
         word => word,
     }
 }

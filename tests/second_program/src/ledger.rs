@@ -1,7 +1,7 @@
 //! The ledger beside a history: it never looks into the block, and says what each call must answer.
 
 use crate::calls::{valid_key, Call};
-use crate::model::{Store, Table};
+use crate::model::{Store, Table, EDITIONS};
 
 /// The present table, and for each slot a table or nothing.
 #[derive(Default)]
@@ -14,7 +14,8 @@ impl Ledger {
     /// Feeds a call and whether it got 7; gives the answer it must have had, or nothing for a call that only reads.
     pub fn feed(&mut self, call: &Call, no_room: bool) -> Option<u8> {
         match call {
-            Call::Format => {
+            Call::Format { edition } if !EDITIONS.contains(edition) => Some(1),
+            Call::Format { .. } => {
                 *self = Ledger::default();
                 Some(0)
             }

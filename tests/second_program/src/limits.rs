@@ -1,10 +1,10 @@
 //! The limits of the specification, met exactly and missed by one step: which of them a call meets, and calls for each.
 
-use crate::calls::Call;
+use crate::calls::{valid_length, Call};
 use crate::compare::Comparison;
 use crate::foreign::{foreign_block, junk};
 use crate::generate::Scene;
-use crate::model::{CELL, LONGEST_KEY};
+use crate::model::{CELL, EDITIONS, LONGEST_KEY};
 use crate::random::Random;
 use crate::sweeps::{block_of_value, insert, question};
 use crate::verdict::{celsius, day_number, Question, CELSIUS, FAHRENHEIT, GATE_AT_LEAST, GATE_BETWEEN};
@@ -35,6 +35,8 @@ pub enum Limit {
     Number(Number, u32),
     /// How many steps the reading in Celsius lies over a limit of the gate.
     Gate(Number, i32),
+    /// The edition that a fresh block is asked for by.
+    Edition(u32),
     Today([u32; 3]),
     Held(u32),
     /// How many days today lies past the expiry day.
@@ -45,6 +47,7 @@ const KEYS: [usize; 6] = [0, 1, 47, 48, 49, 255];
 const VALUES: [u32; 4] = [2_147_483_646, 2_147_483_647, 2_147_483_648, 4_294_967_295];
 const SLOTS: [u32; 6] = [0, 1, 3, 4, 255, 4_294_967_295];
 const CELLS: [usize; 5] = [3, 4, 2047, 2048, 2049];
+const ASKED_EDITIONS: [u32; 8] = [0, 1, 2, 3, 256, 257, 258, u32::MAX];
 const DAYS: [[u32; 3]; 4] = [[1999, 12, 31], [2000, 1, 1], [2199, 12, 31], [2200, 1, 1]];
 
 /// The bounds of each number.
@@ -87,6 +90,7 @@ pub fn all_limits() -> Vec<Limit> {
     for number in [Number::AtLeast, Number::BetweenLow, Number::BetweenHigh] {
         limits.extend([-1, 0, 1].map(|steps| Limit::Gate(number, steps)));
     }
+    limits.extend(ASKED_EDITIONS.map(Limit::Edition));
     limits.extend(DAYS.map(Limit::Today));
     limits.extend(DAYS.map(|day| Limit::Held(packed(day))));
     limits.extend([-1, 0, 1].map(Limit::Past));
@@ -97,11 +101,14 @@ pub fn all_limits() -> Vec<Limit> {
 pub fn limits_met(block_length: usize, call: &Call, answer: u8) -> Vec<Limit> {
     let number = call.number();
     let mut limits = vec![Limit::Block(number, block_length)];
+    if let (Call::Format { edition }, true) = (call, valid_length(block_length)) {
+        limits.push(Limit::Edition(*edition));
+    }
     if (1..=2).contains(&answer) {
         return limits;
     }
     match call {
-        Call::Format | Call::Validate => {}
+        Call::Format { .. } | Call::Validate => {}
         Call::Insert { key, value } => {
             limits.push(Limit::Key(number, key.len()));
             limits.extend((answer != 3).then_some(Limit::Value(*value)));
@@ -194,7 +201,8 @@ fn block_lengths(comparison: &mut Comparison, cells: usize, random: &mut Random)
         let (snapshot, restore, release) =
             (Call::Snapshot { slot: 3 }, Call::Restore { slot: 3 }, Call::Release { slot: 3 });
         let (insert, remove) = (insert(&key, packed([2025, 3, 7])), Call::Remove { key });
-        let rest = [insert, get, next, snapshot, restore, release, asked, remove, Call::Format];
+        let format = Call::Format { edition: scene.edition };
+        let rest = [insert, get, next, snapshot, restore, release, asked, remove, format];
         for call in [Call::Validate].iter().chain(&rest) {
             comparison.step(&mut block, call);
         }
@@ -204,7 +212,9 @@ fn block_lengths(comparison: &mut Comparison, cells: usize, random: &mut Random)
 /// Keys, values and slots at their limits on a fresh block.
 fn arguments(comparison: &mut Comparison, cells: usize, random: &mut Random) {
     let mut block = junk(cells, random);
-    comparison.step(&mut block, &Call::Format);
+    for edition in ASKED_EDITIONS.into_iter().chain([random.pick(&EDITIONS)]) {
+        comparison.step(&mut block, &Call::Format { edition });
+    }
     for size in KEYS {
         let key = vec![random.pick(&[0x00, 0x41, 0xFF]); size];
         comparison.step(&mut block, &insert(&key, packed([2025, 3, 7])));

@@ -1,17 +1,19 @@
 //! Lists of calls encoded in bytes, as the library's runner takes them, and the model's way to run one: call by call.
 
-use crate::calls::{perform, Call};
-use crate::coverage::{Coverage, ListCase};
+use crate::calls::{perform, valid_length, Call};
+use crate::counted::ListCase;
+use crate::coverage::Coverage;
 use crate::foreign::junk;
-use crate::generate::{Scene, LISTED};
+use crate::generate::{other_edition, Scene, LISTED};
 use crate::hostile::bad_length_block;
-use crate::model::CELL;
+use crate::model::{CELL, EDITIONS};
 use crate::random::Random;
+use std::fmt::{Debug, Formatter};
 
-/// How a run ended, by the library's numbers: the bytes are at their end, the block's size is bad, the bytes encode no
-/// call, or no answer byte is left.
+/// How a run ended, by the library's numbers: the bytes are at their end, the block cannot be made fresh (its size is
+/// bad or the edition is none), the bytes encode no call, or no answer byte is left.
 pub const AT_END: u8 = 0;
-pub const BAD_SIZE: u8 = 1;
+pub const NOT_FRESH: u8 = 1;
 pub const NO_CALL: u8 = 2;
 pub const FULL: u8 = 3;
 
@@ -22,12 +24,26 @@ pub struct Ended {
     pub count: usize,
 }
 
-/// What is lent to a run: a block, encoded calls, and bytes for the answers.
+/// What is lent to a run: a block, the edition that it is to be of, encoded calls, and bytes for the answers.
 #[derive(Clone, PartialEq, Eq)]
 pub struct List {
     pub block: Vec<u8>,
+    pub edition: u32,
     pub bytes: Vec<u8>,
     pub answers: Vec<u8>,
+}
+
+impl Debug for List {
+    /// The edition and the calls that its bytes encode, for a difference.
+    fn fmt(&self, formatter: &mut Formatter) -> std::fmt::Result {
+        write!(formatter, "a list of edition {} with room for {} answers:", self.edition, self.answers.len())?;
+        let mut rest = self.bytes.as_slice();
+        while let Some((call, past)) = decode(rest) {
+            write!(formatter, "\n    {call:02X?}")?;
+            rest = past;
+        }
+        write!(formatter, "\n    then bytes {rest:02X?}")
+    }
 }
 
 /// Appends a call: 1, the key's size, the key and the value; 2, 3, 4 and the slot; or 5, the key's size and the key;
@@ -81,8 +97,9 @@ pub fn decode(bytes: &[u8]) -> Option<(Call, &[u8])> {
 pub fn run(list: &mut List, coverage: &mut Coverage) -> (Ended, Vec<Call>) {
     let mut made = Vec::new();
     let mut rest = list.bytes.as_slice();
-    let formatted = perform(&mut list.block, &Call::Format, coverage).answer == 0;
-    let mut number = if formatted { AT_END } else { BAD_SIZE };
+    let embedded = coverage.embedded();
+    let formatted = perform(&mut list.block, &Call::Format { edition: list.edition }, coverage).answer == 0;
+    let mut number = if formatted { AT_END } else { NOT_FRESH };
     while formatted && !rest.is_empty() {
         let Some(answer) = list.answers.get_mut(made.len()) else {
             number = FULL;
@@ -97,18 +114,19 @@ pub fn run(list: &mut List, coverage: &mut Coverage) -> (Ended, Vec<Call>) {
         rest = past;
     }
     let ended = Ended { number, count: made.len() };
+    coverage.list(ListCase::Embeds, coverage.embedded() > embedded);
     meet(list, rest, &made, ended, coverage);
     (ended, made)
 }
 
 /// Counts what a run met at its end and in its calls.
 fn meet(list: &List, rest: &[u8], made: &[Call], ended: Ended, coverage: &mut Coverage) {
-    let ends = [ListCase::AtEnd, ListCase::BadSize, ListCase::NoCall, ListCase::Full];
+    let ends = [ListCase::AtEnd, ListCase::NotFresh, ListCase::NoCall, ListCase::Full];
     coverage.list(ends[usize::from(ended.number)], true);
     let filled = made.len() == list.answers.len();
     coverage.list(ListCase::EndAsAnswersFill, ended.number == AT_END && filled && !made.is_empty());
     coverage.list(ListCase::NothingAtAll, ended.number == AT_END && filled && made.is_empty());
-    coverage.list(ListCase::AnswersLeftOver, ended.number != BAD_SIZE && !filled);
+    coverage.list(ListCase::AnswersLeftOver, ended.number != NOT_FRESH && !filled);
     coverage.list(ListCase::NoAnswerByte, ended.number == FULL && made.is_empty());
     coverage.list(ListCase::FullBeforeNoCall, ended.number == FULL && decode(rest).is_none());
     if ended.number == NO_CALL {
@@ -133,6 +151,10 @@ fn meet(list: &List, rest: &[u8], made: &[Call], ended: Ended, coverage: &mut Co
     }
     coverage.list(ListCase::LongList, made.len() >= 500);
     coverage.list(ListCase::LargeBlock, list.block.len() >= 64 * CELL);
+    coverage.list(ListCase::EditionOne, list.edition == 1 && !made.is_empty());
+    coverage.list(ListCase::EditionTwo, list.edition == 2 && !made.is_empty());
+    let other = !EDITIONS.contains(&list.edition);
+    coverage.list(ListCase::OtherEdition, other && valid_length(list.block.len()));
 }
 
 /// A list: mostly short and of valid calls, refused ones among them; its bytes are often damaged, its answers too few.
@@ -160,7 +182,8 @@ pub fn drawn_list(number: u64, random: &mut Random) -> List {
     };
     let answers = (0..room).map(|_| random.byte()).collect();
     let block = if long { junk(random.pick(&[40, 128, 256, 512, 1024, 2048]), random) } else { drawn_block(random) };
-    List { block, bytes, answers }
+    let edition = if random.chance(97) { scene.edition } else { other_edition(random) };
+    List { block, edition, bytes, answers }
 }
 
 /// A call that a list may hold; its key has at most the 255 bytes that can be encoded.

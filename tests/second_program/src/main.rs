@@ -3,8 +3,12 @@
 
 mod calls;
 mod compare;
+mod counted;
 mod coverage;
 mod crafted;
+mod display;
+#[cfg(alone)]
+mod embedded_test;
 mod encode;
 mod foreign;
 mod generate;
@@ -19,12 +23,14 @@ mod orders;
 #[cfg(not(alone))]
 mod proved;
 mod random;
+mod reader;
 mod removal;
 #[cfg(alone)]
 mod removal_test;
 mod schedule;
 #[cfg(alone)]
 mod self_test;
+mod spoilt;
 mod sweeps;
 mod verdict;
 
@@ -32,7 +38,7 @@ use compare::{Comparison, Other};
 use std::process::ExitCode;
 
 /// The calls of a run that names no other number.
-const CALLS: u64 = 1_200_000;
+const CALLS: u64 = 1_400_000;
 
 /// One list of calls for so many calls that are made one by one.
 const CALLS_FOR_A_LIST: u64 = 50;
@@ -65,6 +71,7 @@ fn main() -> ExitCode {
     if short > 0 {
         println!("{short} counts fall short");
     }
+    comparison.print_kept();
     println!("{}: {calls} calls and {lists} lists of calls, {} differences", OTHER.1, comparison.differences);
     match short == 0 && comparison.differences == 0 {
         true => ExitCode::SUCCESS,

@@ -1,6 +1,8 @@
 //! The owned tree: a block's bytes decoded into boxed nodes, under every soundness rule of the specification.
 
-use crate::coverage::{Flaw, Met, Shape};
+use crate::counted::{Flaw, Shape};
+use crate::coverage::Met;
+use crate::reader::decode_tree;
 use std::collections::BTreeMap;
 
 /// Bytes in one cell.
@@ -8,6 +10,18 @@ pub const CELL: usize = 32;
 
 /// The longest key, and so the deepest path, in characters.
 pub const LONGEST_KEY: usize = 48;
+
+/// The editions of a block; in the second a prefix may stand in its linked node's cell.
+pub const EDITIONS: [u32; 2] = [1, 2];
+
+/// The first place at which a chain may stand below an embedded prefix: its value and offset come before.
+pub const FIRST_EMBEDDED: u8 = 0x05;
+
+/// The kind of a split, and so the last offset of an embedded prefix.
+pub const SPLIT: u8 = 0x1C;
+
+/// The kind of a prefix.
+pub const PREFIX: u8 = 0x1F;
 
 /// The keys that a root shows, each with its value, in the order of unsigned bytes.
 pub type Table = BTreeMap<Vec<u8>, u32>;
@@ -19,13 +33,20 @@ pub enum Place {
     Fresh,
 }
 
+/// Where a prefix stands: in a cell of its own, or in the cell of its linked node.
+#[derive(Clone, Copy)]
+pub enum Seat {
+    Standalone(Place),
+    Embedded,
+}
+
 /// A node with all that hangs below it.
 pub enum Node {
     Leaf(u32),
     Chain { place: Place, run: Vec<u8>, child: Box<Node> },
     Sparse { place: Place, children: Vec<(u8, Node)> },
     Split { place: Place, mids: BTreeMap<u8, Mid> },
-    Prefix { place: Place, value: u32, linked: Box<Node> },
+    Prefix { seat: Seat, value: u32, linked: Box<Node> },
 }
 
 /// A split's cell for two leading bits; its ends by the middle three bits.
@@ -40,14 +61,16 @@ pub struct End {
     pub children: BTreeMap<u8, Node>,
 }
 
-/// The tree of one root, and by cell the kind at which that tree enters it.
+/// The tree of one root word, and by cell the kind at which that tree enters it.
 pub struct Tree {
+    pub word: u32,
     pub top: Option<Node>,
     pub entered: Vec<Option<u8>>,
 }
 
 /// A sound block, decoded.
 pub struct Store {
+    pub edition: u32,
     pub root: Tree,
     pub snapshots: [Option<Tree>; 3],
     pub met: Met,
@@ -77,23 +100,34 @@ pub fn order_word(characters: &[u8]) -> Option<u16> {
     Some(by_character.values().rev().fold(0, |word, position| word * 6 + *position as u16))
 }
 
+/// Whether an offset is one of an embedded prefix.
+pub fn embeds(offset: u8) -> bool {
+    (FIRST_EMBEDDED..=SPLIT).contains(&offset)
+}
+
 impl Store {
-    /// Decodes a block of valid length, or names the first rule that it breaks.
+    /// Decodes a block of valid length, or names a rule that it breaks; the edition word is judged last, so that it is
+    /// known whether a block of another edition breaks this rule alone.
     pub fn decode(block: &[u8]) -> Result<Store, Flaw> {
         let cells = block.len() / CELL;
         let trailer = (cells - 1) * CELL;
         judge_trailer(&block[trailer..], cells)?;
+        let edition = word_at(block, trailer + 0x1C);
         let mut met = Met::default();
-        let root = decode_tree(block, word_at(block, trailer), [Flaw::RootLeaf, Flaw::RootPrefix], &mut met)?;
+        let mut decode =
+            |offset: usize, no_root: [Flaw; 2]| decode_tree(block, word_at(block, trailer + offset), no_root, &mut met);
+        let root = decode(0, [Flaw::RootLeaf, Flaw::RootPrefix])?;
         let mut snapshots = [None, None, None];
         for (slot, snapshot) in snapshots.iter_mut().enumerate() {
             if block[trailer + 0x10] >> slot & 1 == 1 {
-                let word = word_at(block, trailer + 4 + 4 * slot);
-                *snapshot = Some(decode_tree(block, word, [Flaw::SnapshotLeaf, Flaw::SnapshotPrefix], &mut met)?);
+                *snapshot = Some(decode(4 + 4 * slot, [Flaw::SnapshotLeaf, Flaw::SnapshotPrefix])?);
             }
         }
-        let mut store = Store { root, snapshots, met };
-        store.meet_sharing();
+        if !EDITIONS.contains(&edition) {
+            return Err(if met.embedded() > 0 { Flaw::EditionOfEmbedded } else { Flaw::Edition });
+        }
+        let mut store = Store { edition, root, snapshots, met };
+        store.meet_sharing(block);
         Ok(store)
     }
 
@@ -110,19 +144,48 @@ impl Store {
     }
 
     /// Notes whether roots share cells, and whether one enters a cell at another kind than the next.
-    fn meet_sharing(&mut self) {
+    fn meet_sharing(&mut self, block: &[u8]) {
         let (mut shared, mut differing) = (false, false);
+        let mut embedded = Vec::new();
         for cell in 1..self.root.entered.len() - 1 {
             let kinds: Vec<u8> = self.trees().filter_map(|tree| tree.entered[cell]).collect();
             shared |= kinds.len() > 1;
             differing |= kinds.windows(2).any(|pair| pair[0] != pair[1]);
+            let offset = block[cell * CELL + 4];
+            if kinds.len() > 1 && self.edition == 2 && kinds.contains(&PREFIX) && embeds(offset) {
+                embedded.push((cell, offset, kinds));
+            }
         }
         self.met.add(Shape::SharedCell, u64::from(shared));
         self.met.add(Shape::SharedAtAnotherKind, u64::from(differing));
+        self.meet_shared_embedded(&embedded);
+    }
+
+    /// Notes how roots share the cells of embedded prefixes, each given with its offset and the kinds of its entries.
+    fn meet_shared_embedded(&mut self, embedded: &[(usize, u8, Vec<u8>)]) {
+        let entered = |at: &dyn Fn(u8, u8) -> bool| {
+            embedded.iter().any(|(_, offset, kinds)| kinds.iter().any(|kind| at(*kind, *offset)))
+        };
+        let in_run = |kind: u8, offset: u8| offset < kind && kind < SPLIT;
+        let twice = embedded.iter().any(|(_, _, kinds)| kinds.iter().filter(|kind| **kind == PREFIX).count() > 1);
+        let words: Vec<u32> = self.snapshots.iter().flatten().map(|tree| tree.word).collect();
+        let named = |(cell, offset, _): &(usize, u8, Vec<u8>)| {
+            words.iter().any(|word| *word as usize / CELL == *cell && in_run((word % 32) as u8, *offset))
+        };
+        let met = [
+            (Shape::EmbeddedShared, twice),
+            (Shape::EmbeddedSharedAtNode, entered(&|kind, offset| kind == offset)),
+            (Shape::EmbeddedSharedInRun, entered(&in_run)),
+            (Shape::EmbeddedSharedBeforeRun, entered(&|kind, offset| kind < offset && kind < SPLIT)),
+            (Shape::SnapshotInEmbeddedRun, embedded.iter().any(named)),
+        ];
+        for (shape, holds) in met {
+            self.met.add(shape, u64::from(holds));
+        }
     }
 }
 
-/// Judges all of the trailer but the root and snapshot pointers themselves.
+/// Judges all of the trailer but the edition and the root and snapshot pointers themselves.
 fn judge_trailer(trailer: &[u8], cells: usize) -> Result<(), Flaw> {
     if trailer[0x10] > 7 {
         return Err(Flaw::HeldBits);
@@ -133,208 +196,11 @@ fn judge_trailer(trailer: &[u8], cells: usize) -> Result<(), Flaw> {
     if word_at(trailer, 0x14) as usize != cells {
         return Err(Flaw::CellCount);
     }
-    if word_at(trailer, 0x1C) != 1 {
-        return Err(Flaw::Edition);
-    }
     let open = |slot: &usize| trailer[0x10] >> *slot & 1 == 0;
     if (0..3).filter(open).any(|slot| word_at(trailer, 4 + 4 * slot) != 0) {
         return Err(Flaw::OpenSlotWord);
     }
     Ok(())
-}
-
-/// Decodes the tree of one root word, with its own set of entered cells; a leaf or prefix is no root.
-fn decode_tree(block: &[u8], word: u32, no_root: [Flaw; 2], met: &mut Met) -> Result<Tree, Flaw> {
-    let entered = vec![None; block.len() / CELL];
-    let mut reader = Reader { block, entered, met };
-    let top = reader.node(word, LONGEST_KEY)?;
-    match top {
-        Some(Node::Leaf(_)) => Err(no_root[0]),
-        Some(Node::Prefix { .. }) => Err(no_root[1]),
-        _ => {
-            reader.met.add(Shape::EmptyRoot, u64::from(top.is_none()));
-            Ok(Tree { top, entered: reader.entered })
-        }
-    }
-}
-
-/// The walk that decodes one root's tree.
-struct Reader<'a> {
-    block: &'a [u8],
-    entered: Vec<Option<u8>>,
-    met: &'a mut Met,
-}
-
-impl Reader<'_> {
-    /// The word at an offset of a cell.
-    fn word(&self, cell: usize, offset: usize) -> u32 {
-        word_at(self.block, cell * CELL + offset)
-    }
-
-    /// Notes whether bytes of a cell that have no meaning are not zero.
-    fn meet_junk(&mut self, shape: Shape, cell: usize, bytes: std::ops::Range<usize>) {
-        let junk = self.block[cell * CELL..][bytes].iter().any(|byte| *byte != 0);
-        self.met.add(shape, u64::from(junk));
-    }
-
-    /// Follows a pointer into its cell, which must be usable and new to this tree.
-    fn enter(&mut self, word: u32) -> Result<usize, Flaw> {
-        let cell = word as usize / CELL;
-        let trailer = self.entered.len() - 1;
-        if cell == 0 {
-            return Err(Flaw::CellZero);
-        }
-        if cell >= trailer {
-            return Err(if cell == trailer { Flaw::TrailerCell } else { Flaw::BeyondTrailer });
-        }
-        match self.entered[cell].replace((word % 32) as u8) {
-            Some(_) => Err(Flaw::EnteredTwice),
-            None => Ok(cell),
-        }
-    }
-
-    /// The node of a pointer, with so many characters left to the depth limit; nothing for NONE.
-    fn node(&mut self, word: u32, left: usize) -> Result<Option<Node>, Flaw> {
-        if word == 0 {
-            return Ok(None);
-        }
-        if word >> 31 == 1 {
-            self.met.add(Shape::Leaf, 1);
-            self.met.add(Shape::DepthLimit, u64::from(left == 0));
-            return Ok(Some(Node::Leaf(!word)));
-        }
-        if word % 32 == 0x1D {
-            return Err(Flaw::NoKind);
-        }
-        let cell = self.enter(word)?;
-        match word % 32 {
-            0x1C => self.split(cell, left),
-            0x1E => self.sparse(cell, left),
-            0x1F => self.prefix(cell, left),
-            kind => self.chain(cell, kind as usize, left),
-        }
-        .map(Some)
-    }
-
-    /// A chain: its whole run in one node, and the child at 1C.
-    fn chain(&mut self, cell: usize, kind: usize, left: usize) -> Result<Node, Flaw> {
-        let run = self.block[cell * CELL + kind..cell * CELL + 0x1C].to_vec();
-        if run.len() > left {
-            return Err(Flaw::DeepChain);
-        }
-        self.met.add(Shape::Chain, 1);
-        self.meet_junk(Shape::JunkBeforeRun, cell, 0..kind);
-        let child = self.node(self.word(cell, 0x1C), left - run.len())?.ok_or(Flaw::ChainWithoutChild)?;
-        Ok(Node::Chain { place: Place::Held(cell), run, child: Box::new(child) })
-    }
-
-    /// A sparse node: the children by position, and an order word that must be the one of their characters.
-    fn sparse(&mut self, cell: usize, left: usize) -> Result<Node, Flaw> {
-        if left == 0 {
-            return Err(Flaw::DeepSparse);
-        }
-        let words: Vec<u32> = (0..6).map(|position| self.word(cell, 4 * position)).collect();
-        let count = words.iter().take_while(|word| **word != 0).count();
-        if words[count..].iter().any(|word| *word != 0) {
-            return Err(Flaw::SparseGap);
-        }
-        if count < 2 {
-            return Err(Flaw::SparseOfFew);
-        }
-        let characters = &self.block[cell * CELL + 0x18..][..count];
-        let order = order_word(characters).ok_or(Flaw::Characters)?;
-        if self.word(cell, 0x1C) as u16 != order {
-            return Err(Flaw::OrderWord);
-        }
-        self.met.sparse(count, order);
-        self.meet_junk(Shape::JunkPastChildren, cell, 0x18 + count..0x1E);
-        let mut children = Vec::new();
-        for (character, word) in characters.iter().zip(&words) {
-            let child = self.node(*word, left - 1)?.expect("the word is not NONE");
-            children.push((*character, child));
-        }
-        Ok(Node::Sparse { place: Place::Held(cell), children })
-    }
-
-    /// A split head and its mids.
-    fn split(&mut self, cell: usize, left: usize) -> Result<Node, Flaw> {
-        if left == 0 {
-            return Err(Flaw::DeepSplit);
-        }
-        self.meet_junk(Shape::JunkInHead, cell, 0..0x10);
-        let mut mids = BTreeMap::new();
-        for leading in 0..4 {
-            let word = self.word(cell, 0x10 + 4 * leading);
-            if word != 0 {
-                mids.insert(leading as u8, self.mid(word, left)?);
-            }
-        }
-        let ends = mids.values().flat_map(|mid: &Mid| mid.ends.values());
-        let children: usize = ends.map(|end| end.children.len()).sum();
-        self.met.add(if children < 7 { Shape::SplitOfFew } else { Shape::SplitOfMany }, 1);
-        if mids.is_empty() {
-            return Err(Flaw::EmptyHead);
-        }
-        Ok(Node::Split { place: Place::Held(cell), mids })
-    }
-
-    /// A mid, which must hold at least one end.
-    fn mid(&mut self, word: u32, left: usize) -> Result<Mid, Flaw> {
-        let cell = self.part(word)?;
-        let mut ends = BTreeMap::new();
-        for middle in 0..8 {
-            let word = self.word(cell, 4 * middle);
-            if word != 0 {
-                ends.insert(middle as u8, self.end(word, left)?);
-            }
-        }
-        if ends.is_empty() {
-            return Err(Flaw::EmptyMid);
-        }
-        Ok(Mid { place: Place::Held(cell), ends })
-    }
-
-    /// An end, which must hold at least one child.
-    fn end(&mut self, word: u32, left: usize) -> Result<End, Flaw> {
-        let cell = self.part(word)?;
-        let mut children = BTreeMap::new();
-        for last in 0..8 {
-            if let Some(child) = self.node(self.word(cell, 4 * last), left - 1)? {
-                children.insert(last as u8, child);
-            }
-        }
-        if children.is_empty() {
-            return Err(Flaw::EmptyEnd);
-        }
-        Ok(End { place: Place::Held(cell), children })
-    }
-
-    /// The cell of a mid or end, whose pointers carry the split's kind and no other.
-    fn part(&mut self, word: u32) -> Result<usize, Flaw> {
-        if word >> 31 == 1 || word % 32 != 0x1C {
-            return Err(Flaw::PartWord);
-        }
-        self.enter(word)
-    }
-
-    /// A standalone prefix: a value over a chain, sparse or split node.
-    fn prefix(&mut self, cell: usize, left: usize) -> Result<Node, Flaw> {
-        let value = self.word(cell, 0);
-        if value >> 31 == 1 {
-            return Err(Flaw::PrefixValue);
-        }
-        if self.block[cell * CELL + 4] != 0xFF {
-            return Err(Flaw::PrefixFlag);
-        }
-        self.met.add(Shape::Prefix, 1);
-        self.meet_junk(Shape::JunkInPrefix, cell, 5..0x1C);
-        match self.node(self.word(cell, 0x1C), left)? {
-            None => Err(Flaw::PrefixOverNone),
-            Some(Node::Leaf(_)) => Err(Flaw::PrefixOverLeaf),
-            Some(Node::Prefix { .. }) => Err(Flaw::PrefixOverPrefix),
-            Some(node) => Ok(Node::Prefix { place: Place::Held(cell), value, linked: Box::new(node) }),
-        }
-    }
 }
 
 impl Tree {

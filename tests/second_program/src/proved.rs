@@ -6,7 +6,7 @@ use crate::lists::{Ended, List};
 use crate::verdict::Question;
 
 extern "C" {
-    fn exports_format(block: *mut u8, block_len: usize) -> u8;
+    fn exports_format(block: *mut u8, block_len: usize, edition: u32) -> u8;
     fn exports_validate(block: *const u8, block_len: usize) -> u8;
     fn exports_insert(
         block: *mut u8,
@@ -49,6 +49,7 @@ extern "C" {
     fn exports_run_calls(
         block: *mut u8,
         block_len: usize,
+        edition: u32,
         calls: *const u8,
         calls_len: usize,
         answers: *mut u8,
@@ -106,6 +107,7 @@ fn run_list(list: &mut List) -> Ended {
         exports_run_calls(
             block[MARGIN..].as_mut_ptr(),
             list.block.len(),
+            list.edition,
             calls.as_ptr(),
             calls.len(),
             answers[MARGIN..].as_mut_ptr(),
@@ -135,7 +137,7 @@ fn perform_lent(block: &mut [u8], call: &Call) -> Outcome {
                 outcome.key = [FILLER; 48];
                 exports_next_key(start, size, key.as_ptr(), key.len(), number, outcome.key.as_mut_ptr())
             }
-            Call::Format => without_value(number, exports_format(start, size)),
+            Call::Format { edition } => without_value(number, exports_format(start, size, *edition)),
             Call::Validate => without_value(number, exports_validate(start, size)),
             Call::Snapshot { slot } => without_value(number, exports_snapshot(start, size, *slot)),
             Call::Restore { slot } => without_value(number, exports_restore(start, size, *slot)),

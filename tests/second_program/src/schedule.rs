@@ -4,12 +4,13 @@ use crate::calls::{valid_length, Call};
 use crate::compare::Comparison;
 use crate::crafted::crafted_block;
 use crate::foreign::{foreign_block, junk};
-use crate::generate::{children_of, Scene, Weights, BAD_LENGTH, FOREIGN, HISTORY, HOSTILE, SHRINKING};
+use crate::generate::{children_of, stems, Scene, Weights, BAD_LENGTH, FOREIGN, HISTORY, HOSTILE, SHRINKING};
 use crate::hostile::{bad_length_block, damage, noise_block};
 use crate::ledger::Ledger;
 use crate::lists::drawn_list;
-use crate::model::{Store, LONGEST_KEY};
+use crate::model::{Store, EDITIONS, LONGEST_KEY};
 use crate::random::Random;
+use crate::spoilt::spoilt;
 
 /// Scenes of random calls until the target is reached; each scene has its own seed, so that it can be met again.
 pub fn run(comparison: &mut Comparison, target: u64) {
@@ -18,12 +19,14 @@ pub fn run(comparison: &mut Comparison, target: u64) {
         comparison.seed += 1;
         let mut random = Random::seeded(comparison.seed);
         let cells = draw_cells(comparison, &mut random);
-        match random.weighted(&[18, 40, 42, 11, 14]) {
+        match random.weighted(&[18, 40, 42, 11, 14, 9, 7]) {
             0 => history(comparison, cells, &mut random),
             1 => foreign(comparison, cells, &mut random),
+            2 => hostile(comparison, cells, &mut random),
             3 => shrunk(comparison, cells.max(24), &mut random),
             4 => emptied(comparison, &mut random),
-            _ => hostile(comparison, cells, &mut random),
+            5 => stemmed(comparison, cells.max(16), &mut random),
+            _ => spoilt(comparison, cells, &mut random),
         }
     }
 }
@@ -88,9 +91,7 @@ fn aimed(call: Call, block: &[u8], random: &mut Random) -> Call {
 /// A history from a formatted block, with the ledger beside it; then copies of its last block damaged.
 fn history(comparison: &mut Comparison, cells: usize, random: &mut Random) {
     let mut scene = Scene::drawn(random);
-    let mut ledger = Ledger::default();
-    let mut block = junk(cells, random);
-    comparison.step_with_ledger(&mut block, &Call::Format, &mut ledger);
+    let (mut block, mut ledger) = fresh(comparison, cells, scene.edition, random);
     for _ in 0..random.between(1, 8) {
         let weights = if random.chance(75) { &HISTORY } else { &SHRINKING };
         for _ in 0..random.between(10, 25) {
@@ -102,11 +103,18 @@ fn history(comparison: &mut Comparison, cells: usize, random: &mut Random) {
     damaged(comparison, &block, &mut scene, random);
 }
 
-/// One node that grows to so many children and loses them one by one, with the ledger beside it.
-fn shrunk(comparison: &mut Comparison, cells: usize, random: &mut Random) {
+/// A fresh block of an edition, and the ledger beside it.
+fn fresh(comparison: &mut Comparison, cells: usize, edition: u32, random: &mut Random) -> (Vec<u8>, Ledger) {
     let mut ledger = Ledger::default();
     let mut block = junk(cells, random);
-    comparison.step_with_ledger(&mut block, &Call::Format, &mut ledger);
+    comparison.step_with_ledger(&mut block, &Call::Format { edition }, &mut ledger);
+    (block, ledger)
+}
+
+/// One node that grows to so many children and loses them one by one, with the ledger beside it.
+fn shrunk(comparison: &mut Comparison, cells: usize, random: &mut Random) {
+    let edition = random.pick(&EDITIONS);
+    let (mut block, mut ledger) = fresh(comparison, cells, edition, random);
     let mut keys = children_of(random);
     for key in &keys {
         let call = Call::Insert { key: key.clone(), value: random.word() >> 1 };
@@ -118,6 +126,24 @@ fn shrunk(comparison: &mut Comparison, cells: usize, random: &mut Random) {
     random.shuffle(&mut keys);
     for key in keys {
         comparison.step_with_ledger(&mut block, &Call::Remove { key }, &mut ledger);
+    }
+}
+
+/// Keys that begin others, set and set anew, then removed, with the ledger beside them; mostly of edition 2.
+fn stemmed(comparison: &mut Comparison, cells: usize, random: &mut Random) {
+    let edition = random.pick(&[1, 2, 2]);
+    let (mut block, mut ledger) = fresh(comparison, cells, edition, random);
+    let mut keys = stems(random);
+    for _ in 0..2 {
+        for key in &keys {
+            let call = Call::Insert { key: key.clone(), value: random.word() >> 1 };
+            comparison.step_with_ledger(&mut block, &call, &mut ledger);
+        }
+        random.shuffle(&mut keys);
+        let kept = random.below(keys.len());
+        for key in &keys[kept..] {
+            comparison.step_with_ledger(&mut block, &Call::Remove { key: key.clone() }, &mut ledger);
+        }
     }
 }
 

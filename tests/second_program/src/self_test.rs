@@ -4,7 +4,7 @@ use crate::calls::{perform, Call, Outcome};
 use crate::coverage::Coverage;
 use crate::foreign::order_word_block;
 use crate::generate::Scene;
-use crate::lists::{decode, encode, run as run_list, Ended, List, AT_END, BAD_SIZE, FULL, NO_CALL};
+use crate::lists::{decode, encode, run as run_list, Ended, List, AT_END, FULL, NOT_FRESH, NO_CALL};
 use crate::model::{put_word, word_at, Store, CELL};
 use crate::random::Random;
 use crate::verdict::{
@@ -26,6 +26,7 @@ pub fn run() {
     foreign_tables_rebuilt();
     lists_of_calls();
     crate::removal_test::run();
+    crate::embedded_test::run();
     println!("second_program alone: samples A to L and the further cases hold");
 }
 
@@ -34,10 +35,15 @@ pub fn make(block: &mut [u8], call: Call) -> Outcome {
     perform(block, &call, &mut Coverage::new())
 }
 
-/// A fresh block.
+/// A fresh block of edition 1.
 pub fn fresh(cells: usize) -> Vec<u8> {
+    fresh_of(1, cells)
+}
+
+/// A fresh block of an edition.
+pub fn fresh_of(edition: u32, cells: usize) -> Vec<u8> {
     let mut block = vec![0xAA; cells * CELL];
-    assert_eq!(make(&mut block, Call::Format), Outcome::bare(0));
+    assert_eq!(make(&mut block, Call::Format { edition }), Outcome::bare(0));
     block
 }
 
@@ -177,9 +183,15 @@ fn lengths() {
     for (length, answer) in [(0, 1), (96, 1), (127, 1), (128, 0), (129, 1), (65_536, 0), (2049 * CELL, 1)] {
         let mut block = vec![0xAA; length];
         let before = block.clone();
-        assert_eq!(make(&mut block, Call::Format).answer, answer);
-        assert_eq!(make(&mut block, Call::Validate).answer, answer);
-        assert_eq!(block == before, answer == 1);
+        for edition in [0, 3, 257, u32::MAX] {
+            assert_eq!(make(&mut block, Call::Format { edition }), Outcome::bare(1));
+        }
+        assert!(block == before);
+        for edition in [1, 2] {
+            assert_eq!(make(&mut block, Call::Format { edition }).answer, answer);
+            assert_eq!(make(&mut block, Call::Validate).answer, answer);
+            assert_eq!(block == before, answer == 1);
+        }
     }
 }
 
@@ -249,10 +261,11 @@ fn foreign_tables_rebuilt() {
     let mut random = Random::seeded(48);
     for _ in 0..300 {
         let scene = Scene::drawn(&mut random);
+        let edition = random.pick(&[1, 2]);
         let cells = random.between(4, 63);
         let block = crate::foreign::foreign_block(cells, 48, &scene, &mut random);
         let table = Store::decode(&block).expect("a foreign block is sound").root.table();
-        let mut rebuilt = fresh(2048);
+        let mut rebuilt = fresh_of(edition, 2048);
         for (key, value) in &table {
             assert_eq!(insert(&mut rebuilt, key, *value).0, 0);
         }
@@ -264,7 +277,8 @@ fn foreign_tables_rebuilt() {
 fn lists_of_calls() {
     let encoded = bytes("01 01 41 00000000  02 00000001  01 00 00000000  03 00000002  04 00000001");
     let with = |past: &str, room: usize| {
-        let mut list = List { block: vec![0xAA; 4 * CELL], bytes: encoded.clone(), answers: vec![0xEE; room] };
+        let (block, answers) = (vec![0xAA; 4 * CELL], vec![0xEE; room]);
+        let mut list = List { block, edition: 1 + room as u32 % 2, bytes: encoded.clone(), answers };
         list.bytes.extend(bytes(past));
         let (ended, _) = run_list(&mut list, &mut Coverage::new());
         (ended.number, ended.count, list.answers)
@@ -280,9 +294,12 @@ fn lists_of_calls() {
     assert_eq!(with("05 01 41  05 01 41  05 00", 8), (AT_END, 8, vec![0, 0, 3, 6, 0, 0, 11, 3]));
     assert_eq!(with("05 02 41", 6), (NO_CALL, 5, vec![0, 0, 3, 6, 0, 0xEE]));
     assert_eq!(with("06 01 41 41 41", 6), (NO_CALL, 5, vec![0, 0, 3, 6, 0, 0xEE]));
-    let mut small = List { block: vec![0xAA; 3 * CELL], bytes: encoded, answers: vec![0xEE] };
-    assert_eq!(run_list(&mut small, &mut Coverage::new()).0, Ended { number: BAD_SIZE, count: 0 });
-    assert_eq!((small.block, small.answers), (vec![0xAA; 3 * CELL], vec![0xEE]));
+    for (cells, edition) in [(3, 1), (3, 2), (4, 0), (4, 3)] {
+        let (block, answers) = (vec![0xAA; cells * CELL], vec![0xEE]);
+        let mut list = List { block, edition, bytes: encoded.clone(), answers };
+        assert_eq!(run_list(&mut list, &mut Coverage::new()).0, Ended { number: NOT_FRESH, count: 0 });
+        assert_eq!((list.block, list.answers), (vec![0xAA; cells * CELL], vec![0xEE]));
+    }
     let keys = [0, 1, 48, 49, 255].map(|size| Call::Insert { key: vec![0x41; size], value: 0x8765_4321 });
     let removed = [0, 1, 48, 49, 255].map(|size| Call::Remove { key: vec![0x05; size] });
     let slots = [Call::Snapshot { slot: 1 }, Call::Restore { slot: 0x0102_0304 }, Call::Release { slot: u32::MAX }];

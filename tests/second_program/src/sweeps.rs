@@ -5,26 +5,31 @@ use crate::compare::Comparison;
 use crate::foreign::{junk, order_word_block, write_trailer};
 use crate::generate::{Scene, FOREIGN};
 use crate::ledger::Ledger;
-use crate::model::{pointer, put_word, CELL};
+use crate::model::{pointer, put_word, CELL, EDITIONS};
 use crate::random::Random;
 use crate::schedule::{calls, remember_shown};
 use crate::verdict::{Question, CELSIUS, FAHRENHEIT, GATE_ANY, GATE_BETWEEN};
 
 /// All sweeps, one after the other.
 pub fn run(comparison: &mut Comparison) {
-    for (cells, calls) in samples() {
-        let mut block = vec![0xAA; cells * CELL];
-        let mut ledger = Ledger::default();
-        comparison.step_with_ledger(&mut block, &Call::Format, &mut ledger);
-        for call in calls {
-            comparison.step_with_ledger(&mut block, &call, &mut ledger);
-        }
+    for (cells, calls) in samples().into_iter().chain(values_over_runs()) {
+        EDITIONS.into_iter().for_each(|edition| history(comparison, cells, edition, &calls));
     }
     for order in 0..=u16::MAX {
         try_order_word(comparison, order);
     }
     calendar(comparison);
     fahrenheit(comparison);
+}
+
+/// Makes calls on a fresh block of an edition, with the ledger beside it.
+fn history(comparison: &mut Comparison, cells: usize, edition: u32, calls: &[Call]) {
+    let mut block = vec![0xAA; cells * CELL];
+    let mut ledger = Ledger::default();
+    comparison.step_with_ledger(&mut block, &Call::Format { edition }, &mut ledger);
+    for call in calls {
+        comparison.step_with_ledger(&mut block, call, &mut ledger);
+    }
 }
 
 /// An insertion of a value under a key.
@@ -78,6 +83,27 @@ fn removals() -> Vec<(usize, Vec<Call>)> {
     ]
 }
 
+/// Histories in which a value comes to stand over runs of every length, and over a split: put back by insertions and
+/// removals, set anew, and taken away.
+fn values_over_runs() -> Vec<(usize, Vec<Call>)> {
+    let mut histories = Vec::new();
+    for length in 1..=47 {
+        let key = [b"C".as_slice(), &vec![b'A'; length]].concat();
+        let (beside, below) = ([&key[..length], b"B"].concat(), [&key[..], b"B"].concat());
+        let below = &below[..below.len().min(48)];
+        let mut calls = vec![insert(b"C", 5), insert(&key, 0), insert(b"C", 9), insert(&key, 1), insert(&beside, 2)];
+        calls.extend([remove(&beside), insert(below, 3), remove(below), insert(&key, 4), remove(b"C"), remove(&key)]);
+        histories.push((24, calls));
+    }
+    let children = |make: fn(&[u8]) -> Call| b"35ABCPQR".map(|character| make(&[b'C', character]));
+    let mut calls = vec![insert(b"C", 5)];
+    calls.extend(children(|key| insert(key, 7)));
+    calls.extend([insert(b"C", 6), insert(b"CA", 8), remove(b"CA"), insert(b"CA", 9), remove(b"C"), insert(b"C", 4)]);
+    calls.extend(children(remove));
+    histories.push((64, calls));
+    histories
+}
+
 /// Judges the sparse node of one order word, and uses it where it is sound.
 fn try_order_word(comparison: &mut Comparison, order: u16) {
     comparison.seed = u64::from(order);
@@ -96,7 +122,7 @@ pub fn block_of_value(value: u32) -> Vec<u8> {
     let mut block = junk(4, &mut Random::seeded(u64::from(value)));
     block[CELL + 0x1B] = 0x41;
     put_word(&mut block, CELL + 0x1C, !value);
-    write_trailer(&mut block, pointer(1, 0x1B), &[None; 3]);
+    write_trailer(&mut block, 1 + value % 2, pointer(1, 0x1B), &[None; 3]);
     block
 }
 

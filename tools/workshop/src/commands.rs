@@ -2,7 +2,7 @@
 
 use crate::block_file;
 use crate::dates;
-use crate::proved::{self, Sheet, CELL_SIZE, MOST_CELLS_LENT};
+use crate::proved::{self, Sheet, CELL_SIZE, MOST_CELLS_LENT, USUAL_EDITION};
 use crate::trouble::{No, Trouble};
 use crate::words;
 use std::ffi::{OsStr, OsString};
@@ -10,7 +10,8 @@ use std::path::Path;
 
 /// How the commands are given.
 pub const USAGE: &str = "\
-workshop new FILE CELLS          make a fresh block in a new file
+workshop new FILE CELLS [EDITION]
+                                 make a fresh block in a new file, of edition 1 or 2; 1 if none is given
 workshop enter FILE LABEL DATE   enter a cartridge with its expiry day
 workshop remove FILE LABEL       remove a label, as of a batch that was withdrawn
 workshop list FILE               list all labels in order
@@ -40,7 +41,8 @@ pub fn perform(arguments: &[OsString]) -> Result<String, Trouble> {
     };
     match (words::text(command)?, rest) {
         ("help" | "--help" | "-h", []) => Ok(USAGE.to_string()),
-        ("new", [file, cells]) => new(Path::new(file), cells),
+        ("new", [file, cells]) => new(Path::new(file), cells, None),
+        ("new", [file, cells, edition]) => new(Path::new(file), cells, Some(edition)),
         ("enter", [file, label, date]) => enter(Path::new(file), label, date),
         ("remove", [file, label]) => remove(Path::new(file), label),
         ("list", [file]) => list(Path::new(file)),
@@ -65,13 +67,14 @@ fn misused(name: &str) -> Trouble {
 }
 
 /// Makes a fresh block in a new file; a count that is too large is lent as one that is just too large.
-fn new(file: &Path, cells: &OsStr) -> Result<String, Trouble> {
+fn new(file: &Path, cells: &OsStr, edition: Option<&OsString>) -> Result<String, Trouble> {
     let cells = words::whole_number(cells, "count of cells")?;
+    let edition = edition.map_or(Ok(USUAL_EDITION), |given| words::whole_number(given, "edition"))?;
     let lent = usize::try_from(cells).unwrap_or(MOST_CELLS_LENT).min(MOST_CELLS_LENT);
     let mut block = vec![0; lent * CELL_SIZE];
-    proved::format(&mut block)?;
+    proved::format(&mut block, edition)?;
     block_file::create(file, &block)?;
-    Ok(format!("fresh block of {cells} cells\n"))
+    Ok(format!("fresh block of {cells} cells, edition {edition}\n"))
 }
 
 /// Enters a cartridge with its expiry day.

@@ -4,7 +4,7 @@ use crate::dates::{Date, Day, Month, Year};
 use crate::trouble::No;
 
 extern "C" {
-    fn exports_format(block: *mut u8, block_size: usize) -> u8;
+    fn exports_format(block: *mut u8, block_size: usize, edition: u32) -> u8;
     fn exports_validate(block: *const u8, block_size: usize) -> u8;
     fn exports_insert(
         block: *mut u8,
@@ -52,6 +52,9 @@ pub const CELL_SIZE: usize = 32;
 /// One cell more than the library takes: every larger block gets the same no, so none larger is ever lent.
 pub const MOST_CELLS_LENT: usize = 2_049;
 
+/// The edition of a fresh block where none is asked for.
+pub const USUAL_EDITION: u32 = 1;
+
 /// The bytes that the next label is written into.
 const LABEL_ROOM: usize = 48;
 
@@ -89,9 +92,9 @@ fn result<T>(answer: u8, given: T) -> Result<T, No> {
 
 // In every call below each pointer comes with the size of its own slice, and no slice overlaps another.
 
-/// Makes the block a fresh one.
-pub fn format(block: &mut [u8]) -> Result<(), No> {
-    result(unsafe { exports_format(block.as_mut_ptr(), block.len()) }, ())
+/// Makes the block a fresh one of an edition.
+pub fn format(block: &mut [u8], edition: u32) -> Result<(), No> {
+    result(unsafe { exports_format(block.as_mut_ptr(), block.len(), edition) }, ())
 }
 
 /// Judges whether the block is sound.
@@ -196,6 +199,7 @@ fn gate_numbers(gate: Gate) -> (u32, f32, f32) {
 pub fn is_date(date: Date) -> bool {
     let mut block = [0; 4 * CELL_SIZE];
     let sheet = Sheet { gate: Gate::Any, section: 1.0, length: 1.0 };
-    let answer = format(&mut block).and_then(|()| verdict(&block, b"A", date, Reading::Celsius(0.0), sheet));
+    let answer = format(&mut block, USUAL_EDITION)
+        .and_then(|()| verdict(&block, b"A", date, Reading::Celsius(0.0), sheet));
     answer == Err(No::MISSING)
 }

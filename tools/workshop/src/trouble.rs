@@ -8,7 +8,7 @@ const FILE_STATUS: u8 = 74;
 
 /// What each no means, in the order of their numbers from 1 on.
 const MEANINGS: [&str; 14] = [
-    "the size is no multiple of 32 bytes, or not 4 to 2,048 cells",
+    "the size is no multiple of 32 bytes, or not 4 to 2,048 cells, or a new block's edition is not 1 or 2",
     "the block is not sound",
     "the label is empty or has over 48 bytes",
     "the value is over 2,147,483,647",

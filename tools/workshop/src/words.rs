@@ -45,10 +45,10 @@ pub fn show_label(label: &[u8]) -> String {
     }
 }
 
-/// A whole number such as a slot or a count of cells; which of them are valid is for the library to say.
+/// A whole number such as a slot, an edition or a count of cells; which of them are valid is for the library to say.
 pub fn whole_number(argument: &OsStr, name: &str) -> Result<u32, Trouble> {
     let given = text(argument)?;
-    let refusal = || usage(format!("'{given}' is no {name}: write a whole number, as in 3"));
+    let refusal = || usage(format!("'{given}' is no {name}: write a whole number, as in 2"));
     if given.is_empty() || !given.bytes().all(|byte| byte.is_ascii_digit()) {
         return Err(refusal());
     }

@@ -11,7 +11,7 @@ stopNumber Stop.AtEnd = 0
 stopNumber Stop.NoCall = 2
 stopNumber Stop.Full = 3
 
--- a bad size has the number that every call gives it
+-- a bad size has the number that every call gives it, and so has an edition that there is none of
 abbrev pub endNumber : RunAnswer → ℕ
 endNumber RunAnswer.BadSize = 1
 endNumber (RunAnswer.Ran count stop) = stopNumber stop
@@ -32,5 +32,5 @@ abbrev pub numbersOf : RunOutcome → RunNumbers
 numbersOf o = record { ended = endNumber (o .answer); count = ranCount (o .answer); block = o .block; answers = o .answers }
 
 -- the runner's own definition, in numbers
-abbrev pub runNumbers : List ℕ → List ℕ → List ℕ → RunNumbers
-runNumbers start bytes answers = numbersOf (runCalls start bytes answers)
+abbrev pub runNumbers : List ℕ → ℕ → List ℕ → List ℕ → RunNumbers
+runNumbers start edition bytes answers = numbersOf (runCalls start edition bytes answers)

@@ -56,25 +56,25 @@ runOver fresh bytes answers =
     runOutcome (RunAnswer.Ran (length calls) (stopped (length answers) bytes)) (run ours fresh calls)
     (answersOf ours fresh calls ++ drop (length calls) answers)
 
--- the block is formatted and the calls are run; where its size is bad nothing is altered
-unfoldable pub runCalls : List ℕ → List ℕ → List ℕ → RunOutcome
-runCalls start bytes answers =
-    cond (eqb (format start .answer) 0) (runOver (format start .block) bytes answers) (runOutcome RunAnswer.BadSize start answers)
+-- the block is formatted, of an edition, and the calls are run; where it cannot be, nothing is altered
+unfoldable pub runCalls : List ℕ → ℕ → List ℕ → List ℕ → RunOutcome
+runCalls start edition bytes answers =
+    cond (eqb (format start edition .answer) 0) (runOver (format start edition .block) bytes answers) (runOutcome RunAnswer.BadSize start answers)
 
 -- the conclusion of demand 3 for a list, over the block and the answer bytes that a run left
-pub record Upheld (start : List ℕ) (calls : List Call) (count : ℕ) (block answers : List ℕ) : Type 0 where
-  pub formatted : format start .answer ≡ 0
+pub record Upheld (start : List ℕ) (edition : ℕ) (calls : List Call) (count : ℕ) (block answers : List ℕ) : Type 0 where
+  pub formatted : format start edition .answer ≡ 0
   pub all : count ≡ length calls
   -- each answer number is the one that the ledger gives
-  pub numbers : take count answers ≡ ledgerAnswers (slots (layoutOf (format start .block))) emptyLedger (fedBy ours (format start .block) calls)
+  pub numbers : take count answers ≡ ledgerAnswers (slots (layoutOf (format start edition .block))) emptyLedger (fedBy ours (format start edition .block) calls)
   -- the block is sound and shows what the ledger has
-  pub agrees : Agrees block (ledgerBeside ours (format start .block) calls)
+  pub agrees : Agrees block (ledgerBeside ours (format start edition .block) calls)
   -- what is said of each call of the list
   pub each : (before : List Call) (call : Call) (after : List Call) → calls ≡ before ++ call ∷ after
-      → AtCall ours (run ours (format start .block) before) call
+      → AtCall ours (run ours (format start edition .block) before) call
 
 -- what the function ensures: it does what is defined, and demand 3 holds of what it did
-pub record Meets (start bytes answers : List ℕ) (o : RunOutcome) : Type 0 where
-  pub does : runCalls start bytes answers ≡ o
+pub record Meets (start : List ℕ) (edition : ℕ) (bytes answers : List ℕ) (o : RunOutcome) : Type 0 where
+  pub does : runCalls start edition bytes answers ≡ o
   pub upheld : (count : ℕ) (stop : Stop) → o .answer ≡ RunAnswer.Ran count stop
-      → Upheld start (callsRun bytes answers) count (o .block) (o .answers)
+      → Upheld start edition (callsRun bytes answers) count (o .block) (o .answers)

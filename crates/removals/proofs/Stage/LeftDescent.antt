@@ -18,10 +18,11 @@ use Rattle.nodes.specs.declared.value.Value.{Value}
 use Rattle.nodes.specs.declared.value.Value.the-variants.{Held, Empty}
 use Rattle.staging.specs.Code.Stage.{staged}
 use Rattle.staging.specs.declared.stage.BuildState.{BuildState}
-use Rattle.updates.specs.Built.{Built, unowned, allocate}
+use Rattle.updates.specs.Built.{Built, unowned}
 use Rattle.updates.specs.SetChild.{setChild}
 use Rattle.updates.specs.Build.{wordAside, putBack}
 use Rattle.updates.specs.Code.Staged.{builtOf, Fitting}
+use Rattle.updates.proofs.Stage.StagedDescent.{putBack-grows}
 use Rattle.removals.specs.LoseChild.{loseChild}
 use Rattle.removals.specs.Removal.{changeChild, putBackLeft, leftCopy, removedAt}
 
@@ -61,13 +62,13 @@ module _ (layout : Layout) (number : ℕ → ℕ) (held : Value) (built : BuildS
 module _ (layout : Layout) (number : ℕ → ℕ) (m : Memory) where
   -- a value put back takes no cell away
   left-grows : (value : Option ℕ) (b : Built) → length (b .cells) ≤ length (putBackLeft layout number value b .cells)
-  unfolding putBackLeft putBack allocate
+  unfolding putBackLeft
   left-grows none b = omega arith
   left-grows (some v) b = go (eqb (b .word) 0)
     where
       go : (t : Bool) → length (b .cells) ≤ length (cond t (unowned (leafWord v) (b .cells)) (putBack layout number (some v) b) .cells)
       go true = omega arith
-      go false = omega arith
+      go false = putBack-grows layout number (some v) b
 
   -- one node, with what the parts are
   module _ (word x : ℕ) (below : Built) (bare : ℕ) (bare-is : bare ≡ wordAside layout m (pointer layout word) word) where

@@ -2,7 +2,7 @@
 use mathlib.Core.Path.{_≡_, refl, sym, ap, _∙_}
 use mathlib.Core.Logic.{_≢_}
 use mathlib.Core.Bool.{Bool, true, false, cond}
-use mathlib.Core.List.{List, [], _∷_, _++_}
+use mathlib.Core.List.{List, [], _++_}
 use mathlib.Core.Option.{Option, none, some, bind}
 use Prim.Native.Nat.{ℕ, zero, suc, _+_, _-_}
 use native.Mathlib.Omega.{arith}
@@ -19,10 +19,10 @@ use Rattle.nodes.proofs.Frame.{read-is}
 use Rattle.nodes.proofs.Read.{read-leaf}
 use Rattle.trees.specs.Tree.{spread, step, tree}
 use Rattle.trees.specs.Root.{isRoot, rootTree}
-use Rattle.trees.specs.Code.Visit.{cellIf}
+use Rattle.trees.specs.Code.Visit.{cellsIf}
 use Rattle.trees.specs.Code.Parts.{childTree, isPlain, plainTree}
 use Rattle.trees.proofs.Tree.{kids, tree-step, tree-zero}
-use Rattle.trees.proofs.Validation.Joins.{joined, joined-assoc, joined-one, bind-of, bind-none, bind-assoc, bind-same}
+use Rattle.trees.proofs.Validation.Joins.{joined, joined-assoc, joined-some, bind-of, bind-none, bind-assoc, bind-same}
 use Rattle.trees.proofs.Validation.Gathered.{gather-nothing, gather-equal}
 
 module _ (layout : Layout) (m : Memory) where
@@ -119,8 +119,11 @@ module _ (layout : Layout) (m : Memory) where
       by (prefix c) named = no-plain (prefix c) named (unfold isPlain in refl) (unfold plain in refl)
       by invalid named = no-plain invalid named (unfold isPlain in refl) (unfold plain in refl)
 
-  -- a prefix: its cell, then the plain node that it links to
+  -- a prefix: its cell where it has one for itself, then the plain node that it links to
   module _ (d w c : ℕ) (named : pointer layout w ≡ prefix c) where
+    abbrev visited : List ℕ
+    visited = prefixCells c (m c)
+
     prefix-broken : validPrefix layout (m c) ≡ false → tree layout m d w ≡ none
     unfolding readAt
     prefix-broken broken =
@@ -128,13 +131,13 @@ module _ (layout : Layout) (m : Memory) where
         (read-is layout m w (prefix c) named
         ∙ ap (λ b. cond b (bind (plain layout m (pointer layout (prefixLink c (m c)))) (λ linked. some (prefixed (prefixValue (m c)) (prefixCells c (m c)) c linked))) none) broken)
 
-    prefix-valid : validPrefix layout (m c) ≡ true → tree layout m d w ≡ joined (some (c ∷ [])) (plainTree layout m d (prefixLink c (m c)))
+    prefix-valid : validPrefix layout (m c) ≡ true → tree layout m d w ≡ joined (some visited) (plainTree layout m d (prefixLink c (m c)))
     prefix-valid valid =
         tree-step layout m d w ∙ stepped
-        ∙ bind-assoc linked (λ X. some (prefixed (prefixValue (m c)) (prefixCells c (m c)) c X)) (spread (kids layout m d))
+        ∙ bind-assoc linked (λ X. some (prefixed (prefixValue (m c)) visited c X)) (spread (kids layout m d))
         ∙ bind-same linked _ _ (λ X.
-        bind-of (prefixed (prefixValue (m c)) (prefixCells c (m c)) c X) (spread (kids layout m d)) ∙ spread-joined d (prefixed (prefixValue (m c)) (prefixCells c (m c)) c X) ∙ apart X)
-        ∙ moved ∙ ap (joined (some (c ∷ []))) (sym (plain-tree-read d (prefixLink c (m c)) (pointer layout (prefixLink c (m c))) refl))
+        bind-of (prefixed (prefixValue (m c)) visited c X) (spread (kids layout m d)) ∙ spread-joined d (prefixed (prefixValue (m c)) visited c X) ∙ apart X)
+        ∙ moved ∙ ap (joined (some visited)) (sym (plain-tree-read d (prefixLink c (m c)) (pointer layout (prefixLink c (m c))) refl))
       where
         linked : Option Node
         linked = plain layout m (pointer layout (prefixLink c (m c)))
@@ -143,31 +146,36 @@ module _ (layout : Layout) (m : Memory) where
         below X = gather (λ x. childTree layout m d (X .child x)) 256 0
 
         stepped : step layout m (kids layout m d) w
-            ≡ bind (bind linked (λ X. some (prefixed (prefixValue (m c)) (prefixCells c (m c)) c X))) (spread (kids layout m d))
+            ≡ bind (bind linked (λ X. some (prefixed (prefixValue (m c)) visited c X))) (spread (kids layout m d))
         stepped =
             unfold step readAt in
             ap (λ o. bind o (spread (kids layout m d)))
-            (read-is layout m w (prefix c) named ∙ ap (λ b. cond b (bind linked (λ X. some (prefixed (prefixValue (m c)) (prefixCells c (m c)) c X))) none) valid)
+            (read-is layout m w (prefix c) named ∙ ap (λ b. cond b (bind linked (λ X. some (prefixed (prefixValue (m c)) visited c X))) none) valid)
 
-        apart : (X : Node) → joined (some (c ∷ X .cells)) (below X) ≡ joined (some (c ∷ [])) (joined (some (X .cells)) (below X))
+        apart : (X : Node) → joined (some (visited ++ X .cells)) (below X) ≡ joined (some visited) (joined (some (X .cells)) (below X))
         apart X =
-            ap (λ o. joined o (below X)) (sym (joined-one c (some (X .cells)) ∙ bind-of (X .cells) (λ cs. some (c ∷ cs))))
-            ∙ joined-assoc (some (c ∷ [])) (some (X .cells)) (below X)
+            ap (λ o. joined o (below X)) (sym (joined-some visited (some (X .cells)) ∙ bind-of (X .cells) (λ cs. some (visited ++ cs))))
+            ∙ joined-assoc (some visited) (some (X .cells)) (below X)
 
-        moved : bind linked (λ X. joined (some (c ∷ [])) (joined (some (X .cells)) (below X)))
-            ≡ joined (some (c ∷ [])) (bind linked (λ X. joined (some (X .cells)) (below X)))
+        moved : bind linked (λ X. joined (some visited) (joined (some (X .cells)) (below X)))
+            ≡ joined (some visited) (bind linked (λ X. joined (some (X .cells)) (below X)))
         moved =
-            bind-same linked _ _ (λ X. joined-one c (joined (some (X .cells)) (below X)))
-            ∙ sym (bind-assoc linked (λ X. joined (some (X .cells)) (below X)) (λ cs. some (c ∷ cs)))
-            ∙ sym (joined-one c (bind linked (λ X. joined (some (X .cells)) (below X))))
+            bind-same linked _ _ (λ X. joined-some visited (joined (some (X .cells)) (below X)))
+            ∙ sym (bind-assoc linked (λ X. joined (some (X .cells)) (below X)) (λ cs. some (visited ++ cs)))
+            ∙ sym (joined-some visited (bind linked (λ X. joined (some (X .cells)) (below X))))
 
-    pub prefix-tree : (valid : Bool) → valid ≡ validPrefix layout (m c) → (word : ℕ) → prefixLink c (m c) ≡ word
-        → tree layout m d w ≡ joined (cellIf valid c) (plainTree layout m d word)
-    prefix-tree valid tested word there = by valid tested ∙ ap (λ v. joined (cellIf valid c) (plainTree layout m d v)) there
+    pub prefix-tree : (word : ℕ) → word ≡ prefixLink c (m c)
+        → tree layout m d w ≡ joined (cellsIf (validPrefix layout (m c)) visited) (plainTree layout m d word)
+    prefix-tree word there =
+        by (validPrefix layout (m c)) refl
+        ∙ ap (λ v. joined (cellsIf (validPrefix layout (m c)) visited) (plainTree layout m d v)) (sym there)
       where
-        by : (valid : Bool) → valid ≡ validPrefix layout (m c) → tree layout m d w ≡ joined (cellIf valid c) (plainTree layout m d (prefixLink c (m c)))
-        by true tested = prefix-valid (sym tested)
-        by false tested = prefix-broken (sym tested) ∙ sym (bind-none (λ a. bind (plainTree layout m d (prefixLink c (m c))) (λ b. some (a ++ b))))
+        by : (valid : Bool) → validPrefix layout (m c) ≡ valid
+            → tree layout m d w ≡ joined (cellsIf (validPrefix layout (m c)) visited) (plainTree layout m d (prefixLink c (m c)))
+        by true tested = prefix-valid tested ∙ ap (λ v. joined (cellsIf v visited) (plainTree layout m d (prefixLink c (m c)))) (sym tested)
+        by false tested =
+            prefix-broken tested ∙ sym (bind-none (λ a. bind (plainTree layout m d (prefixLink c (m c))) (λ b. some (a ++ b))))
+            ∙ ap (λ v. joined (cellsIf v visited) (plainTree layout m d (prefixLink c (m c)))) (sym tested)
 
   -- a root: NONE, or a plain node
   pub root-none : (w : ℕ) → w ≡ 0 → rootTree layout m w ≡ some []

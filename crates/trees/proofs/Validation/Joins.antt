@@ -64,10 +64,10 @@ joined-assoc (some a) none q = refl
 joined-assoc (some a) (some b) none = refl
 joined-assoc (some a) (some b) (some c) = ap some (append-assoc a b c)
 
--- a cell before the cells found
-pub joined-one : (c : ℕ) (p : Option (List ℕ)) → joined (some (c ∷ [])) p ≡ bind p (λ cs. some (c ∷ cs))
+-- cells before the cells found, as one list where these are known
+pub joined-some : (a : List ℕ) (p : Option (List ℕ)) → joined (some a) p ≡ bind p (λ b. some (a ++ b))
 unfolding bind
-joined-one c p = refl
+joined-some a p = refl
 
 -- a cell that is visited where it is valid, before the cells found
 pub cell-kept : (valid : Bool) (c : ℕ) (p : Option (List ℕ)) → valid ≡ true → joined (cellIf valid c) p ≡ joined (some (c ∷ [])) p

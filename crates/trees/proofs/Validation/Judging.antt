@@ -1,5 +1,5 @@
 -- Laws of judgements: a part that fails, parts one after the other, and a walk along a range.
-use mathlib.Core.Path.{_≡_, refl, sym, ap, _∙_}
+use mathlib.Core.Path.{_≡_, refl, sym, ap, _∙_, subst}
 use mathlib.Core.Logic.{_≢_}
 use mathlib.Core.Bool.{Bool, true, false}
 use mathlib.Core.List.{List, [], _∷_, _++_}
@@ -8,8 +8,11 @@ use Prim.Native.Nat.{ℕ, suc, _+_}
 use native.Mathlib.Omega.{arith}
 use lib.ListN.{getD, set}
 use Rattle.cells.proofs.Choice.{absurd-bool, absurd-false}
+use Rattle.nodes.specs.Layout.{Layout}
 use Rattle.nodes.specs.Split.{gather}
-use Rattle.trees.specs.Code.Visit.{stampEach, visit, cellIf, VisitAnswer}
+use Rattle.nodes.specs.Prefix.{standalone, prefixCells, validPrefix}
+use Rattle.nodes.proofs.Prefixes.{cells-alone, cells-embedded}
+use Rattle.trees.specs.Code.Visit.{stampEach, visit, cellsIf, cellIf, VisitAnswer}
 use Rattle.trees.proofs.Validation.Joins.{joined, bind-assoc, bind-same, bind-swap, bind-of, bind-none, joined-nil, joined-end, joined-assoc}
 use Rattle.trees.proofs.Validation.Gathered.{gather-none, gather-first}
 use Rattle.trees.proofs.Validation.Stamping.{stampEach-none, stampEach-twice, stampEach-new, stampEach-append}
@@ -62,6 +65,11 @@ pub judged-empty : (cells : Option (List ℕ)) (stamp : ℕ) (stamps : List ℕ)
 judged-empty cells stamp stamps e =
     judged-passed cells stamp stamps stamps (ap (λ o. visit stamp o stamps) e ∙ visit-empty stamp stamps)
 
+-- a judgement from stamps that are the same
+pub judged-from : {cells : Option (List ℕ)} {stamp : ℕ} {before other after : List ℕ} {passed : Bool} → before ≡ other
+    → VisitAnswer cells stamp before after passed → VisitAnswer cells stamp other after passed
+judged-from {cells} {stamp} {before} {other} {after} {passed} same = subst (λ s. VisitAnswer cells stamp s after passed) same
+
 -- one cell that is valid, or is not
 pub cell-invalid : (c stamp : ℕ) (before after : List ℕ) (valid : Bool) → valid ≡ false → VisitAnswer (cellIf valid c) stamp before after false
 cell-invalid c stamp before after valid t = judged-none (cellIf valid c) stamp before after (ap (λ b. cellIf b c) t)
@@ -78,6 +86,26 @@ pub cell-new : (c stamp : ℕ) (before : List ℕ) → getD before c 0 ≢ stamp
 cell-new c stamp before other =
     judged-passed (some (c ∷ [])) stamp before (set before c stamp)
     (visit-found stamp (c ∷ []) before ∙ stampEach-new stamp c [] before other ∙ stampEach-none stamp (set before c stamp))
+
+-- the cells of a prefix: its own where it has one for itself, else none
+module _ (layout : Layout) (c : ℕ) (bytes : List ℕ) (stamp : ℕ) (before : List ℕ) (valid : Bool) (told : valid ≡ validPrefix layout bytes)
+    (alone : Bool) (kind : alone ≡ standalone bytes) where
+  abbrev OfPrefix : List ℕ → Bool → Type 0
+  OfPrefix after passed = VisitAnswer (cellsIf (validPrefix layout bytes) (prefixCells c bytes)) stamp before after passed
+
+  pub judged-alone : alone ≡ true → (after : List ℕ) (passed : Bool) → VisitAnswer (cellIf valid c) stamp before after passed → OfPrefix after passed
+  judged-alone t after passed =
+      judged-same _ stamp before after (cellIf valid c) passed
+      (ap (λ cells. cellsIf (validPrefix layout bytes) cells) (cells-alone c bytes (sym kind ∙ t)) ∙ ap (λ v. cellIf v c) (sym told))
+
+  pub judged-embedded : alone ≡ false → OfPrefix before valid
+  judged-embedded t =
+      judged-same _ stamp before before (cellsIf valid []) valid
+      (ap (λ cells. cellsIf (validPrefix layout bytes) cells) (cells-embedded c bytes (sym kind ∙ t)) ∙ ap (λ v. cellsIf v []) (sym told)) (by valid)
+    where
+      by : (valid : Bool) → VisitAnswer (cellsIf valid []) stamp before before valid
+      by true = judged-empty (some []) stamp before refl
+      by false = judged-none none stamp before before refl
 
 -- two parts, of which the first fails, or passes and leaves the verdict to the second
 module _ (cells first second : Option (List ℕ)) (stamp : ℕ) (before between after : List ℕ) (passed : Bool)

@@ -14,9 +14,13 @@ stampEach stamp (c ∷ cs) stamps =
     let later = stampEach stamp cs (set stamps c stamp) in
     cond (eqb (getD stamps c 0) stamp) none later
 
--- a cell that is visited where it is valid; nothing where it is not
+-- the cells that are visited where a node is valid; nothing where it is not
+abbrev pub cellsIf : Bool → List ℕ → Option (List ℕ)
+cellsIf valid cells = cond valid (some cells) none
+
+-- the same of one cell
 abbrev pub cellIf : Bool → ℕ → Option (List ℕ)
-cellIf valid c = cond valid (some (c ∷ [])) none
+cellIf valid c = cellsIf valid (c ∷ [])
 
 -- the stamps after a visit of the cells found; nothing where nothing is found
 abbrev pub visit : ℕ → Option (List ℕ) → List ℕ → Option (List ℕ)

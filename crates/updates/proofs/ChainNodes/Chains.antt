@@ -4,7 +4,7 @@ use mathlib.Core.Logic.{_≢_}
 use mathlib.Core.Bool.{Bool, true, false, cond}
 use mathlib.Core.List.{List, [], _∷_}
 use mathlib.Core.Option.{some}
-use Prim.Native.Nat.{ℕ, zero, suc, _+_, _≤_, _<_}
+use Prim.Native.Nat.{ℕ, zero, suc, _+_, _%_, _≤_, _<_}
 use native.Mathlib.Omega.{arith}
 use lib.Dec.{eqb}
 use lib.ListN.{length, getD, set, length-set}
@@ -16,6 +16,7 @@ use Rattle.cells.specs.Memory.{Memory}
 use Rattle.cells.specs.Occurrences.{occurrences}
 use Rattle.cells.proofs.Occurrences.{occurrences-none}
 use Rattle.cells.proofs.Words.{word-agree, recombine}
+use Rattle.cells.proofs.Pointers.{cell-kind}
 use Rattle.nodes.specs.Layout.{Layout, usable, cellLimit}
 use Rattle.nodes.specs.Pointer.{pointer, byKind, wordTo}
 use Rattle.nodes.specs.Chain.{chainChild}
@@ -23,10 +24,10 @@ use Rattle.nodes.specs.Node.{Node, oneChild, chainNode, plain}
 use Rattle.nodes.proofs.Frame.{chain-join}
 use Rattle.nodes.proofs.Chain.{chain-child-inside, chain-child-end, chain-value, chain-cells-inside, chain-cells-end}
 use Rattle.staging.specs.NewCells.{blank, chainCell}
-use Rattle.updates.specs.Built.{Built, allocate, roomOf, firstUsed, firstUsedOf, characterBefore, chainWith, chainOver}
+use Rattle.updates.specs.Built.{Built, allocate, room, roomOf, firstUsed, firstUsedOf, characterBefore, chainWith, chainOver}
 use Rattle.updates.specs.SetChild.{withChild}
 use Rattle.updates.proofs.Claims.{from-at, numbers, numbers-more, CellStands, CellsStandFrom, BuildStands, cells-stand-from, InNewest, Consistent, Placed}
-use Rattle.updates.proofs.ChainNodes.Rooms.{room-most, first-most, first-chain, allocate-numbers, allocate-first-chain, allocate-names, allocate-consistent-chain, allocate-free, allocate-stands}
+use Rattle.updates.proofs.ChainNodes.Rooms.{room-most, room-place, first-most, first-chain, allocate-numbers, allocate-first-chain, allocate-names, allocate-consistent-whole, allocate-free, allocate-stands}
 
 -- a new chain cell
 pub chain-cell-length : (x w : ℕ) → length (chainCell x w) ≡ 32
@@ -87,24 +88,24 @@ module _ (layout : Layout) (small : layout .cells ≤ cellLimit) (number : ℕ �
           child = λ y _. chain-node-child (m′ c) c 27 x w y character child ∙ one-child (Y .child) x w only y;
           most = λ z. omega (arith, here z, allocate-numbers number z 27 (chainCell x w) cells);
           least = λ z. omega (arith, here z, allocate-numbers number z 27 (chainCell x w) cells);
-          consistent = allocate-consistent-chain layout small number cells free 27 (chainCell x w) (omega arith) (chain-cell-length x w);
+          consistent = allocate-consistent-whole layout small number cells free 27 (chainCell x w) (omega arith) (chain-cell-length x w);
         }
 
     -- by one more character in the newest cell
-    longer-placed : (own : Bool) (k : ℕ) (newest : List ℕ) (rest : List (List ℕ)) → InNewest layout number (suc k) w (newest ∷ rest)
-        → BuildStands layout number m′ (allocate number k (set newest k x) rest)
+    longer-placed : (own : Bool) (k : ℕ) (newest : List ℕ) (rest : List (List ℕ)) → (w % 32 ≡ suc k) × (suc k < 28)
+        → InNewest layout number (suc k) w (newest ∷ rest) → BuildStands layout number m′ (allocate number k (set newest k x) rest)
         → Placed layout number m′ Y x (record { word = w; own = own; cells = newest ∷ rest }) (allocate number k (set newest k x) rest)
-    longer-placed own k newest rest in-newest standing =
+    longer-placed own k newest rest place in-newest standing =
         let c : ℕ = number (length rest) in
-        let before : k < 27 = omega (arith, in-newest .1) in
+        let before : k < 27 = omega (arith, place .1) in
         let inside : k ≢ 27 = omega arith in
         let free : usable layout (number (length rest)) ≡ true = allocate-free layout number m′ k (set newest k x) rest standing in
         let stands : CellStands layout m′ k c (set newest k x) =
         subst (λ j. CellStands layout m′ j c (set newest k x)) (allocate-first-chain layout small number rest free k (set newest k x) (omega arith))
         (allocate-stands layout number m′ k (set newest k x) rest standing) in
         let character : getD (m′ c) k 0 ≡ x =
-        from-at k (m′ c) (set newest k x) k (stands .bytes) (omega arith) (omega arith) ∙ getD-set-same newest k x 0 (omega (arith, in-newest .2)) in
-        let child : chainChild (m′ c) c k ≡ w = chain-child-inside (m′ c) c k inside ∙ omega (arith, in-newest .0) in
+        from-at k (m′ c) (set newest k x) k (stands .bytes) (omega arith) (omega arith) ∙ getD-set-same newest k x 0 (omega (arith, in-newest .1)) in
+        let child : chainChild (m′ c) c k ≡ w = chain-child-inside (m′ c) c k inside ∙ omega (arith, in-newest .0, place .0, cell-kind w) in
         let here : (z : ℕ) → occurrences z (chainNode (m′ c) c k .cells) ≡ 0 =
         λ z. ap (occurrences z) (chain-cells-inside (m′ c) c k inside) ∙ occurrences-none z in
         let same : (z : ℕ) → occurrences z (numbers number (allocate number k (set newest k x) rest .cells)) ≡ occurrences z (numbers number (newest ∷ rest))
@@ -116,23 +117,27 @@ module _ (layout : Layout) (small : layout .cells ≤ cellLimit) (number : ℕ �
           child = λ y _. chain-node-child (m′ c) c k x w y character child ∙ one-child (Y .child) x w only y;
           most = λ z. omega (arith, here z, same z);
           least = λ z. omega (arith, here z, same z);
-          consistent = allocate-consistent-chain layout small number rest free k (set newest k x) (omega arith) (length-set newest k x ∙ in-newest .2);
+          consistent = allocate-consistent-whole layout small number rest free k (set newest k x) (omega arith) (length-set newest k x ∙ in-newest .1);
         }
 
-    with-placed : w < 4294967296 → (own : Bool) (k : ℕ) (cells : List (List ℕ)) → InNewest layout number k w cells
+    with-placed : w < 4294967296 → (own : Bool) (k : ℕ) → room own w ≡ k → (cells : List (List ℕ)) → InNewest layout number (firstUsed own w) w cells
         → BuildStands layout number m′ (chainWith number x w k cells)
         → Placed layout number m′ Y x (record { word = w; own = own; cells = cells }) (chainWith number x w k cells)
     unfolding chainWith characterBefore
-    with-placed word-small own zero cells in-newest standing = new-placed word-small own cells standing
-    with-placed word-small own (suc k) [] in-newest standing = absurd in-newest
-    with-placed word-small own (suc k) (newest ∷ rest) in-newest standing = unfold allocate in longer-placed own k newest rest in-newest standing
+    with-placed word-small own zero has cells in-newest standing = new-placed word-small own cells standing
+    with-placed word-small own (suc k) has [] in-newest standing =
+        absurd (subst (λ j. InNewest layout number j w []) (first-chain own w k has) in-newest)
+    with-placed word-small own (suc k) has (newest ∷ rest) in-newest standing =
+        unfold allocate in
+        longer-placed own k newest rest (room-place own w k has)
+        (subst (λ j. InNewest layout number j w (newest ∷ rest)) (first-chain own w k has) in-newest) standing
 
   -- a chain over a child, be the child's cell allocated by this call or not
   pub chain-placed : (Y : Node) (x : ℕ) → ((y : ℕ) → y ≢ x → Y .child y ≡ 0) → (b : Built) → b .word ≢ 0 → Consistent layout number b
       → BuildStands layout number m′ (chainOver number x b) → Placed layout number m′ Y x b (chainOver number x b)
   unfolding chainOver
   chain-placed Y x only b nonzero consistent standing =
-      with-placed Y x only (b .word) nonzero (consistent .small) (b .own) (roomOf b) (b .cells) (consistent .in-newest) standing
+      with-placed Y x only (b .word) nonzero (consistent .small) (b .own) (roomOf b) refl (b .cells) (consistent .in-newest) standing
 
   -- the cells of the child stand where those of the chain do
   longer-below-stands : (x k : ℕ) (newest : List ℕ) (rest : List (List ℕ)) → k < 32

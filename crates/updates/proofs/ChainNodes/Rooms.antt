@@ -1,26 +1,26 @@
 -- Laws of the room before a chain, of the first byte used, and of a cell just allocated.
 use mathlib.Core.Path.{_≡_, refl, sym, _∙_, subst}
-use mathlib.Core.Logic.{_≢_}
+use mathlib.Core.Logic.{_≢_, _⊎_, inl, inr, ⊎-elim}
 use mathlib.Core.Bool.{Bool, true, false, _&&_, cond}
 use mathlib.Core.List.{List, [], _∷_}
 use Prim.Native.Nat.{ℕ, zero, suc, _+_, _*_, _%_, _≤_, _<_}
 use native.Mathlib.Omega.{arith}
 use lib.Dec.{ltb, eqb}
 use lib.ListN.{length}
-use borrow.Author.Tests.{lt-ltb, le-ltb, ne-eqb, eqb-true}
+use borrow.Author.Tests.{lt-ltb, le-ltb, ne-eqb, ltb-true, eqb-true}
 use Rattle.cells.specs.Memory.{Memory}
 use Rattle.cells.specs.Occurrences.{occurrences}
-use Rattle.cells.proofs.Pointers.{kind-of-made}
+use Rattle.cells.proofs.Pointers.{kind-of-made, cell-of-made}
 use Rattle.nodes.specs.Layout.{Layout, usable, cellLimit}
 use Rattle.nodes.specs.Pointer.{pointer, byKind, wordTo}
 use Rattle.nodes.proofs.Pointers.{usable-inside, made}
-use Rattle.updates.specs.Built.{Built, unowned, allocate, room, roomOf, firstUsed, firstUsedOf}
+use Rattle.updates.specs.Built.{Built, unowned, allocate, room, firstUsed, firstUsedOf}
 use Rattle.updates.proofs.Claims.{numbers, numbers-more, CellStands, BuildStands, cells-stand-from, InNewest, Consistent}
 
--- a word whose cell this call did not allocate has no room
-pub room-unowned : (word : ℕ) → room false word ≡ 0
-unfolding room
-room-unowned word = refl
+-- of a word whose cell this call did not allocate no byte is free
+pub first-unowned : (word : ℕ) → firstUsed false word ≡ 0
+unfolding firstUsed room
+first-unowned word = refl
 
 -- the room is never more than the kind
 cond-most : (t : Bool) (k : ℕ) → cond t k 0 ≤ k
@@ -49,6 +49,16 @@ room-other c k other kind = go (ltb (c * 32 + k) 2147483648)
     go true = let here : (c * 32 + k) % 32 ≡ k = kind-of-made c k kind in rw (here, le-ltb k 28 other)
     go false = refl
 
+-- where there is room before a word, it is that of a chain at this place
+pub room-place : (own : Bool) (word k : ℕ) → room own word ≡ suc k → (word % 32 ≡ suc k) × (suc k < 28)
+unfolding room
+room-place own word k has = go (own && ltb word 2147483648) (ltb (word % 32) 28) refl has
+  where
+    go : (s t : Bool) → ltb (word % 32) 28 ≡ t → cond (s && t) (word % 32) 0 ≡ suc k → (word % 32 ≡ suc k) × (suc k < 28)
+    go true true e is = (is, omega (arith, ltb-true (word % 32) 28 e, is))
+    go true false e is = absurd (omega (arith, is))
+    go false t e is = absurd (omega (arith, is))
+
 -- the first byte used is the room but in a split head
 pub first-other : (own : Bool) (word : ℕ) → word % 32 ≢ 28 → firstUsed own word ≡ room own word
 unfolding firstUsed
@@ -59,7 +69,7 @@ first-other own word other = go own (ltb word 2147483648)
     go true false = refl
     go false t = refl
 
-first-head : (c : ℕ) → c < 67108864 → firstUsed true (wordTo c 28) ≡ 16
+pub first-head : (c : ℕ) → c < 67108864 → firstUsed true (wordTo c 28) ≡ 16
 unfolding firstUsed
 first-head c low =
     let kind : (c * 32 + 28) % 32 ≡ 28 = kind-of-made c 28 (omega arith) in
@@ -86,17 +96,44 @@ first-chain own word k has = first-other own word (no-head has) ∙ has
     no-head : room own word ≡ suc k → word % 32 ≢ 28
     no-head e kind = unfold room in full (own && ltb word 2147483648) kind e
 
+-- a node with free bytes before it: a split head, or a chain at that place
+abbrev pub HeadAt : Bool → ℕ → Type 0
+HeadAt own word = (word % 32 ≡ 28) × (room own word ≡ 0) × (firstUsed own word ≡ 16)
+
+abbrev pub ChainAt : Bool → ℕ → Type 0
+ChainAt own word = (word % 32 < 28) × (room own word ≡ word % 32) × (firstUsed own word ≡ word % 32)
+
+pub first-place : (own : Bool) (word : ℕ) → 1 ≤ firstUsed own word → HeadAt own word ⊎ ChainAt own word
+unfolding firstUsed room
+first-place own word used = go (own && ltb word 2147483648) (eqb (word % 32) 28) (ltb (word % 32) 28) refl refl used
+  where
+    go : (s head chain : Bool) → eqb (word % 32) 28 ≡ head → ltb (word % 32) 28 ≡ chain
+        → 1 ≤ cond (s && head) 16 (cond (s && chain) (word % 32) 0)
+        → ((word % 32 ≡ 28) × (cond (s && chain) (word % 32) 0 ≡ 0) × (cond (s && head) 16 (cond (s && chain) (word % 32) 0) ≡ 16))
+        ⊎ ((word % 32 < 28) × (cond (s && chain) (word % 32) 0 ≡ word % 32) × (cond (s && head) 16 (cond (s && chain) (word % 32) 0) ≡ word % 32))
+    go true true true e f some-byte = absurd (omega (arith, eqb-true (word % 32) 28 e, ltb-true (word % 32) 28 f))
+    go true true false e f some-byte = inl (eqb-true (word % 32) 28 e, refl, refl)
+    go true false true e f some-byte = inr (ltb-true (word % 32) 28 f, refl, refl)
+    go true false false e f some-byte = absurd (omega arith)
+    go false head chain e f some-byte = absurd (omega arith)
+
+-- two words with the same room and the same first byte used have the same kind where a byte before them is free
+pub first-kind : (own own′ : Bool) (word word′ : ℕ) → room own word ≡ room own′ word′ → firstUsed own word ≡ firstUsed own′ word′
+    → 1 ≤ firstUsed own word → word % 32 ≡ word′ % 32
+first-kind own own′ word word′ rooms firsts used =
+    ⊎-elim
+    (λ head. ⊎-elim (λ head′. omega (arith, head .0, head′ .0)) (λ chain′. absurd (omega (arith, head .1, head .2, chain′ .1, chain′ .2))) there)
+    (λ chain. ⊎-elim (λ head′. absurd (omega (arith, chain .1, chain .2, head′ .1, head′ .2))) (λ chain′. omega (arith, chain .2, chain′ .2)) there)
+    (first-place own word used)
+  where
+    there : HeadAt own′ word′ ⊎ ChainAt own′ word′
+    there = first-place own′ word′ (omega arith)
+
 -- a word whose cell this call did not allocate: nothing is written before it
 pub unowned-consistent : (layout : Layout) (number : ℕ → ℕ) (word : ℕ) (cells : List (List ℕ)) → word < 4294967296
     → Consistent layout number (unowned word cells)
 unowned-consistent layout number word cells small =
-    record { small = small; in-newest = subst (λ k. InNewest layout number k word cells) (sym (room-unowned word)) tt }
-
--- the room of a node of another kind than a chain in a cell just allocated
-pub allocate-room : (number : ℕ → ℕ) (kind : ℕ) (bytes : List ℕ) (cells : List (List ℕ)) → 28 ≤ kind → kind < 32
-    → roomOf (allocate number kind bytes cells) ≡ 0
-unfolding allocate
-allocate-room number kind bytes cells other is = room-other (number (length cells)) kind other is
+    record { small = small; in-newest = subst (λ k. InNewest layout number k word cells) (sym (first-unowned word)) tt }
 
 -- the first byte used of a prefix or sparse in a cell just allocated
 allocate-first : (number : ℕ → ℕ) (kind : ℕ) (bytes : List ℕ) (cells : List (List ℕ)) → 28 < kind → kind < 32
@@ -114,11 +151,6 @@ unfolding allocate
 allocate-numbers number c kind bytes cells = numbers-more number c bytes cells
 
 module _ (layout : Layout) (small : layout .cells ≤ cellLimit) (number : ℕ → ℕ) (cells : List (List ℕ)) (free : usable layout (number (length cells)) ≡ true) where
-  -- that of a chain
-  pub allocate-room-chain : (kind : ℕ) (bytes : List ℕ) → kind < 28 → roomOf (allocate number kind bytes cells) ≡ kind
-  unfolding allocate
-  allocate-room-chain kind bytes chain = room-chain (number (length cells)) kind (omega (arith, usable-inside layout (number (length cells)) free)) chain
-
   -- the first byte used of a chain just allocated, and of a split head
   pub allocate-first-chain : (kind : ℕ) (bytes : List ℕ) → kind < 28 → firstUsedOf (allocate number kind bytes cells) ≡ kind
   unfolding allocate
@@ -139,27 +171,24 @@ module _ (layout : Layout) (small : layout .cells ≤ cellLimit) (number : ℕ �
   unfolding allocate
   allocate-small kind bytes is = omega (arith, usable-inside layout (number (length cells)) free)
 
-  allocate-in-newest : (kind : ℕ) (bytes : List ℕ) → kind < 28 → length bytes ≡ 32
-      → InNewest layout number kind (allocate number kind bytes cells .word) (allocate number kind bytes cells .cells)
-  unfolding allocate
-  allocate-in-newest zero bytes chain whole = tt
-  allocate-in-newest (suc kind) bytes chain whole = (refl, omega arith, whole)
-
-  consistent-as : (kind k : ℕ) (bytes : List ℕ) → kind < 32 → roomOf (allocate number kind bytes cells) ≡ k
+  allocate-in-newest : (kind k : ℕ) (bytes : List ℕ) → kind < 32 → length bytes ≡ 32
       → InNewest layout number k (allocate number kind bytes cells .word) (allocate number kind bytes cells .cells)
-      → Consistent layout number (allocate number kind bytes cells)
-  consistent-as kind k bytes is has in-newest =
+  unfolding allocate
+  allocate-in-newest kind zero bytes is whole = tt
+  allocate-in-newest kind (suc k) bytes is whole = (cell-of-made (number (length cells)) kind is, whole)
+
+  -- a sparse cell or a prefix uses all its bytes; before any other node there may be free ones
+  pub allocate-consistent : (kind : ℕ) (bytes : List ℕ) → 28 < kind → kind < 32 → Consistent layout number (allocate number kind bytes cells)
+  allocate-consistent kind bytes other is =
       record {
         small = allocate-small kind bytes is;
-        in-newest = subst (λ j. InNewest layout number j (allocate number kind bytes cells .word) (allocate number kind bytes cells .cells)) (sym has) in-newest;
+        in-newest = subst (λ k. InNewest layout number k (allocate number kind bytes cells .word) (allocate number kind bytes cells .cells))
+            (sym (allocate-first number kind bytes cells other is)) tt;
       }
 
-  pub allocate-consistent : (kind : ℕ) (bytes : List ℕ) → 28 ≤ kind → kind < 32 → Consistent layout number (allocate number kind bytes cells)
-  allocate-consistent kind bytes other is = consistent-as kind 0 bytes is (allocate-room number kind bytes cells other is) tt
-
-  pub allocate-consistent-chain : (kind : ℕ) (bytes : List ℕ) → kind < 28 → length bytes ≡ 32 → Consistent layout number (allocate number kind bytes cells)
-  allocate-consistent-chain kind bytes chain whole =
-      consistent-as kind kind bytes (omega arith) (allocate-room-chain kind bytes chain) (allocate-in-newest kind bytes chain whole)
+  pub allocate-consistent-whole : (kind : ℕ) (bytes : List ℕ) → kind < 32 → length bytes ≡ 32 → Consistent layout number (allocate number kind bytes cells)
+  allocate-consistent-whole kind bytes is whole =
+      record { small = allocate-small kind bytes is; in-newest = allocate-in-newest kind (firstUsedOf (allocate number kind bytes cells)) bytes is whole }
 
 module _ (layout : Layout) (number : ℕ → ℕ) (m′ : Memory) where
   -- where an allocated cell stands its number is usable, and the cells allocated before stand too

@@ -1,26 +1,23 @@
 -- A node's value set aside, and put back after a child is set.
 use mathlib.Core.Path.{_≡_, refl, sym, ap, _∙_, subst}
 use mathlib.Core.Logic.{_≢_}
-use mathlib.Core.Bool.{true}
-use mathlib.Core.List.{List}
 use mathlib.Core.Option.{Option, none, some}
 use Prim.Native.Nat.{ℕ, _≤_, _<_}
 use native.Mathlib.Omega.{arith}
-use lib.Dec.{ltb, eqb}
-use lib.ListN.{length, getD}
-use borrow.Author.Tests.{ltb-true}
+use lib.ListN.{length}
 use Rattle.cells.specs.Bytes.{IsBytes}
 use Rattle.cells.specs.Memory.{Memory}
 use Rattle.cells.specs.Occurrences.{occurrences}
-use Rattle.cells.proofs.Choice.{never, both-left}
-use Rattle.cells.proofs.Occurrences.{occurrences-later, Agree, agree-less}
+use Rattle.cells.proofs.Choice.{never}
+use Rattle.cells.proofs.Occurrences.{occurrences-append, Agree, agree-less}
 use Rattle.nodes.specs.Layout.{Layout, cellLimit}
 use Rattle.nodes.specs.Pointer.{Pointer, pointer}
 use Rattle.nodes.specs.Pointer.Pointer.{nothing, leaf, chain, split, sparse, prefix, invalid}
-use Rattle.nodes.specs.Prefix.{prefixValue, prefixLink, validPrefix}
+use Rattle.nodes.specs.Prefix.{prefixValue, prefixLink, prefixCells}
 use Rattle.nodes.specs.Node.{Node, childless, readAt, read}
 use Rattle.nodes.specs.Value.{pointerValue}
 use Rattle.nodes.proofs.Pointers.{leaf-value}
+use Rattle.nodes.proofs.Prefixes.{prefix-clear}
 use Rattle.nodes.proofs.Frame.{prefix-cut, read-is, read-zero}
 use Rattle.nodes.proofs.Read.{plain-value, read-plain}
 use Rattle.updates.specs.Built.{Built}
@@ -29,11 +26,6 @@ use Rattle.updates.specs.Build.{wordAside, childOf, nodeCopy}
 use Rattle.updates.proofs.Claims.{BuildStands, Consistent, Placed, NodeChanged}
 use Rattle.updates.proofs.PrefixNodes.Prefixes.{putBack-changed, putBack-below-stands}
 use Rattle.updates.proofs.SetChild.{set-placed, set-below-stands}
-
--- a valid prefix has a value with its top bit clear
-prefix-clear : (layout : Layout) (s : List ℕ) → validPrefix layout s ≡ true → prefixValue s < 2147483648
-unfolding validPrefix
-prefix-clear layout s valid = ltb-true (prefixValue s) 2147483648 (both-left (ltb (prefixValue s) 2147483648) (eqb (getD s 4 0) 255) valid)
 
 -- the child of a node that is read
 pub child-of : (o : Option Node) (X : Node) (x : ℕ) → o ≡ some X → childOf o x ≡ X .child x
@@ -92,7 +84,7 @@ module _ (layout : Layout) (m : Memory) where
         value = ap (λ (Z : Node). Z .value) (sym (q .3));
         clear = λ u e. let same : prefixValue (m c) ≡ u = cc in subst (λ z. z < 2147483648) same (prefix-clear layout (m c) (q .1));
         child = λ y. ap (λ (Z : Node). Z .child y) (sym (q .3));
-        cells = λ z. omega (arith, occurrences-later z c (q .0 .cells), ap (λ (Z : Node). occurrences z (Z .cells)) (q .3));
+        cells = λ z. omega (arith, occurrences-append z (prefixCells c (m c)) (q .0 .cells), ap (λ (Z : Node). occurrences z (Z .cells)) (q .3));
       }
   aside-of w invalid X named node at = never at
 

@@ -9,11 +9,11 @@ use Rattle.cells.specs.Bytes.{IsBytes}
 use Rattle.cells.specs.Memory.{Memory}
 use Rattle.cells.specs.Occurrences.{occurrences}
 use Rattle.cells.proofs.Choice.{never}
-use Rattle.cells.proofs.Occurrences.{occurrences-none, occurrences-append, occurrences-later, Agree, agree-less}
+use Rattle.cells.proofs.Occurrences.{occurrences-none, occurrences-append, Agree, agree-less}
 use Rattle.nodes.specs.Layout.{Layout, cellLimit}
 use Rattle.nodes.specs.Pointer.{Pointer, pointer, leafWord}
 use Rattle.nodes.specs.Pointer.Pointer.{nothing, leaf, chain, split, sparse, prefix, invalid}
-use Rattle.nodes.specs.Prefix.{prefixLink}
+use Rattle.nodes.specs.Prefix.{prefixLink, prefixCells}
 use Rattle.nodes.specs.Node.{Node, childless, prefixed, plain, readAt, read}
 use Rattle.nodes.proofs.Pointers.{names, usable-inside, leaf-made}
 use Rattle.nodes.proofs.Gather.{gather-nil, under-zero}
@@ -138,7 +138,7 @@ module _ (layout : Layout) (small : layout .cells ≤ cellLimit) (number : ℕ �
         let l = link-tree layout m d w c cs named found in
         let linked : read layout m (prefixLink c (m c)) ≡ some (r .0) = read-plain layout m (prefixLink c (m c)) (r .0) (r .2) in
         prefix-ends (prefixLink c (m c)) (l .0) (r .0) (l .1)
-        (λ z. omega (arith, occurrences-later z c (l .0), ap (occurrences z) (l .2))) (r .2)
+        (λ z. omega (arith, occurrences-append z (prefixCells c (m c)) (l .0), ap (occurrences z) (l .2))) (r .2)
         (λ y k near.
         lookup-cons layout m (prefixLink c (m c)) y k (r .0) near linked ∙ ap (λ (N : Node). lookup layout m (N .child y) k) (r .3)
         ∙ sym (lookup-cons layout m w y k (q .0) near (q .2))) standing

@@ -22,7 +22,7 @@ use Rattle.nodes.proofs.Frame.{below-split, end-join, mid-join, head-is, split-
 use Rattle.updates.specs.Built.{Built, allocate}
 use Rattle.updates.specs.SetChild.{withChild}
 use Rattle.updates.proofs.Claims.{from-at, CellStands, CellsStand, BuildStands, numbers, Placed}
-use Rattle.updates.proofs.ChainNodes.Rooms.{allocate-numbers, allocate-first-head, allocate-names, allocate-consistent, allocate-free, allocate-stands}
+use Rattle.updates.proofs.ChainNodes.Rooms.{allocate-numbers, allocate-first-head, allocate-names, allocate-consistent-whole, allocate-free, allocate-stands}
 
 -- the word of kind 1C to a usable cell
 module _ (layout : Layout) (c : ℕ) (free : usable layout c ≡ true) where
@@ -92,13 +92,13 @@ module _ (layout : Layout) (small : layout .cells ≤ cellLimit) (number : ℕ �
     head-child y near = ap (λ (w : ℕ). wordBelow m′ (wordBelow m′ w (y / 8 % 8)) (y % 8)) (head-same (y / 64) (omega arith))
 
     -- its children are those that its words give, and it visits its own cell and those below
-    pub head-placed : (Y : Node) (x : ℕ) (b : Built) (below : List ℕ) → validHead bytes ≡ true
+    pub head-placed : length bytes ≡ 32 → (Y : Node) (x : ℕ) (b : Built) (below : List ℕ) → validHead bytes ≡ true
         → gather (λ i. under (midCells layout m′) (headWord bytes i)) 4 0 ≡ some below
         → ((y : ℕ) → y < 256 → wordBelow m′ (wordBelow m′ (headWord bytes (y / 64)) (y / 8 % 8)) (y % 8) ≡ withChild (Y .child) x (b .word) y)
         → ((c : ℕ) → occurrences c below + occurrences c (numbers number (b .cells)) ≤ occurrences c (Y .cells) + occurrences c (numbers number cells))
         → ((c : ℕ) → occurrences c (numbers number cells) ≤ occurrences c below + occurrences c (numbers number (b .cells)))
         → Placed layout number m′ Y x b (allocate number 0x1C bytes cells)
-    head-placed Y x b below valid found children most least =
+    head-placed whole Y x b below valid found children most least =
         record {
           node = splitNode m′ (number (length cells)) below;
           reads = head-reads below valid found;
@@ -106,5 +106,5 @@ module _ (layout : Layout) (small : layout .cells ≤ cellLimit) (number : ℕ �
           child = λ y character. head-child y character ∙ children y character;
           most = λ c. omega (arith, occurrences-append c (number (length cells) ∷ []) below, allocate-numbers number c 0x1C bytes cells, most c);
           least = λ c. omega (arith, occurrences-append c (number (length cells) ∷ []) below, allocate-numbers number c 0x1C bytes cells, least c);
-          consistent = allocate-consistent layout small number cells head-free 0x1C bytes (omega arith) (omega arith);
+          consistent = allocate-consistent-whole layout small number cells head-free 0x1C bytes (omega arith) whole;
         }

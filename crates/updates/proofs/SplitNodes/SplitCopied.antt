@@ -28,7 +28,7 @@ use Rattle.updates.specs.Built.{Built, allocate}
 use Rattle.updates.specs.SplitBuild.{splitCopied}
 use Rattle.updates.specs.SetChild.{withChild}
 use Rattle.updates.proofs.Claims.{CellStands, CellsStand, BuildStands, cells-stand-from, numbers-more, Consistent, Placed}
-use Rattle.staging.proofs.CellBytes.{headCopy-cell}
+use Rattle.staging.proofs.CellBytes.{word-cell, headCopy-cell}
 use Rattle.nodes.proofs.Steps.WordRows.{some-word-is}
 use Rattle.staging.proofs.BranchWords.{branch-set, head-set, headCopy-word, branchCopy-length, branchCopy-word, bits-same}
 use Rattle.updates.proofs.SplitNodes.SplitCells.{made-nonzero, made-bounded, made-below, made-end, made-mid, allocate-older, head-placed}
@@ -227,7 +227,7 @@ module _ (layout : Layout) (small : layout .cells ≤ cellLimit) (number : ℕ �
         let H =
         gather-replaced m m′ (midCells layout m) (midCells layout m′) (mid-frame layout m m′) (headWord (m c)) (headWord newHead) 4 (x / 64) (wordTo d 0x1C)
         (at .0) (d ∷ M .0) cs (omega arith) d-other (at .1) (M .1) heads found (agree-tail m m′ c cs alike) in
-        head-placed layout small number m′ newHead withMid standing Y x b (H .0)
+        head-placed layout small number m′ newHead withMid standing (word-cell _ _ _ (headCopy-cell (m c)) .size) Y x b (H .0)
         (some-replaced (headWord (m c)) (headWord newHead) 4 (x / 64) (wordTo d 0x1C) (omega arith) d-other heads) (H .1)
         (λ y near.
         copied-children layout m m′ c cs (p .2) alike x (b .word) (wordTo d 0x1C) (wordTo e 0x1C) (headWord newHead) heads

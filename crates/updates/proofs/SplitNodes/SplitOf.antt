@@ -20,6 +20,7 @@ use Rattle.updates.specs.SplitBuild.{Row, rows, endRow, midRow, splitOf}
 use Rattle.updates.specs.SetChild.{withChild}
 use Rattle.updates.proofs.Claims.{CellsStand, BuildStands, cells-stand-from, Consistent, Placed}
 use Rattle.nodes.proofs.Steps.WordRows.{some-word-is}
+use Rattle.staging.proofs.CellBytes.{blank-cell, words-cell}
 use Rattle.staging.proofs.BranchWords.{cond-bounded, head-words, bits-join}
 use Rattle.updates.proofs.SplitNodes.SplitCells.{allocate-older, head-placed, made-below, made-end, made-mid}
 use Rattle.updates.proofs.SplitNodes.SplitRows.{WordMade, branch-below-stands, rows-below-stands, rows-made, branch-made}
@@ -114,7 +115,7 @@ module _ (layout : Layout) (small : layout .cells ≤ cellLimit) (number : ℕ �
       λ e. other
       (sym (words y character) ∙ ap (λ v. wordBelow m′ (wordBelow m′ v (y / 8 % 8)) (y % 8)) e
       ∙ ap (λ v. wordBelow m′ v (y % 8)) (below-zero m′ (y / 8 % 8)) ∙ below-zero m′ (y % 8)) in
-      head-placed layout small number m′ bytes (mids .cells) standing Y x b (W .cells)
+      head-placed layout small number m′ bytes (mids .cells) standing (words-cell _ 4 4 blank blank-cell .size) Y x b (W .cells)
       (some-word-is (headWord bytes) 4 0 (y / 64) (omega arith) (omega arith) some-mid)
       (gather-same (λ i. under (midCells layout m′) (mids .words i)) (λ i. under (midCells layout m′) (headWord bytes i)) 4 0 (W .cells)
       (λ i a low high e _. ap (under (midCells layout m′)) (same i (omega arith)) ∙ e) (W .finds))

@@ -1,6 +1,6 @@
 -- One character of the build: the child of a node, its word without its value, and its child set.
 use mathlib.Core.Path.{_≡_, refl, sym, ap, _∙_, subst}
-use mathlib.Core.List.{List, [], _∷_}
+use mathlib.Core.List.{[], _∷_}
 use mathlib.Core.Option.{some}
 use Prim.Native.Nat.{ℕ, _<_}
 use types.Run.{hit, miss}
@@ -55,11 +55,10 @@ module _ (layout : Layout) (m : Memory) (word : ℕ) (p : CodedPointer) (coded :
   unfolding wordAside
   aside-leaf v case = ap (λ (q : CodedPointer). wordAside layout m (pointerOf q) word) (sym case) ∙ aside-at
 
-  pub aside-prefix : (c : ℕ) (bytes : List ℕ) (link : ℕ) → p ≡ Prefix c → bytes ≡ m c → link ≡ prefixLink c bytes
-      → link ≡ wordAside layout m (pointer layout word) word
+  pub aside-prefix : (c link : ℕ) → p ≡ Prefix c → link ≡ prefixLink c (m c) → link ≡ wordAside layout m (pointer layout word) word
   unfolding wordAside
-  aside-prefix c bytes link case read-as is =
-      is ∙ ap (prefixLink c) read-as ∙ ap (λ (q : CodedPointer). wordAside layout m (pointerOf q) word) (sym case) ∙ aside-at
+  aside-prefix c link case is =
+      is ∙ ap (λ (q : CodedPointer). wordAside layout m (pointerOf q) word) (sym case) ∙ aside-at
 
   aside-rest : (q : CodedPointer) → Among (0 ∷ 2 ∷ 3 ∷ 4 ∷ 6 ∷ []) q → word ≡ wordAside layout m (pointerOf q) word
   unfolding wordAside

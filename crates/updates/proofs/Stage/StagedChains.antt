@@ -17,8 +17,8 @@ use Rattle.staging.specs.Code.Stage.{stageCells, staged, Put, allocated}
 use Rattle.updates.specs.Code.Staged.{builtOf, Fitting}
 use Rattle.staging.specs.declared.stage.BuildState.{BuildState}
 use Rattle.updates.proofs.ChainNodes.Rooms.{room-most}
-use Rattle.staging.proofs.StageLaws.{staged-length, put-next}
-use Rattle.updates.proofs.Stage.StagedCell.{put-allocate}
+use Rattle.staging.proofs.StageLaws.{staged-length}
+use Rattle.updates.proofs.Stage.StagedCell.{put-allocate, put-again}
 
 -- the room before a node, by its tests
 module _ (own : Bool) (word : ℕ) where
@@ -92,10 +92,7 @@ module _ (number : ℕ → ℕ) (x : ℕ) (below : BuildState) (stage : List ℕ
     over-longer-is n word after some behind put made listed =
         let place : room (below .own) (below .word) ≡ suc (r - 1) = omega arith in
         let k : below .count ≡ suc (below .count - 1) = omega arith in
-        let cells : staged after (below .count) ≡ set (memoryOf stage (below .count - 1)) (r - 1) x ∷ staged stage (below .count - 1) =
-        ap (staged after) k ∙ put-next put in
-        let named : word ≡ wordTo (number (below .count - 1)) (r - 1) = made ∙ ap (λ (m : ℕ). wordTo m (r - 1)) listed in
-        (λ i. record { word = named i; own = true; cells = cells i }) ∙ sym (over-longer (r - 1) (below .count - 1) place k)
+        put-again put number (r - 1) n word (below .count) k made listed ∙ sym (over-longer (r - 1) (below .count - 1) place k)
 
   pub over-first-is : (made : BuildState) (after : List ℕ) → below .count ≡ 0
       → builtOf made after ≡ allocate number 27 (chainCell x (below .word)) (staged stage (below .count)) → builtOf made after ≡ chainOver number x (builtOf below stage)

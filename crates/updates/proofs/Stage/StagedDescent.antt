@@ -1,12 +1,13 @@
 -- The build down by a key and up again: what it asks of the tree, that it finds room, and what its parts make.
 use mathlib.Core.Path.{_≡_, refl, sym, ap, _∙_, subst}
-use mathlib.Core.List.{List, _∷_}
+use mathlib.Core.Bool.{Bool, true, false, cond}
+use mathlib.Core.List.{List, [], _∷_}
 use mathlib.Core.Option.{Option, none, some}
 use native.Mathlib.Decide.{ℕ-discrete}
 use native.Mathlib.Omega.{arith}
 use native.Mathlib.Nat.{sub-zero}
 use native.Mathlib.Numerals.{add-one}
-use Prim.Native.Nat.{ℕ, zero, suc, _+_, _-_, _*_, _≤_, _<_}
+use Prim.Native.Nat.{ℕ, suc, _+_, _-_, _*_, _≤_, _<_}
 use lib.ListN.{length, getD, set, drop, length-drop, drop-of-length-le}
 use lib.Seq.{drop-cons, getD-set-same, getD-set-other}
 use Rattle.cells.specs.Memory.{Memory}
@@ -16,7 +17,9 @@ use Rattle.nodes.specs.Node.{Node, read}
 use Rattle.nodes.specs.Value.{pointerValue, valueOf}
 use Rattle.trees.specs.Tree.{tree}
 use Rattle.trees.proofs.Tree.{tree-cut, tree-below}
+use Rattle.staging.specs.NewCells.{prefixCell}
 use Rattle.updates.specs.Built.{Built, allocate}
+use Rattle.updates.specs.PrefixOver.{embeds, prefixBefore, prefixOver}
 use Rattle.updates.specs.SetChild.{setChild}
 use Rattle.updates.specs.Build.{wordAside, putBack, childOf, nodeCopy, pathCopy}
 use Rattle.trees.specs.Code.Coded.{Grown}
@@ -93,12 +96,21 @@ module _ (layout : Layout) (m : Memory) (word : ℕ) (key : List ℕ) where
       let all : i ≡ length key = omega (arith, most, least) in
       (down .1 ∙ ap (reached layout m word key) all, subst (λ (n : ℕ). Path layout m word key n array) all (down .0))
 
-module _ (layout : Layout) (number : ℕ → ℕ) (m : Memory) where
-  putBack-grows : (value : Option ℕ) (b : Built) → length (b .cells) ≤ length (putBack layout number value b .cells)
-  unfolding putBack allocate
-  putBack-grows none b = omega arith
-  putBack-grows (some v) b = omega arith
+-- a value put back takes no cell away
+module _ (layout : Layout) (number : ℕ → ℕ) where
+  over-grows : (embedding : Bool) (value word : ℕ) (cells : List (List ℕ))
+      → length cells ≤ length (cond embedding (prefixBefore number value word cells) (allocate number 31 (prefixCell value word) cells) .cells)
+  unfolding prefixBefore allocate
+  over-grows true value word [] = omega arith
+  over-grows true value word (newest ∷ rest) = omega arith
+  over-grows false value word cells = omega arith
 
+  pub putBack-grows : (value : Option ℕ) (b : Built) → length (b .cells) ≤ length (putBack layout number value b .cells)
+  unfolding putBack prefixOver
+  putBack-grows none b = omega arith
+  putBack-grows (some v) b = over-grows (embeds layout (b .own) (b .word)) v (b .word) (b .cells)
+
+module _ (layout : Layout) (number : ℕ → ℕ) (m : Memory) where
   -- one node, with what the parts are
   module _ (word x : ℕ) (below : Built) (bare : ℕ) (bare-is : bare ≡ wordAside layout m (pointer layout word) word) where
     set-is : setChild layout number m (pointer layout bare) x below ≡ setChild layout number m (pointer layout (wordAside layout m (pointer layout word) word)) x below
@@ -107,7 +119,7 @@ module _ (layout : Layout) (number : ℕ → ℕ) (m : Memory) where
     pub set-fits : Fitting (nodeCopy layout number m word x below) → Fitting (setChild layout number m (pointer layout bare) x below)
     set-fits fits =
         subst Fitting (sym set-is)
-        (omega (arith, fits, putBack-grows (pointerValue m (pointer layout word)) (setChild layout number m (pointer layout (wordAside layout m (pointer layout word) word)) x below)))
+        (omega (arith, fits, putBack-grows layout number (pointerValue m (pointer layout word)) (setChild layout number m (pointer layout (wordAside layout m (pointer layout word) word)) x below)))
 
     pub copy-is : (placed : Built) (held : Option ℕ) → placed ≡ setChild layout number m (pointer layout bare) x below → held ≡ valueOf layout m word
         → putBack layout number held placed ≡ nodeCopy layout number m word x below

@@ -1,7 +1,7 @@
 -- The key's end and a value put back, in the stage, by the case of the code's pointer and value.
-use mathlib.Core.Path.{_≡_, refl, sym, ap, _∙_, subst}
+use mathlib.Core.Path.{_≡_, refl, sym, ap, _∙_}
 use mathlib.Core.List.{List, [], _∷_}
-use Prim.Native.Nat.{ℕ, _<_}
+use Prim.Native.Nat.{ℕ}
 use types.Run.{miss}
 use Rattle.cells.specs.Memory.{Memory}
 use Rattle.nodes.specs.Layout.{Layout}
@@ -14,11 +14,11 @@ use Rattle.nodes.specs.declared.value.Value.the-variants.{Held, Empty}
 use Rattle.nodes.proofs.Steps.Rest.{Among}
 use Rattle.staging.specs.NewCells.{prefixCell}
 use Rattle.updates.specs.Built.{Built, unowned, allocate}
+use Rattle.updates.specs.PrefixOver.{prefixOver}
 use Rattle.updates.specs.Build.{putBack, valueAt}
-use Rattle.staging.specs.Code.Stage.{stageCells, staged}
-use Rattle.updates.specs.Code.Staged.{builtOf, leafMade, Fitting}
+use Rattle.staging.specs.Code.Stage.{staged}
+use Rattle.updates.specs.Code.Staged.{builtOf, leafMade}
 use Rattle.staging.specs.declared.stage.BuildState.{BuildState}
-use Rattle.updates.proofs.Stage.StagedChains.{allocate-fits}
 use Rattle.nodes.specs.declared.pointer.Pointer.{Pointer as CodedPointer}
 
 -- no cell stands in an empty stage
@@ -51,11 +51,11 @@ module _ (layout : Layout) (number : ℕ → ℕ) (m : Memory) (value word : ℕ
   end-invalid made stage case is =
       leaf-built value made stage is ∙ ap (λ (q : CodedPointer). valueAt layout number m value (pointerOf q) word) (sym case) ∙ at-pointer
 
-  pub end-prefix : (c link : ℕ) (bytes : List ℕ) (all : Built) (stage : List ℕ) → p ≡ Prefix c → bytes ≡ m c → link ≡ prefixLink c bytes
+  pub end-prefix : (c link : ℕ) (all : Built) (stage : List ℕ) → p ≡ Prefix c → link ≡ prefixLink c (m c)
       → all ≡ allocate number 31 (prefixCell value link) (staged stage 0) → all ≡ valueAt layout number m value (pointer layout word) word
   unfolding valueAt
-  end-prefix c link bytes all stage case read is made =
-      made ∙ ap (λ (w : ℕ). allocate number 31 (prefixCell value w) (staged stage 0)) (is ∙ ap (prefixLink c) read)
+  end-prefix c link all stage case is made =
+      made ∙ ap (λ (w : ℕ). allocate number 31 (prefixCell value w) (staged stage 0)) is
       ∙ ap (allocate number 31 (prefixCell value (prefixLink c (m c)))) (staged-none stage)
       ∙ ap (λ (q : CodedPointer). valueAt layout number m value (pointerOf q) word) (sym case) ∙ at-pointer
 
@@ -75,17 +75,9 @@ module _ (layout : Layout) (number : ℕ → ℕ) (m : Memory) (value word : ℕ
 
 -- a value put back, or none
 module _ (layout : Layout) (number : ℕ → ℕ) (held : Value) (built : BuildState) (stage : List ℕ) where
-  back-value : (v : ℕ) → held ≡ Held v
-      → putBack layout number (heldOf held) (builtOf built stage) ≡ allocate number 31 (prefixCell v (built .word)) (staged stage (built .count))
+  pub back-held : (v : ℕ) → held ≡ Held v → putBack layout number (heldOf held) (builtOf built stage) ≡ prefixOver layout number v (builtOf built stage)
   unfolding putBack
-  back-value v case = ap (λ (h : Value). putBack layout number (heldOf h) (builtOf built stage)) case
-
-  pub back-held : (v : ℕ) (all : Built) → held ≡ Held v → all ≡ allocate number 31 (prefixCell v (built .word)) (staged stage (built .count))
-      → all ≡ putBack layout number (heldOf held) (builtOf built stage)
-  back-held v all case is = is ∙ sym (back-value v case)
-
-  pub back-fits : (v : ℕ) → held ≡ Held v → Fitting (putBack layout number (heldOf held) (builtOf built stage)) → built .count < stageCells
-  back-fits v case fits = allocate-fits number 31 _ stage (built .count) (subst Fitting (back-value v case) fits)
+  back-held v case = ap (λ (h : Value). putBack layout number (heldOf h) (builtOf built stage)) case
 
   pub back-empty : held ≡ Empty → builtOf built stage ≡ putBack layout number (heldOf held) (builtOf built stage)
   unfolding putBack

@@ -1,77 +1,55 @@
 -- Clean cells of a node with a child set, by its kind.
 use mathlib.Core.Path.{_≡_, refl, sym, ap, _∙_, subst}
 use mathlib.Core.Logic.{inr}
-use mathlib.Core.Bool.{Bool, true, false, _&&_, cond}
+use mathlib.Core.Bool.{Bool, true, false, cond}
 use mathlib.Core.List.{List, [], _∷_}
 use native.Mathlib.Omega.{arith}
-use Prim.Native.Nat.{ℕ, zero, suc, _+_, _*_, _%_, _≤_, _<_}
+use Prim.Native.Nat.{ℕ, zero, suc, _+_, _*_, _≤_, _<_}
 use lib.Dec.{ltb, eqb}
-use lib.ListN.{length, getD, set}
+use lib.ListN.{length, getD, set, length-set}
 use lib.Seq.{getD-set-other}
 use borrow.Author.Tests.{ltb-true, eq-eqb}
 use Rattle.cells.specs.Word.{wordAt}
 use Rattle.cells.proofs.Words.{word-agree, byte-other}
-use Rattle.cells.proofs.Pointers.{kind-of-made}
 use Rattle.nodes.specs.Pointer.{wordTo}
 use Rattle.nodes.specs.Chain.{chainCharacter, chainChild}
 use Rattle.nodes.specs.Sparse.{sparseDigits, sparseCount, validSparse, positionOf, sparseChild}
 use Rattle.nodes.proofs.SparseNodes.SparseChildren.{Sparse, sparse-parts}
 use Rattle.order_words.proofs.Valid.{at-most-six}
-use Rattle.staging.specs.NewCells.{chainCell, prefixCell, pairCell, sparsePair, sparseCopy, replacedCell, appendedCell}
-use Rattle.staging.proofs.CellZeros.{chain-zero, prefix-zero, pair-zero, copy-zero}
+use Rattle.staging.specs.NewCells.{chainCell, pairCell, sparsePair, sparseCopy, replacedCell, appendedCell}
+use Rattle.staging.proofs.CellZeros.{chain-zero, pair-zero, copy-zero}
 use Rattle.updates.specs.Built.{Built, allocate, room, roomOf, characterBefore, chainWith, chainOver}
 use Rattle.updates.specs.SetChild.{withChild, chainSet, sparseSet}
 use Rattle.updates.specs.SplitBuild.{splitOf}
-use Rattle.updates.specs.Zeros.{Use, kindOf, part, Holds, Clean, Leads, EachClean, AllClean}
-use Rattle.updates.specs.Zeros.Use.{chainFrom, sparseUse, headUse, midUse, endUse, prefixUse}
+use Rattle.updates.specs.Zeros.{Use, kindOf, Holds, Clean, Leads, EachClean, AllClean}
+use Rattle.updates.specs.Zeros.Use.{chainFrom, sparseUse}
 use Rattle.updates.proofs.Count.{Numbering}
-use Rattle.updates.proofs.ChainNodes.Chains.{chain-cell-end}
-use Rattle.updates.proofs.PrefixNodes.Prefixes.{prefix-cell-link}
+use Rattle.updates.proofs.ChainNodes.Rooms.{room-place}
+use Rattle.updates.proofs.ChainNodes.Chains.{chain-cell-length, chain-cell-end}
 use Rattle.updates.proofs.SparseNodes.Pairs.{pair-digits, pair-first, pair-second}
 use Rattle.updates.proofs.SparseNodes.SparseCells.{replaced-digits, word-there, appended-byte, appended-digits, appended-count, word-new}
-use Rattle.updates.proofs.Zeros.Known.{chain-clean, sparse-clean, prefix-clean, kind-small, known-else, clean-each, CleanBuilt, allocate-each, over-clean}
+use Rattle.updates.proofs.Zeros.Uses.{one-use}
+use Rattle.updates.proofs.Zeros.Known.{chain-clean, sparse-clean, known-else, clean-each, CleanBuilt, newest-kind, allocate-each, over-clean}
 use Rattle.updates.proofs.Zeros.SplitZeros.{splitOf-clean}
-
--- where there is room before a word, it is that of a chain at this place
-room-place : (own : Bool) (word k : ℕ) → room own word ≡ suc k → (word % 32 ≡ suc k) × (suc k < 28)
-unfolding room
-room-place own word k has = go (own && ltb word 2147483648) (ltb (word % 32) 28) refl has
-  where
-    go : (s t : Bool) → ltb (word % 32) 28 ≡ t → cond (s && t) (word % 32) 0 ≡ suc k → (word % 32 ≡ suc k) × (suc k < 28)
-    go true true e is = (is, omega (arith, ltb-true (word % 32) 28 e, is))
-    go true false e is = absurd (omega (arith, is))
-    go false t e is = absurd (omega (arith, is))
-
--- a use whose kind is the place of a chain is that of the chain
-chain-use : (role : Use) (k : ℕ) → kindOf role ≡ k → k < 28 → role ≡ chainFrom k
-chain-use (chainFrom place) k is low = ap chainFrom is
-chain-use sparseUse k is low = absurd (omega arith)
-chain-use headUse k is low = absurd (omega arith)
-chain-use midUse k is low = absurd (omega arith)
-chain-use endUse k is low = absurd (omega arith)
-chain-use prefixUse k is low = absurd (omega arith)
-
--- a new prefix cell
-prefix-new : (value word : ℕ) → Clean prefixUse (prefixCell value word)
-prefix-new value word = prefix-clean (prefixCell value word) (λ i low high. prefix-zero value word i low high)
 
 module _ (number : ℕ → ℕ) (n : Numbering number) where
   -- a new chain cell
   chain-over : (x : ℕ) (b : Built) → CleanBuilt number n b → CleanBuilt number n (allocate number 27 (chainCell x (b .word)) (b .cells))
   chain-over x b built =
-      over-clean number n (chainFrom 27) (chainCell x (b .word)) b
+      over-clean number n (chainFrom 27) (chainCell x (b .word)) b (λ low. chain-cell-length x (b .word))
       (chain-clean 27 (chainCell x (b .word)) (omega arith) (λ i before. chain-zero x (b .word) i before)) refl refl (chain-cell-end x (b .word) (built .small)) built
 
   -- a character in the byte before a chain
-  longer-clean : (x k : ℕ) (role : Use) (newest : List ℕ) (older : List (List ℕ)) → role ≡ chainFrom (suc k) → suc k < 28 → Clean role newest
-      → EachClean number (Leads role newest) older → CleanBuilt number n (record { word = wordTo (number (length older)) k; own = true; cells = set newest k x ∷ older })
+  longer-clean : (x k : ℕ) (role : Use) (newest : List ℕ) (older : List (List ℕ)) → length newest ≡ 32 → role ≡ chainFrom (suc k) → suc k < 28
+      → Clean role newest → EachClean number (Leads role newest) older
+      → CleanBuilt number n (record { word = wordTo (number (length older)) k; own = true; cells = set newest k x ∷ older })
   unfolding allocate
-  longer-clean x k role newest older is low clean each =
+  longer-clean x k role newest older size is low clean each =
       let before : (i : ℕ) → i < suc k → getD newest i 0 ≡ 0 =
       λ i less. subst (λ (u : Use). Clean u newest) is clean .zeros i (omega arith) (λ h. omega (arith, h .0)) in
       let same : wordAt (set newest k x) 28 ≡ wordAt newest 28 =
       word-agree (set newest k x) newest 28 28 (λ r near. getD-set-other newest k (28 + r) x 0 (omega arith)) in
-      allocate-each number n (chainFrom k) (set newest k x) older
+      allocate-each number n (chainFrom k) (set newest k x) older (λ kind. length-set newest k x ∙ size)
       (chain-clean k (set newest k x) (omega arith) (λ i less. getD-set-other newest k i x 0 (omega arith) ∙ before i (omega arith))) refl
       (known-else number n (Leads (chainFrom (suc k)) newest) (Leads (chainFrom k) (set newest k x)) (λ to word some small h. (h .0, same ∙ h .1)) older
       (subst (λ (u : Use). EachClean number (Leads u newest) older) is each))
@@ -84,9 +62,9 @@ module _ (number : ℕ → ℕ) (n : Numbering number) where
   with-clean x (suc k) word own (newest ∷ older) has built =
       let place = room-place own word k has in
       let all : AllClean number word (newest ∷ older) = built .clean in
-      let kind : kindOf (all .0) ≡ suc k =
-      sym (kind-of-made (number (length older)) (kindOf (all .0)) (kind-small (all .0) (all .1 .proper))) ∙ ap (λ w. w % 32) (sym (all .3)) ∙ place .0 in
-      longer-clean x k (all .0) newest older (chain-use (all .0) (suc k) kind (place .1)) (place .1) (all .1) (all .4)
+      let kind : kindOf (all .0) ≡ suc k = newest-kind number n word newest older all ∙ place .0 in
+      longer-clean x k (all .0) newest older (built .whole (omega (arith, place .0, place .1)))
+      (one-use (all .0) (chainFrom (suc k)) newest (all .1 .proper) (place .1) (all .2) kind) (place .1) (all .1) (all .4)
 
   pub chainOver-clean : (x : ℕ) (b : Built) → CleanBuilt number n b → CleanBuilt number n (chainOver number x b)
   unfolding chainOver
@@ -95,7 +73,7 @@ module _ (number : ℕ → ℕ) (n : Numbering number) where
   -- a sparse cell of two
   pair-clean : (x y other : ℕ) (b : Built) → CleanBuilt number n b → CleanBuilt number n (allocate number 30 (sparsePair x (b .word) y other) (b .cells))
   pair-clean x y other b built =
-      over-clean number n sparseUse (sparsePair x (b .word) y other) b
+      over-clean number n sparseUse (sparsePair x (b .word) y other) b (λ low. absurd (omega arith))
       (sparse-clean (sparsePair x (b .word) y other) (λ i low high. pair-zero x (b .word) y other i (omega (arith, count)) high)) refl refl holds built
     where
       two : (t : Bool) → length (sparseDigits (cond t (pairCell x (b .word) y other) (pairCell y other x (b .word)))) ≡ 2
@@ -137,7 +115,7 @@ module _ (number : ℕ → ℕ) (n : Numbering number) where
     replaced-clean p inside =
         let within : p < 6 = omega (arith, six) in
         let count : sparseCount (replacedCell s p (b .word)) ≡ sparseCount s = ap length (replaced-digits s whole six p (b .word) within) in
-        over-clean number n sparseUse (replacedCell s p (b .word)) b
+        over-clean number n sparseUse (replacedCell s p (b .word)) b (λ low. absurd (omega arith))
         (sparse-clean (replacedCell s p (b .word)) (λ i low high. past-zero p (b .word) i within (omega (arith, count)) high)) refl refl
         (p, omega (arith, count), word-there s whole cell (b .word) (built .nonzero) (built .small) p inside p within refl) built
 
@@ -145,7 +123,7 @@ module _ (number : ℕ → ℕ) (n : Numbering number) where
     appended-clean less =
         let count : sparseCount (appendedCell s x (b .word)) ≡ suc (sparseCount s) =
         ap length (appended-digits s whole cell (b .word) (built .nonzero) (built .small) x less) ∙ appended-count s whole cell (b .word) (built .nonzero) (built .small) x less in
-        over-clean number n sparseUse (appendedCell s x (b .word)) b
+        over-clean number n sparseUse (appendedCell s x (b .word)) b (λ low. absurd (omega arith))
         (sparse-clean (appendedCell s x (b .word))
         (λ i low high.
         appended-byte s whole cell (b .word) (built .nonzero) (built .small) x less i high (omega (arith, count))
@@ -172,12 +150,3 @@ module _ (number : ℕ → ℕ) (n : Numbering number) where
             (cond (ltb (sparseCount s) 6) (allocate number 30 (appendedCell s x (b .word)) (b .cells)) (splitOf number (withChild (sparseChild s) x (b .word)) (b .cells))))
         go true e = replaced-clean (positionOf s (sparseCount s) 0 x) (ltb-true (positionOf s (sparseCount s) 0 x) (sparseCount s) e)
         go false e = more (ltb (sparseCount s) 6) refl
-
-  -- a prefix over a node
-  pub prefix-over : (value : ℕ) (b : Built) → CleanBuilt number n b → CleanBuilt number n (allocate number 31 (prefixCell value (b .word)) (b .cells))
-  prefix-over value b built =
-      over-clean number n prefixUse (prefixCell value (b .word)) b (prefix-new value (b .word)) refl refl (prefix-cell-link 0 value (b .word) (built .small)) built
-
-  -- a prefix of a word whose cell this call did not allocate
-  pub prefix-alone : (value word : ℕ) → CleanBuilt number n (allocate number 31 (prefixCell value word) [])
-  prefix-alone value word = allocate-each number n prefixUse (prefixCell value word) [] (prefix-new value word) refl tt

@@ -17,7 +17,7 @@ use Rattle.nodes.specs.Split.{headWord, branchWord, wordBelow}
 use Rattle.nodes.proofs.Steps.WordRows.{some-word-not}
 use Rattle.staging.specs.NewCells.{blank, branchCopy, headCopy, withWords}
 use Rattle.staging.proofs.BranchWords.{branch-words, head-words, bits-join, branchCopy-length}
-use Rattle.staging.proofs.CellBytes.{headCopy-cell}
+use Rattle.staging.proofs.CellBytes.{blank-cell, word-cell, words-cell, headCopy-cell}
 use Rattle.staging.proofs.CellZeros.{head-copy-zero, head-words-zero}
 use Rattle.cells.proofs.Words.{word-same}
 use Rattle.updates.specs.Built.{Built}
@@ -176,7 +176,8 @@ module _ (number : ℕ → ℕ) (n : Numbering number) where
     splitOf-clean cells each =
         let mids : Row = rows (midRow number child) 4 0 cells in
         let s : List ℕ = withWords (λ p. mids .words (p - 4)) 4 4 blank in
-        allocate-each number n headUse s (mids .cells) (head-clean s (head-words-zero (λ p. mids .words (p - 4)))) refl
+        allocate-each number n headUse s (mids .cells) (λ low. words-cell (λ p. mids .words (p - 4)) 4 4 blank blank-cell .size)
+        (head-clean s (head-words-zero (λ p. mids .words (p - 4)))) refl
         (known-else number n (Either (Either (LeftNone 0) (LeftMid 4)) (MadeIn midUse 0 4 (mids .words))) (Leads headUse s)
         (λ to word some small h.
         ⊎-elim (λ p. ⊎-elim (λ none. absurd none) (λ l. absurd (omega (arith, l .1))) p)
@@ -206,7 +207,9 @@ module _ (number : ℕ → ℕ) (n : Numbering number) where
       word-same (branchCopy m mid) (4 * (x / 8 % 8)) toEnd (omega (arith, branchCopy-length m mid (whole (mid / 32)))) (omega (arith, n .high (length (b .cells)))) in
       let in-head : headWord head (x / 64) ≡ toMid =
       word-same (headCopy (m c)) (0x10 + 4 * (x / 64)) toMid (omega (arith, headCopy-cell (m c) .size)) (omega (arith, n .high (length (newEnd ∷ b .cells)))) in
-      allocate-each number n headUse head (newMid ∷ newEnd ∷ b .cells) (head-clean head (λ i before. head-copy-zero (m c) (0x10 + 4 * (x / 64)) toMid i before (omega arith))) refl (
+      allocate-each number n headUse head (newMid ∷ newEnd ∷ b .cells)
+      (λ low. word-cell (headCopy (m c)) (0x10 + 4 * (x / 64)) toMid (headCopy-cell (m c)) .size)
+      (head-clean head (λ i before. head-copy-zero (m c) (0x10 + 4 * (x / 64)) toMid i before (omega arith))) refl (
         midUse,
         mid-clean newMid,
         (refl, (x / 64, omega arith, in-head)),

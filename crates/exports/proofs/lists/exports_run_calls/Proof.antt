@@ -20,7 +20,7 @@ same-length-2 : tie.Need-same-length-2
 same-length-2 c = search needs
 
 returns : tie.Need-returns
-returns c = bad-size-told _ _ _ (c .before .before .before .before .before .before .run-calls .result) _ _ (c .before .before .before .before .before .before .run-calls .ensures) (c .enum-told .given .1)
+returns c = bad-size-told _ _ _ _ (c .before .before .before .before .before .before .run-calls .result) _ _ (c .before .before .before .before .before .before .run-calls .ensures) (c .enum-told .given .1)
 
 stop-number-requires : tie.Need-stop-number-requires
 stop-number-requires c κs = search needs
@@ -32,7 +32,7 @@ same-length-4 : tie.Need-same-length-4
 same-length-4 c = search needs
 
 returns-2 : tie.Need-returns-2
-returns-2 c = ran-told _ _ _ (c .before .before .before .before .before .before .before .before .run-calls .result) _ _ (c .before .before .before .before .before .before .before .before .run-calls .ensures) _ _ _ (c .before .before .ran .given .1) (c .stop-number .ensures)
+returns-2 c = ran-told _ _ _ _ (c .before .before .before .before .before .before .before .before .run-calls .result) _ _ (c .before .before .before .before .before .before .before .before .run-calls .ensures) _ _ _ (c .before .before .ran .given .1) (c .stop-number .ensures)
 
 pub exports-run-calls-spec : {M : Type 1} → statement M
 exports-run-calls-spec =

@@ -10,12 +10,12 @@ use Rattle.history.proofs.runner.run_calls.Statement.{statement}
 use Rattle.history.proofs.runner.run_calls.Tie as tie
 
 abbrev Inv-loop : tie.InvT-loop
-Inv-loop block₀ calls answers₀ at₀ count₀ block answers at count =
+Inv-loop block₀ edition calls answers₀ at₀ count₀ block answers at count =
     (at ≤ length calls) × (count ≤ length answers₀) × (length block ≡ length block₀) × (length answers ≡ length answers₀)
     × (ranFrom (length answers₀) 0 block₀ calls answers₀ ≡ ranFrom (length answers₀ - count) count block (drop at calls) answers)
 
 abbrev μ-loop : tie.MeasureT-loop
-μ-loop block₀ calls answers₀ at₀ count₀ block answers at count = length calls - at
+μ-loop block₀ edition calls answers₀ at₀ count₀ block answers at count = length calls - at
 
 format-requires : tie.Need-format-requires Inv-loop μ-loop
 format-requires c κs = search needs
@@ -31,8 +31,8 @@ same-length c = search needs
 
 returns : tie.Need-returns Inv-loop μ-loop
 returns c =
-    meets _ _ _ (record { below = λ i. c .before .before .before .before .before .before .before .shared-slice-known .given i .fits }) _
-    (run-refused _ _ _ _ (c .before .before .before .before .format .result) (c .before .before .before .before .format .ensures) _ (c .enum-told2 .given .1))
+    meets _ _ _ _ (record { below = λ i. c .before .before .before .before .before .before .before .shared-slice-known .given i .fits }) _
+    (run-refused _ _ _ _ _ (c .before .before .before .before .format .result) (c .before .before .before .before .format .ensures) _ (c .enum-told2 .given .1))
 
 loop-holds : tie.Need-loop-holds Inv-loop μ-loop
 loop-holds c = (omega arith, omega arith, refl, refl, ran-first (c .before .before .before .before .format .last .0) (c .before .before .before .before .before .before .before .before .before .args .calls .now) (c .before .before .before .before .before .before .before .before .before .args .answers .now))
@@ -45,8 +45,8 @@ same-length-3 c = search needs
 
 returns-2 : tie.Need-returns-2 Inv-loop μ-loop
 returns-2 c =
-    meets _ _ _ (record { below = λ i. c .before .before .before .before .before .before .before .before .before .before .shared-slice-known .given i .fits }) _
-    (run-done _ _ _ _ (c .before .before .before .before .before .before .before .format .result) (c .before .before .before .before .before .before .before .format .ensures) _ (c .before .before .before .enum-told .given .1)
+    meets _ _ _ _ (record { below = λ i. c .before .before .before .before .before .before .before .before .before .before .shared-slice-known .given i .fits }) _
+    (run-done _ _ _ _ _ (c .before .before .before .before .before .before .before .format .result) (c .before .before .before .before .before .before .before .format .ensures) _ (c .before .before .before .enum-told .given .1)
     (c .before .before .loop .inv .4 ∙ turn-full _ _ _ _ _ _ (c .before .loop-test .taken) (c .if1 .taken ∙ c .before .before .loop .inv .3)))
 
 sub-step-call : tie.Need-sub-step-call Inv-loop μ-loop
@@ -76,8 +76,8 @@ same-length-5 c = search needs
 returns-3 : tie.Need-returns-3 Inv-loop μ-loop
 returns-3 c =
     let room : c .before .before .before .before .before .before .before .before .before .loop .count < length (c .before .before .before .before .before .before .before .before .before .before .before .before .before .before .before .before .before .before .before .args .answers .now) = omega (arith, c .before .before .before .before .before .before .before .if1 .left, c .before .before .before .before .before .before .before .before .before .loop .inv .1, c .before .before .before .before .before .before .before .before .before .loop .inv .3) in
-    meets _ _ _ (record { below = λ i. c .before .before .before .before .before .before .before .before .before .before .before .before .before .before .before .before .before .shared-slice-known .given i .fits }) _
-    (run-done _ _ _ _ (c .before .before .before .before .before .before .before .before .before .before .before .before .before .before .format .result) (c .before .before .before .before .before .before .before .before .before .before .before .before .before .before .format .ensures) _ (c .before .before .before .before .before .before .before .before .before .before .enum-told .given .1)
+    meets _ _ _ _ (record { below = λ i. c .before .before .before .before .before .before .before .before .before .before .before .before .before .before .before .before .before .shared-slice-known .given i .fits }) _
+    (run-done _ _ _ _ _ (c .before .before .before .before .before .before .before .before .before .before .before .before .before .before .format .result) (c .before .before .before .before .before .before .before .before .before .before .before .before .before .before .format .ensures) _ (c .before .before .before .before .before .before .before .before .before .before .enum-told .given .1)
     (c .before .before .before .before .before .before .before .before .before .loop .inv .4 ∙ turn-none _ _ _ _ _ _ (c .before .before .before .before .before .before .before .before .loop-test .taken) _ _ (c .before .before .before .before .step-call .ensures) room (c .enum-told3 .given .1)))
 
 slice-write-answers : tie.Need-slice-write-answers Inv-loop μ-loop
@@ -126,8 +126,8 @@ same-length-7 c = search needs
 
 returns-4 : tie.Need-returns-4 Inv-loop μ-loop
 returns-4 c =
-    meets _ _ _ (record { below = λ i. c .before .before .before .before .before .before .before .before .before .shared-slice-known .given i .fits }) _
-    (run-done _ _ _ _ (c .before .before .before .before .before .before .format .result) (c .before .before .before .before .before .before .format .ensures) _ (c .before .before .enum-told .given .1)
+    meets _ _ _ _ (record { below = λ i. c .before .before .before .before .before .before .before .before .before .shared-slice-known .given i .fits }) _
+    (run-done _ _ _ _ _ (c .before .before .before .before .before .before .format .result) (c .before .before .before .before .before .before .format .ensures) _ (c .before .before .enum-told .given .1)
     (c .before .loop .inv .4 ∙ turn-end _ _ _ _ _ _ (c .before .loop .inv .0) (c .loop-test .left)))
 
 pub run-calls-spec : {M : Type 1} → statement M

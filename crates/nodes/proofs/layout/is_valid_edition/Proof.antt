@@ -1,11 +1,12 @@
-use mathlib.Core.Path.{refl}
-use Rattle.nodes.specs.Layout.{validEdition}
+use Rattle.nodes.proofs.Usable.{no-edition, edition-by-last}
 use Rattle.nodes.proofs.layout.is_valid_edition.Statement.{statement}
 use Rattle.nodes.proofs.layout.is_valid_edition.Tie as tie
 
 returns : tie.Need-returns
-unfolding validEdition
-returns c = refl
+returns c = no-edition _ (c .if1 .taken)
+
+returns-2 : tie.Need-returns-2
+returns-2 c = edition-by-last _ (c .if1 .left)
 
 pub is-valid-edition-spec : {M : Type 1} → statement M
-is-valid-edition-spec = tie.close (tie.spec returns)
+is-valid-edition-spec = tie.close (tie.spec returns returns-2)

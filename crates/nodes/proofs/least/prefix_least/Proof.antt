@@ -16,7 +16,7 @@ returns : tie.Need-returns
 returns c = prefix-least-broken _ _ _ _ _ (c .before .before .cell .ensures) _ (c .before .is-valid-prefix .ensures) (c .before .before .before .before .pre .2) (not-true _ (c .if1 .taken))
 
 linked-word-requires : tie.Need-linked-word-requires
-linked-word-requires c κs = omega (arith, cell-length _ _ _ (c .before .before .cell .ensures))
+linked-word-requires c κs = (cell-length _ _ _ (c .before .before .cell .ensures), omega (arith, c .before .before .before .before .pre .0 .small, c .before .before .before .before .pre .1))
 
 pointer-of-requires : tie.Need-pointer-of-requires
 pointer-of-requires c κs = search needs

@@ -1,7 +1,4 @@
-use mathlib.Core.Path.{ap, _∙_}
 use native.Mathlib.Omega.{arith}
-use lib.ListN.{length}
-use Rattle.cells.proofs.Memory.{memory-length}
 use Rattle.nodes.proofs.Coded.{prefix-facts}
 use Rattle.updates.proofs.Stage.StagedEnds.{end-nothing, end-leaf, end-invalid, end-prefix, end-other}
 use borrow.Author.Needs.{needs}
@@ -32,11 +29,8 @@ leaf-alone-requires-3 c κs = search needs
 enum-known-named : tie.Need-enum-known-named
 enum-known-named c = search needs
 
-cell-requires : tie.Need-cell-requires
-cell-requires c κs = omega (arith, prefix-facts _ _ _ (c .before .before .before .pointer-of .ensures) _ (c .before .named .given .1) .2)
-
-linked-word-requires : tie.Need-linked-word-requires
-linked-word-requires c κs = ap length (c .cell .ensures) ∙ memory-length (c .before .before .before .before .before .before .args .block .now) (c .before .before .named .given .0 .0)
+link-at-requires : tie.Need-link-at-requires
+link-at-requires c κs = let inside = prefix-facts _ _ _ (c .before .before .before .pointer-of .ensures) _ (c .before .named .given .1) .2 in (omega (arith, c .before .before .before .before .before .pre .1, inside), omega (arith, c .before .before .before .before .before .pre .0 .most, inside))
 
 new-prefix-requires : tie.Need-new-prefix-requires
 new-prefix-requires c κs = search needs
@@ -54,7 +48,7 @@ returns-3 : tie.Need-returns-3
 returns-3 c = end-invalid _ _ _ _ _ _ (c .before .before .before .pointer-of .ensures) _ _ (c .before .enum-told3 .given .1) (c .leaf-alone3 .ensures)
 
 returns-4 : tie.Need-returns-4
-returns-4 c = end-prefix _ _ _ _ _ _ (c .before .before .before .before .before .before .before .pointer-of .ensures) _ _ _ _ _ (c .before .before .before .before .before .named .given .1) (c .before .before .before .cell .ensures) (c .before .before .linked-word .ensures) (c .new-prefix .ensures)
+returns-4 c = end-prefix _ _ _ _ _ _ (c .before .before .before .before .before .before .pointer-of .ensures) _ _ _ _ (c .before .before .before .before .named .given .1) (c .before .before .link-at .ensures) (c .new-prefix .ensures)
 
 returns-5 : tie.Need-returns-5
 returns-5 c = end-other _ _ _ _ _ (c .before .before .before .pointer-of .result) (c .before .before .before .pointer-of .ensures) _ _ (c .before .before .match .keys5) (c .new-prefix2 .ensures)
@@ -71,8 +65,7 @@ at-end-spec =
     enum-told-3
     leaf-alone-requires-3
     enum-known-named
-    cell-requires
-    linked-word-requires
+    link-at-requires
     new-prefix-requires
     new-prefix-requires-2
     returns

@@ -14,14 +14,14 @@ use Rattle.trees.proofs.validate.+child_check+node_check+split_check.Lt
 use Rattle.cells.proofs.cell.Reads as cell-reads
 use Rattle.cells.proofs.word_at.Reads as word-at-reads
 use Rattle.nodes.proofs.pointer.pointer_of.Reads as pointer-of-reads
-use Rattle.nodes.proofs.prefix.is_valid_prefix.Reads as is-valid-prefix-reads
-use Rattle.nodes.proofs.prefix.linked_word.Reads as linked-word-reads
+use Rattle.nodes.proofs.prefix.link_at.Reads as link-at-reads
 use Rattle.nodes.proofs.sparse.is_valid_sparse.Reads as is-valid-sparse-reads
 use Rattle.nodes.proofs.sparse.sparse_count.Reads as sparse-count-reads
 use Rattle.nodes.proofs.sparse.sparse_position.Reads as sparse-position-reads
 use Rattle.nodes.proofs.split.is_valid_head.Reads as is-valid-head-reads
 use Rattle.trees.proofs.stamps.stamp_cell.Reads as stamp-cell-reads
 use Rattle.trees.proofs.stamps.stamp_branch.Reads as stamp-branch-reads
+use Rattle.trees.proofs.stamps.stamp_prefix.Reads as stamp-prefix-reads
 
 -- at the same depth a node's check is above a split's, and that above a child's, which is above a node's one character down
 abbrev pub μ-child-check : Measures 2 child-check-kinds.ps ℕ
@@ -57,14 +57,10 @@ abbrev pub child-told : ℕ → child-check-lts.Claims
 child-told t = (
   pointer-of-reads.Asked,
   pointer-of-reads.Learnt,
-  cell-reads.Asked,
-  cell-reads.Learnt,
-  is-valid-prefix-reads.Asked,
-  is-valid-prefix-reads.Learnt,
-  stamp-cell-reads.Asked,
-  stamp-cell-reads.Learnt,
-  linked-word-reads.Asked,
-  linked-word-reads.Learnt,
+  stamp-prefix-reads.Asked,
+  stamp-prefix-reads.Learnt,
+  link-at-reads.Asked,
+  link-at-reads.Learnt,
   node-check-below t,
   node-check.Post,
 )

@@ -1,0 +1,151 @@
+//! What is counted: rules and how they are broken, shapes of nodes, cases of the build, ends of lists.
+
+/// Declares an enum of things to be counted, with its number of cases and their names.
+macro_rules! counted {
+    ($(#[$comment:meta])* $name:ident: $($case:ident),+ $(,)?) => {
+        $(#[$comment])*
+        #[derive(Clone, Copy, Debug)]
+        pub enum $name { $($case),+ }
+
+        impl $name {
+            /// The cases' names, in order.
+            pub const NAMES: &'static [&'static str] = &[$(stringify!($case)),+];
+        }
+    };
+}
+
+counted! {
+    /// The rules of soundness, one for each way to break them.
+    Flaw: HeldBits, StrayBytes, CellCount, Edition, OpenSlotWord, RootLeaf, RootPrefix, SnapshotLeaf, SnapshotPrefix,
+    CellZero, TrailerCell, BeyondTrailer, NoKind, EnteredTwice, ChainWithoutChild, DeepChain, DeepSparse, DeepSplit,
+    SparseGap, SparseOfFew, Characters, OrderWord, PartWord, EmptyHead, EmptyMid, EmptyEnd, PrefixValue, PrefixFlag,
+    PrefixOverNone, PrefixOverLeaf, PrefixOverPrefix, PrefixOffset, EmbeddedInEditionOne, EditionOfEmbedded,
+    EmbeddedValue, EmbeddedEnteredTwice, DeepEmbedded,
+}
+
+counted! {
+    /// What sound blocks are made of.
+    Shape: EmptyRoot, Leaf, Chain, SparseOfTwo, SparseOfThree, SparseOfFour, SparseOfFive, SparseOfSix, SplitOfFew,
+    SplitOfMany, Prefix, DepthLimit, SharedCell, SharedAtAnotherKind, JunkBeforeRun, JunkPastChildren, JunkInHead,
+    JunkInPrefix, JunkBeforeEmbeddedRun, JunkInEmbeddedHead, EmbeddedOverFew, EmbeddedOverMany, EmbeddedShared,
+    EmbeddedSharedAtNode, EmbeddedSharedInRun, EmbeddedSharedBeforeRun, SnapshotInEmbeddedRun,
+    EmbeddedToDepthLimit,
+}
+
+counted! {
+    /// The ways to spoil an embedded prefix: an offset, the edition word, the value, a second word into its cell at the
+    /// prefix, at its node or in the middle of its run, and a run that ends in a word into its own cell.
+    Spoilt: Offset00, Offset04, Offset1D, Offset1E, Offset1F, OffsetFE, EditionOne, EditionThree, TopBit,
+    SecondAtPrefix, SecondAtNode, SecondInRun, RunIntoItself,
+}
+
+counted! {
+    /// The cases of the build that the specification lays down for an insertion or a removal.
+    BuildCase: Leaf, PrefixReplaced, PrefixAdded, NewChain, FullChain, CharacterBefore, ChainPair, SparseReplaced,
+    SparseAppended, SeventhChild, SplitEndPresent, SplitEndAbsent, SplitMidAbsent, ValuePutBack, LeafGone,
+    PrefixToLinked, ValueToLeaf, OldChainNotJoined, KeptGrown, SplitReplaced, FewReplaced, NoneKept, OneKept, TwoKept,
+    ThreeToFiveKept, SixKept, SevenKept, MoreKept, OrderRewritten, SplitToNone, SplitToChain, SplitToSparse, EndEmptied,
+    MidEmptied, NothingTaken, RoomInEditionOne, NoRoomInEditionOne, StandaloneOverSparse, StandaloneUnder04,
+    StandaloneAt04, EmbeddedAt05, EmbeddedPast05, EmbeddedInHead, OldNodeWithRoom, EmbeddedReplaced, ThroughEmbedded,
+    ChainOverEmbedded, EmbeddedToLinked, EmbeddedToLeaf,
+}
+
+use BuildCase::*;
+
+/// The cases that each change can go through, in the order of `Change`; every one must be met, and no other.
+pub const BUILT: [(&str, &[BuildCase]); 2] = [
+    (
+        "build cases of insertions",
+        &[
+            Leaf,
+            PrefixReplaced,
+            PrefixAdded,
+            NewChain,
+            FullChain,
+            CharacterBefore,
+            ChainPair,
+            SparseReplaced,
+            SparseAppended,
+            SeventhChild,
+            SplitEndPresent,
+            SplitEndAbsent,
+            SplitMidAbsent,
+            ValuePutBack,
+            RoomInEditionOne,
+            NoRoomInEditionOne,
+            StandaloneOverSparse,
+            StandaloneUnder04,
+            StandaloneAt04,
+            EmbeddedAt05,
+            EmbeddedPast05,
+            EmbeddedInHead,
+            ThroughEmbedded,
+            ChainOverEmbedded,
+            OldNodeWithRoom,
+            EmbeddedReplaced,
+        ],
+    ),
+    (
+        "build cases of removals",
+        &[
+            NewChain,
+            FullChain,
+            CharacterBefore,
+            SparseReplaced,
+            ValuePutBack,
+            LeafGone,
+            PrefixToLinked,
+            ValueToLeaf,
+            OldChainNotJoined,
+            KeptGrown,
+            SplitReplaced,
+            FewReplaced,
+            NoneKept,
+            OneKept,
+            TwoKept,
+            ThreeToFiveKept,
+            SixKept,
+            SevenKept,
+            MoreKept,
+            OrderRewritten,
+            SplitToNone,
+            SplitToChain,
+            SplitToSparse,
+            EndEmptied,
+            MidEmptied,
+            NothingTaken,
+            RoomInEditionOne,
+            NoRoomInEditionOne,
+            StandaloneOverSparse,
+            StandaloneUnder04,
+            StandaloneAt04,
+            EmbeddedAt05,
+            EmbeddedPast05,
+            EmbeddedInHead,
+            ThroughEmbedded,
+            ChainOverEmbedded,
+            EmbeddedToLinked,
+            EmbeddedToLeaf,
+        ],
+    ),
+];
+
+/// The two calls that build a new tree.
+#[derive(Clone, Copy)]
+pub enum Change {
+    Insertion,
+    Removal,
+}
+
+counted! {
+    /// How closely a change meets the free cells: it takes all, one at least, or lacks a single one.
+    Room: TookLastFree, OneShort,
+}
+
+counted! {
+    /// How a list of calls ends, what is left over there, and what stands in it.
+    ListCase: AtEnd, NotFresh, NoCall, Full, EndAsAnswersFill, NothingAtAll, AnswersLeftOver, NoAnswerByte,
+    FullBeforeNoCall, OtherTag, InsertCut, SlotCut, RemoveCut, OneByteShort, KeyOf0, KeyOf48, KeyOf49, KeyOf255,
+    RemovedOf0, RemovedOf48, RemovedOf49, RemovedOf255, LongList, LargeBlock, EditionOne, EditionTwo, OtherEdition,
+    Embeds,
+}
