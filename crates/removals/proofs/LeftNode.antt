@@ -26,7 +26,7 @@ use Rattle.updates.specs.SetChild.{withChild, setChild}
 use Rattle.updates.specs.Build.{wordAside, putBack}
 use Rattle.updates.proofs.Claims.{BuildStands, cells-stand-from, Consistent, Placed, NodeChanged, Rooted, NodeLaw}
 use Rattle.updates.proofs.SetChild.{set-placed, set-below-stands}
-use Rattle.updates.proofs.ChainNodes.Rooms.{unowned-consistent}
+use Rattle.updates.proofs.Allocated.{unowned-consistent}
 use Rattle.updates.proofs.PrefixNodes.Prefixes.{putBack-changed, putBack-below-stands}
 use Rattle.updates.proofs.PrefixNodes.Aside.{Aside, aside}
 use Rattle.updates.proofs.PrefixNodes.NodeCopy.{root-value, plain-root}

@@ -33,7 +33,7 @@ use Rattle.updates.specs.Built.{Built, unowned, allocate, room, firstUsed, chai
 use Rattle.updates.specs.SetChild.{withChild}
 use Rattle.updates.specs.Build.{childOf}
 use Rattle.updates.proofs.Claims.{numbers, CellsStand, BuildStands, Placed}
-use Rattle.updates.proofs.ChainNodes.Rooms.{unowned-consistent}
+use Rattle.updates.proofs.Allocated.{unowned-consistent}
 use Rattle.updates.proofs.ChainNodes.Chains.{chain-placed}
 use Rattle.updates.proofs.ChainNodes.ChainSet.{chain-cut-child, chain-child-small}
 use Rattle.updates.proofs.SparseNodes.Pairs.{sparse-allocated}

@@ -28,7 +28,7 @@ use Rattle.updates.specs.Built.{unowned}
 use Rattle.updates.specs.Build.{wordAside}
 use Rattle.updates.specs.Commit.{memoryWith}
 use Rattle.updates.proofs.Claims.{TreeChanged, EndLaw}
-use Rattle.updates.proofs.ChainNodes.Rooms.{unowned-consistent}
+use Rattle.updates.proofs.Allocated.{unowned-consistent}
 use Rattle.updates.proofs.PrefixNodes.KeyEnd.{numbers-none, plain-small, end-table}
 use Rattle.updates.proofs.ChangeLaw.{KeyChanged, change-law}
 use Rattle.removals.specs.Removal.{leftCopy, removedAt, removal}

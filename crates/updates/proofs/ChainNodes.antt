@@ -1,4 +1,3 @@
 -- A child set at NONE or at a chain.
 pub mod Chains
 pub mod ChainSet
-pub mod Rooms

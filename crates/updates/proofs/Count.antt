@@ -7,7 +7,7 @@ use native.Mathlib.Omega.{arith}
 use Prim.Native.Nat.{ℕ, suc, _-_, _*_, _+_, _≤_, _<_}
 use lib.Dec.{eqb}
 use lib.ListN.{length}
-use borrow.Author.Tests.{ne-eqb, lt-ltb, le-ltb}
+use borrow.Author.Tests.{ne-eqb, lt-ltb}
 use Rattle.cells.specs.Memory.{Memory}
 use Rattle.cells.proofs.Pointers.{kind-of-made}
 use Rattle.nodes.specs.Layout.{Layout}
@@ -15,6 +15,7 @@ use Rattle.nodes.specs.Pointer.{leafWord, wordTo}
 use Rattle.staging.specs.NewCells.{prefixCell}
 use Rattle.updates.specs.Built.{room, firstUsed}
 use Rattle.updates.specs.Build.{build, cellsNeeded}
+use Rattle.updates.proofs.FreeBytes.{room-leaf, first-leaf}
 use Rattle.updates.proofs.Related.{Contents, Characters, Relation, Related, related-count, same-built, build-related}
 
 -- a numbering: no cell has the number 0, and a pointer into any has its top bit clear
@@ -25,17 +26,12 @@ pub record Numbering (number : ℕ → ℕ) : Type 0 where
 pub numbering-one : Numbering (λ _. 1)
 numbering-one = record { low = λ i. omega arith; high = λ i. omega arith }
 
--- the room before a word depends only on its kind, and before a leaf there is none
+-- the room before a word depends only on its kind
 room-same : (c c′ k : ℕ) (own : Bool) → c < 67108864 → c′ < 67108864 → k < 32 → room own (wordTo c k) ≡ room own (wordTo c′ k)
 unfolding room
 room-same c c′ k false small small′ h = refl
 room-same c c′ k true small small′ h =
     rw (lt-ltb (c * 32 + k) 2147483648 (omega arith), kind-of-made c k h, lt-ltb (c′ * 32 + k) 2147483648 (omega arith), kind-of-made c′ k h)
-
-pub room-leaf : (value : ℕ) (own : Bool) → value < 2147483648 → room own (leafWord value) ≡ 0
-unfolding room leafWord
-room-leaf value false clear = refl
-room-leaf value true clear = rw (le-ltb (4294967295 - value) 2147483648 (omega arith))
 
 -- and so does the first byte used
 first-same : (c c′ k : ℕ) (own : Bool) → c < 67108864 → c′ < 67108864 → k < 32 → firstUsed own (wordTo c k) ≡ firstUsed own (wordTo c′ k)
@@ -43,11 +39,6 @@ unfolding firstUsed room
 first-same c c′ k false small small′ h = refl
 first-same c c′ k true small small′ h =
     rw (lt-ltb (c * 32 + k) 2147483648 (omega arith), kind-of-made c k h, lt-ltb (c′ * 32 + k) 2147483648 (omega arith), kind-of-made c′ k h)
-
-pub first-leaf : (value : ℕ) (own : Bool) → value < 2147483648 → firstUsed own (leafWord value) ≡ 0
-unfolding firstUsed room leafWord
-first-leaf value false clear = refl
-first-leaf value true clear = rw (le-ltb (4294967295 - value) 2147483648 (omega arith))
 
 -- nothing is asked of a cell's bytes or of a key's characters
 abbrev pub Any : {A : Type 0} → A → Type 0
@@ -131,6 +122,10 @@ pub leaf-nonzero : (value : ℕ) → value < 2147483648 → eqb (leafWord value)
 unfolding leafWord
 leaf-nonzero value clear = let some-word : 4294967295 - value ≢ 0 = omega arith in ne-eqb (4294967295 - value) 0 some-word
 
+leaf-top : (value : ℕ) → value < 2147483648 → 2147483648 ≤ leafWord value
+unfolding leafWord
+leaf-top value clear = omega arith
+
 -- the cells that a build allocates are as many as it is counted to need, whatever their numbers and the value
 pub count-needed : (layout : Layout) (number : ℕ → ℕ) → Numbering number → (m : Memory) (root : ℕ) (key : List ℕ) (value : ℕ) → value < 2147483648
     → length (build layout number m root key value .cells) ≡ cellsNeeded layout m root key
@@ -140,7 +135,7 @@ count-needed layout number n m root key value clear =
     (build-alike number (λ _. 1) n numbering-one (λ _. ⊥) (λ i k less h. h) (λ i h. absurd h) layout m root key value 0
     (record {
       bothNone = leaf-nonzero value clear ∙ sym (leaf-nonzero 0 (omega arith));
-      room = λ own. room-leaf value own clear ∙ sym (room-leaf 0 own (omega arith));
-      firstUsed = λ own. first-leaf value own clear ∙ sym (first-leaf 0 own (omega arith));
+      room = λ own. room-leaf own _ (leaf-top value clear) ∙ sym (room-leaf own _ (leaf-top 0 (omega arith)));
+      firstUsed = λ own. first-leaf own _ (leaf-top value clear) ∙ sym (first-leaf own _ (leaf-top 0 (omega arith)));
       same = λ h. absurd h;
     }) (λ h. absurd h))

@@ -1,4 +1,6 @@
 pub mod Claims
+pub mod FreeBytes
+pub mod Allocated
 pub mod Related
 pub mod Count
 pub mod BuildBytes

@@ -25,7 +25,7 @@ use Rattle.updates.specs.SplitBuild.{Row, branchRow, rows, endRow, midRo
 use Rattle.updates.specs.SetChild.{chainSet, sparseSet, setChild}
 use Rattle.updates.specs.PrefixOver.{embeds, prefixBefore, prefixOver}
 use Rattle.updates.specs.Build.{wordAside, putBack, childOf, nodeCopy, pathCopy, valueAt, build}
-use Rattle.updates.proofs.ChainNodes.Rooms.{room-most, first-kind}
+use Rattle.updates.proofs.FreeBytes.{room-most, first-kind}
 use Rattle.updates.proofs.PrefixNodes.Embedded.{embeds-parts, embeds-same}
 
 -- what holds of every cell that a build writes, by the ways to write one; the characters of its key are `Character`

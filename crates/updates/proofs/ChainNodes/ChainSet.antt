@@ -23,7 +23,7 @@ use Rattle.staging.specs.NewCells.{sparsePair}
 use Rattle.updates.specs.Built.{Built, allocate, chainOver}
 use Rattle.updates.specs.SetChild.{chainSet}
 use Rattle.updates.proofs.Claims.{BuildStands, Consistent, Placed}
-use Rattle.updates.proofs.ChainNodes.Rooms.{allocate-before}
+use Rattle.updates.proofs.Allocated.{allocate-before}
 use Rattle.updates.proofs.ChainNodes.Chains.{chain-placed, chain-below-stands}
 use Rattle.updates.proofs.SparseNodes.Pairs.{pair-placed}
 

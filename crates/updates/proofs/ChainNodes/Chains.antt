@@ -27,7 +27,8 @@ use Rattle.staging.specs.NewCells.{blank, chainCell}
 use Rattle.updates.specs.Built.{Built, allocate, room, roomOf, firstUsed, firstUsedOf, characterBefore, chainWith, chainOver}
 use Rattle.updates.specs.SetChild.{withChild}
 use Rattle.updates.proofs.Claims.{from-at, numbers, numbers-more, CellStands, CellsStandFrom, BuildStands, cells-stand-from, InNewest, Consistent, Placed}
-use Rattle.updates.proofs.ChainNodes.Rooms.{room-most, room-place, first-most, first-chain, allocate-numbers, allocate-first-chain, allocate-names, allocate-consistent-whole, allocate-free, allocate-stands}
+use Rattle.updates.proofs.FreeBytes.{room-most, room-place, first-most, first-chain}
+use Rattle.updates.proofs.Allocated.{allocate-numbers, allocate-first-chain, allocate-names, allocate-consistent-whole, allocate-free, allocate-stands}
 
 -- a new chain cell
 pub chain-cell-length : (x w : ℕ) → length (chainCell x w) ≡ 32

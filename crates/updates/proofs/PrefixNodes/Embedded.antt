@@ -12,7 +12,7 @@ use borrow.Author.Tests.{lt-ltb, le-leb, leb-true, ne-eqb}
 use Rattle.cells.specs.Memory.{Memory}
 use Rattle.cells.specs.Occurrences.{occurrences}
 use Rattle.cells.proofs.Choice.{both-left, both-right}
-use Rattle.cells.proofs.Pointers.{cell-kind, kind-of-made}
+use Rattle.cells.proofs.Pointers.{cell-kind}
 use Rattle.nodes.specs.Layout.{Layout, mayEmbed, cellLimit}
 use Rattle.nodes.specs.Pointer.{pointer, byKind, wordTo}
 use Rattle.nodes.specs.Pointer.Pointer.{prefix}
@@ -25,7 +25,8 @@ use Rattle.staging.proofs.EmbeddedCells.{embedded-behind, embedded-value, embed
 use Rattle.updates.specs.Built.{Built, allocate, firstUsed, firstUsedOf}
 use Rattle.updates.specs.PrefixOver.{embeds, prefixBefore}
 use Rattle.updates.proofs.Claims.{from-behind, numbers, numbers-more, CellStands, CellsStandFrom, BuildStands, InNewest, Placed, NodeChanged}
-use Rattle.updates.proofs.ChainNodes.Rooms.{room-chain, room-other, first-unowned, first-other, first-head, first-place, allocate-numbers, allocate-names, allocate-consistent, allocate-whole}
+use Rattle.updates.proofs.FreeBytes.{first-unowned, first-place, made-chain, made-head, made-other}
+use Rattle.updates.proofs.Allocated.{allocate-numbers, allocate-names, allocate-consistent, allocate-whole}
 
 -- where a value is embedded, the edition allows it and the bytes 00-04 are free
 pub embeds-parts : (layout : Layout) (own : Bool) (word : ℕ) → embeds layout own word ≡ true → (mayEmbed layout ≡ true) × (5 ≤ firstUsed own word)
@@ -52,13 +53,13 @@ unused layout own word none = ap (λ k. mayEmbed layout && leb 5 k) none ∙ nev
 
 -- 02, 3: "when the linked node's cell was taken by that same call": never into another one
 pub embeds-old : (layout : Layout) (word : ℕ) → embeds layout false word ≡ false
-embeds-old layout word = unused layout false word (first-unowned word)
+embeds-old layout word = unused layout false word (first-unowned false word refl)
 
 -- "and is a split head, or a chain whose first character stands at 05 or later": by the kind of the node in a cell that the call took
 module _ (layout : Layout) (c : ℕ) (inside : c < 67108864) where
   pub embeds-head : embeds layout true (wordTo c 28) ≡ mayEmbed layout
   unfolding embeds
-  embeds-head = ap (λ k. mayEmbed layout && leb 5 k) (first-head c inside) ∙ alone (mayEmbed layout)
+  embeds-head = ap (λ k. mayEmbed layout && leb 5 k) (made-head c inside) ∙ alone (mayEmbed layout)
     where
       alone : (t : Bool) → (t && true) ≡ t
       alone true = refl
@@ -66,13 +67,10 @@ module _ (layout : Layout) (c : ℕ) (inside : c < 67108864) where
 
   pub embeds-chain : (k : ℕ) → k < 28 → embeds layout true (wordTo c k) ≡ (mayEmbed layout && leb 5 k)
   unfolding embeds
-  embeds-chain k chain =
-      ap (λ j. mayEmbed layout && leb 5 j)
-      (first-other true (wordTo c k) (λ e. omega (arith, e, kind-of-made c k (omega arith))) ∙ room-chain c k inside chain)
+  embeds-chain k chain = ap (λ j. mayEmbed layout && leb 5 j) (made-chain c k inside chain)
 
   pub embeds-other : (k : ℕ) → 28 < k → k < 32 → embeds layout true (wordTo c k) ≡ false
-  embeds-other k other is =
-      unused layout true (wordTo c k) (first-other true (wordTo c k) (λ e. omega (arith, e, kind-of-made c k is)) ∙ room-other c k (omega arith) is)
+  embeds-other k other is = unused layout true (wordTo c k) (made-other c k other is)
 
 -- the node's offset is a valid one
 pub embeds-offset : (layout : Layout) (own : Bool) (word : ℕ) → embeds layout own word ≡ true → (5 ≤ word % 32) × (word % 32 ≤ 28)

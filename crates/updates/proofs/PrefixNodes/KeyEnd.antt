@@ -28,7 +28,7 @@ use Rattle.staging.specs.NewCells.{prefixCell}
 use Rattle.updates.specs.Built.{Built, unowned, allocate}
 use Rattle.updates.specs.Build.{valueAt}
 use Rattle.updates.proofs.Claims.{numbers, BuildStands, TreeChanged}
-use Rattle.updates.proofs.ChainNodes.Rooms.{unowned-consistent, allocate-numbers}
+use Rattle.updates.proofs.Allocated.{unowned-consistent, allocate-numbers}
 use Rattle.updates.proofs.PrefixNodes.Prefixes.{prefix-allocated}
 
 pub numbers-none : (number : ℕ → ℕ) (c : ℕ) → occurrences c (numbers number []) ≡ 0

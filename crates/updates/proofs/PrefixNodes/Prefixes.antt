@@ -27,7 +27,7 @@ use Rattle.updates.specs.PrefixOver.{embeds, prefixBefore, prefixOver}
 use Rattle.updates.specs.Build.{putBack}
 use Rattle.updates.proofs.Claims.{numbers, CellStands, BuildStands, Consistent, Placed, NodeChanged}
 use Rattle.updates.proofs.PrefixNodes.Embedded.{embeds-parts, before-below-stands, embedded-changed}
-use Rattle.updates.proofs.ChainNodes.Rooms.{allocate-numbers, allocate-names, allocate-consistent, allocate-before, allocate-whole}
+use Rattle.updates.proofs.Allocated.{allocate-numbers, allocate-names, allocate-consistent, allocate-before, allocate-whole}
 
 -- a new prefix cell
 pub prefix-cell-value : (v w : ℕ) → v < 4294967296 → prefixValue (prefixCell v w) ≡ v

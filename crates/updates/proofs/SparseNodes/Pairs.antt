@@ -25,7 +25,7 @@ use Rattle.staging.specs.NewCells.{blank, pairCell, sparsePair}
 use Rattle.updates.specs.Built.{Built, allocate}
 use Rattle.updates.specs.SetChild.{withChild}
 use Rattle.updates.proofs.Claims.{CellStands, BuildStands, Consistent, Placed}
-use Rattle.updates.proofs.ChainNodes.Rooms.{allocate-numbers, allocate-names, allocate-consistent, allocate-whole}
+use Rattle.updates.proofs.Allocated.{allocate-numbers, allocate-names, allocate-consistent, allocate-whole}
 
 -- the parts of a cell of two children
 pub pair-digits : (a u b v : ℕ) → sparseDigits (pairCell a u b v) ≡ 0 ∷ 1 ∷ []

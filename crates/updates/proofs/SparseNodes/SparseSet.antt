@@ -21,7 +21,7 @@ use Rattle.updates.specs.Built.{Built, allocate}
 use Rattle.updates.specs.SplitBuild.{splitOf}
 use Rattle.updates.specs.SetChild.{withChild, sparseSet}
 use Rattle.updates.proofs.Claims.{BuildStands, Consistent, Placed}
-use Rattle.updates.proofs.ChainNodes.Rooms.{allocate-before}
+use Rattle.updates.proofs.Allocated.{allocate-before}
 use Rattle.updates.proofs.SparseNodes.Pairs.{sparse-allocated}
 use Rattle.staging.proofs.BranchWords.{sparseChild-bounded}
 use Rattle.updates.proofs.SplitNodes.SplitOf.{splitOf-below-stands, splitOf-with}

@@ -22,7 +22,7 @@ use Rattle.nodes.proofs.Frame.{below-split, end-join, mid-join, head-is, split-
 use Rattle.updates.specs.Built.{Built, allocate}
 use Rattle.updates.specs.SetChild.{withChild}
 use Rattle.updates.proofs.Claims.{from-at, CellStands, CellsStand, BuildStands, numbers, Placed}
-use Rattle.updates.proofs.ChainNodes.Rooms.{allocate-numbers, allocate-first-head, allocate-names, allocate-consistent-whole, allocate-free, allocate-stands}
+use Rattle.updates.proofs.Allocated.{allocate-numbers, allocate-first-head, allocate-names, allocate-consistent-whole, allocate-free, allocate-stands}
 
 -- the word of kind 1C to a usable cell
 module _ (layout : Layout) (c : ℕ) (free : usable layout c ≡ true) where

@@ -1,12 +1,12 @@
 -- Chains in the stage: the definition's build, by the room before the new child.
 use mathlib.Core.Path.{_≡_, refl, sym, ap, _∙_, subst}
 use mathlib.Core.Logic.{_≢_}
-use mathlib.Core.Bool.{Bool, true, false}
+use mathlib.Core.Bool.{Bool, true}
 use mathlib.Core.List.{List, [], _∷_}
 use native.Mathlib.Omega.{arith}
-use Prim.Native.Nat.{ℕ, zero, suc, _-_, _%_, _≤_, _<_}
+use Prim.Native.Nat.{ℕ, zero, suc, _-_, _<_}
 use lib.ListN.{getD, set}
-use borrow.Author.Tests.{eq-eqb, ne-eqb, lt-ltb, le-ltb}
+use borrow.Author.Tests.{eq-eqb, ne-eqb}
 use Rattle.cells.specs.Memory.{memoryOf}
 use Rattle.nodes.specs.Pointer.{wordTo}
 use Rattle.nodes.specs.Chain.{chainCharacter, chainChild}
@@ -16,31 +16,13 @@ use Rattle.updates.specs.SetChild.{chainSet}
 use Rattle.staging.specs.Code.Stage.{stageCells, staged, Put, allocated}
 use Rattle.updates.specs.Code.Staged.{builtOf, Fitting}
 use Rattle.staging.specs.declared.stage.BuildState.{BuildState}
-use Rattle.updates.proofs.ChainNodes.Rooms.{room-most}
+use Rattle.updates.proofs.FreeBytes.{room-most}
 use Rattle.staging.proofs.StageLaws.{staged-length}
 use Rattle.updates.proofs.Stage.StagedCell.{put-allocate, put-again}
 
--- the room before a node, by its tests
-module _ (own : Bool) (word : ℕ) where
-  pub room-not-own : own ≡ false → 0 ≡ room own word
-  unfolding room
-  room-not-own e = rw e
-
-  pub room-leaf : own ≡ true → 2147483648 ≤ word → 0 ≡ room own word
-  unfolding room
-  room-leaf e top = rw (e, le-ltb word 2147483648 top)
-
-  pub room-no-chain : own ≡ true → word < 2147483648 → 28 ≤ word % 32 → 0 ≡ room own word
-  unfolding room
-  room-no-chain e clear other = rw (e, lt-ltb word 2147483648 clear, le-ltb (word % 32) 28 other)
-
-  pub room-kind : own ≡ true → word < 2147483648 → word % 32 < 28 → word % 32 ≡ room own word
-  unfolding room
-  room-kind e clear chain = rw (e, lt-ltb word 2147483648 clear, lt-ltb (word % 32) 28 chain)
-
-  -- the byte before it is a byte of the cell
-  pub room-place : (r : ℕ) → r ≡ room own word → r - 1 < 32
-  room-place r is = omega (arith, is, room-most own word)
+-- the byte before a chain is a byte of the cell
+pub byte-before : (own : Bool) (word r : ℕ) → r ≡ room own word → r - 1 < 32
+byte-before own word r is = omega (arith, is, room-most own word)
 
 -- a cell allocated behind so many finds room where the build does
 pub allocate-fits : (number : ℕ → ℕ) (kind : ℕ) (bytes stage : List ℕ) (count : ℕ) → Fitting (allocate number kind bytes (staged stage count)) → count < stageCells

@@ -1,12 +1,11 @@
 -- A value over a node in the stage: the definition's build, in the node's cell or in a new one.
-use mathlib.Core.Path.{_≡_, refl, sym, _∙_, subst}
+use mathlib.Core.Path.{_≡_, sym, _∙_, subst}
 use mathlib.Core.Logic.{_≢_}
 use mathlib.Core.Bool.{Bool, true, false}
 use mathlib.Core.List.{List, _∷_}
 use native.Mathlib.Omega.{arith}
-use Prim.Native.Nat.{ℕ, suc, _-_, _%_, _≤_, _<_}
+use Prim.Native.Nat.{ℕ, suc, _-_, _%_, _<_}
 use lib.Dec.{leb}
-use borrow.Author.Tests.{eq-eqb, lt-ltb, le-ltb}
 use Rattle.cells.specs.Memory.{memoryOf}
 use Rattle.nodes.specs.Layout.{Layout, mayEmbed}
 use Rattle.nodes.specs.Pointer.{wordTo}
@@ -18,21 +17,7 @@ use Rattle.updates.specs.Built.{allocate, firstUsed}
 use Rattle.updates.specs.PrefixOver.{embeds, prefixBefore, prefixOver}
 use Rattle.updates.specs.Code.Staged.{builtOf, Fitting}
 use Rattle.updates.proofs.Stage.StagedCell.{put-again}
-use Rattle.updates.proofs.Stage.StagedChains.{room-not-own, room-leaf, allocate-fits}
-
--- the first byte used, by its tests
-module _ (own : Bool) (word : ℕ) where
-  pub first-not-own : own ≡ false → 0 ≡ firstUsed own word
-  unfolding firstUsed
-  first-not-own e = rw e (room-not-own false word refl)
-
-  pub first-leaf : own ≡ true → 2147483648 ≤ word → 0 ≡ firstUsed own word
-  unfolding firstUsed
-  first-leaf e top = rw (e, le-ltb word 2147483648 top) (room-leaf true word refl top)
-
-  pub first-head : own ≡ true → word < 2147483648 → word % 32 ≡ 28 → 16 ≡ firstUsed own word
-  unfolding firstUsed
-  first-head e clear head = rw (e, lt-ltb word 2147483648 clear, eq-eqb (word % 32) 28 head)
+use Rattle.updates.proofs.Stage.StagedChains.{allocate-fits}
 
 -- whether the value is embedded, by its tests
 module _ (layout : Layout) (own : Bool) (word : ℕ) (may : Bool) (may-is : may ≡ mayEmbed layout) where

@@ -15,39 +15,29 @@ use Rattle.updates.specs.Zeros.{Use, kindOf, part, partBelow, Proper, Ho
 use Rattle.updates.specs.Zeros.Use.{chainFrom, sparseUse, headUse, midUse, endUse, prefixUse, embeddedChain, embeddedHead}
 use Rattle.updates.proofs.Count.{Numbering}
 
+-- a byte that no use has is zero where those between the low bytes and the high bytes of the use are
+zero-between : (low high : ℕ) (s : List ℕ) {Used : ℕ → Type 0} → ((i : ℕ) → i < low → Used i) → ((i : ℕ) → high ≤ i → i < 32 → Used i)
+    → ((i : ℕ) → low ≤ i → i < high → getD s i 0 ≡ 0) → (i : ℕ) → i < 32 → (Used i → ⊥) → getD s i 0 ≡ 0
+zero-between low high s below above between i small none = elim (decLt i low) [
+  | yes h ↦ absurd (none (below i h))
+  | no h ↦ elim (decLt i high) [
+    | yes l ↦ between i (omega arith) l
+    | no l ↦ absurd (none (above i (omega arith) small))
+  ]
+]
+
 -- a cell is clean where the bytes outside its use are zero
 pub chain-clean : (place : ℕ) (s : List ℕ) → place < 28 → ((i : ℕ) → i < place → getD s i 0 ≡ 0) → Clean (chainFrom place) s
 chain-clean place s inside before =
-    record {
-      proper = inside;
-      zeros = λ i small none. elim (decLt i place) [
-        | yes h ↦ before i h
-        | no h ↦ absurd (none (omega arith, small))
-      ];
-    }
+    record { proper = inside; zeros = zero-between 0 place s (λ i h. absurd (omega arith)) (λ i h small. (h, small)) (λ i _ h. before i h) }
 
 pub sparse-clean : (s : List ℕ) → ((i : ℕ) → 24 + sparseCount s ≤ i → i < 30 → getD s i 0 ≡ 0) → Clean sparseUse s
 sparse-clean s between =
-    record {
-      proper = tt;
-      zeros = λ i small none. elim (decLt i (24 + sparseCount s)) [
-        | yes h ↦ absurd (none (inl h))
-        | no h ↦ elim (decLt i 30) [
-          | yes l ↦ between i (omega arith) l
-          | no l ↦ absurd (none (inr (omega arith, small)))
-        ]
-      ];
-    }
+    record { proper = tt; zeros = zero-between (24 + sparseCount s) 30 s (λ i h. inl h) (λ i h small. inr (h, small)) between }
 
 pub head-clean : (s : List ℕ) → ((i : ℕ) → i < 16 → getD s i 0 ≡ 0) → Clean headUse s
 head-clean s before =
-    record {
-      proper = tt;
-      zeros = λ i small none. elim (decLt i 16) [
-        | yes h ↦ before i h
-        | no h ↦ absurd (none (omega arith, small))
-      ];
-    }
+    record { proper = tt; zeros = zero-between 0 16 s (λ i h. absurd (omega arith)) (λ i h small. (h, small)) (λ i _ h. before i h) }
 
 pub mid-clean : (s : List ℕ) → Clean midUse s
 mid-clean s = record { proper = tt; zeros = λ i small none. absurd (none small) }
@@ -57,43 +47,16 @@ end-clean s = record { proper = tt; zeros = λ i small none. absurd (none small)
 
 pub prefix-clean : (s : List ℕ) → prefixOffset s ≡ 0xFF → ((i : ℕ) → 5 ≤ i → i < 28 → getD s i 0 ≡ 0) → Clean prefixUse s
 prefix-clean s alone between =
-    record {
-      proper = alone;
-      zeros = λ i small none. elim (decLt i 5) [
-        | yes h ↦ absurd (none (inl h))
-        | no h ↦ elim (decLt i 28) [
-          | yes l ↦ between i (omega arith) l
-          | no l ↦ absurd (none (inr (refl, omega arith, small)))
-        ]
-      ];
-    }
+    record { proper = alone; zeros = zero-between 5 28 s (λ i h. inl h) (λ i h small. inr (refl, h, small)) between }
 
 pub embedded-chain-clean : (place : ℕ) (s : List ℕ) → prefixOffset s ≡ place → 5 ≤ place → place < 28
     → ((i : ℕ) → 5 ≤ i → i < place → getD s i 0 ≡ 0) → Clean (embeddedChain place) s
 embedded-chain-clean place s offset room inside between =
-    record {
-      proper = (offset, room, inside);
-      zeros = λ i small none. elim (decLt i 5) [
-        | yes h ↦ absurd (none (inl (inl h)))
-        | no h ↦ elim (decLt i place) [
-          | yes l ↦ between i (omega arith) l
-          | no l ↦ absurd (none (inr (omega arith, small)))
-        ]
-      ];
-    }
+    record { proper = (offset, room, inside); zeros = zero-between 5 place s (λ i h. inl (inl h)) (λ i h small. inr (h, small)) between }
 
 pub embedded-head-clean : (s : List ℕ) → prefixOffset s ≡ 0x1C → ((i : ℕ) → 5 ≤ i → i < 16 → getD s i 0 ≡ 0) → Clean embeddedHead s
 embedded-head-clean s offset between =
-    record {
-      proper = offset;
-      zeros = λ i small none. elim (decLt i 5) [
-        | yes h ↦ absurd (none (inl (inl h)))
-        | no h ↦ elim (decLt i 16) [
-          | yes l ↦ between i (omega arith) l
-          | no l ↦ absurd (none (inr (omega arith, small)))
-        ]
-      ];
-    }
+    record { proper = offset; zeros = zero-between 5 16 s (λ i h. inl (inl h)) (λ i h small. inr (h, small)) between }
 
 -- a kind is below 32
 pub kind-small : (role : Use) (s : List ℕ) → Proper role s → kindOf role < 32

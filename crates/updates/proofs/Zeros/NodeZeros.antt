@@ -24,7 +24,7 @@ use Rattle.updates.specs.SplitBuild.{splitOf}
 use Rattle.updates.specs.Zeros.{Use, kindOf, Holds, Clean, Leads, EachClean, AllClean}
 use Rattle.updates.specs.Zeros.Use.{chainFrom, sparseUse}
 use Rattle.updates.proofs.Count.{Numbering}
-use Rattle.updates.proofs.ChainNodes.Rooms.{room-place}
+use Rattle.updates.proofs.FreeBytes.{room-place}
 use Rattle.updates.proofs.ChainNodes.Chains.{chain-cell-length, chain-cell-end}
 use Rattle.updates.proofs.SparseNodes.Pairs.{pair-digits, pair-first, pair-second}
 use Rattle.updates.proofs.SparseNodes.SparseCells.{replaced-digits, word-there, appended-byte, appended-digits, appended-count, word-new}

@@ -19,7 +19,7 @@ use Rattle.updates.specs.PrefixOver.{embeds, prefixBefore, prefixOver}
 use Rattle.updates.specs.Zeros.{Use, kindOf, Clean, Leads, EachClean, AllClean}
 use Rattle.updates.specs.Zeros.Use.{chainFrom, headUse, prefixUse, embeddedChain, embeddedHead}
 use Rattle.updates.proofs.Count.{Numbering}
-use Rattle.updates.proofs.ChainNodes.Rooms.{first-place}
+use Rattle.updates.proofs.FreeBytes.{first-place}
 use Rattle.updates.proofs.PrefixNodes.Prefixes.{prefix-cell-word, prefix-cell-offset}
 use Rattle.updates.proofs.Zeros.Uses.{one-use}
 use Rattle.updates.proofs.Zeros.Known.{prefix-clean, embedded-chain-clean, embedded-head-clean, known-else, CleanBuilt, newest-kind, allocate-each, over-clean}

@@ -1,4 +1,4 @@
-use Rattle.updates.proofs.Stage.StagedChains.{over-new, over-new-fits, over-first-is, room-place, over-longer-fits, over-longer-is}
+use Rattle.updates.proofs.Stage.StagedChains.{over-new, over-new-fits, over-first-is, byte-before, over-longer-fits, over-longer-is}
 use borrow.Author.Needs.{needs}
 use Rattle.updates.proofs.chain.chain_over.Statement.{statement}
 use Rattle.updates.proofs.chain.chain_over.Tie as tie
@@ -25,7 +25,7 @@ sub-put-byte-2 : tie.Need-sub-put-byte-2
 sub-put-byte-2 c = search needs
 
 put-byte-requires : tie.Need-put-byte-requires
-put-byte-requires c κs = (over-longer-fits _ _ _ _ _ (c .before .before .before .room-before .ensures) (c .before .before .if1 .left) (c .before .if2 .left) (c .before .before .before .before .pre .1), room-place _ _ _ (c .before .before .before .room-before .ensures))
+put-byte-requires c κs = (over-longer-fits _ _ _ _ _ (c .before .before .before .room-before .ensures) (c .before .before .if1 .left) (c .before .if2 .left) (c .before .before .before .before .pre .1), byte-before _ _ _ (c .before .before .before .room-before .ensures))
 
 sub-number-at : tie.Need-sub-number-at
 sub-number-at c = search needs
@@ -37,7 +37,7 @@ sub-word-to : tie.Need-sub-word-to
 sub-word-to c = search needs
 
 word-to-requires : tie.Need-word-to-requires
-word-to-requires c κs = room-place _ _ _ (c .before .before .before .before .before .room-before .ensures)
+word-to-requires c κs = byte-before _ _ _ (c .before .before .before .before .before .room-before .ensures)
 
 returns-3 : tie.Need-returns-3
 returns-3 c = over-longer-is _ _ _ _ _ (c .before .before .before .before .before .before .room-before .ensures) _ _ _ (c .before .before .before .before .before .if1 .left) (c .before .before .before .before .if2 .left) (c .before .before .put-byte .ensures) (c .word-to .ensures) (c .before .number-at .ensures)

@@ -1,19 +1,18 @@
 use mathlib.Core.Path.{sym, _∙_}
 use borrow.Author.Tests.{not-true, not-false}
-use Rattle.updates.proofs.ChainNodes.Rooms.{first-other}
-use Rattle.updates.proofs.Stage.StagedPrefixes.{first-not-own, first-leaf, first-head}
+use Rattle.updates.proofs.FreeBytes.{first-unowned, first-leaf, first-head, first-other}
 use borrow.Author.Needs.{needs}
 use Rattle.updates.proofs.prefix.first_used.Statement.{statement}
 use Rattle.updates.proofs.prefix.first_used.Tie as tie
 
 returns : tie.Need-returns
-returns c = first-not-own _ _ (not-true _ (c .if1 .taken))
+returns c = sym (first-unowned _ _ (not-true _ (c .if1 .taken)))
 
 returns-2 : tie.Need-returns-2
-returns-2 c = first-leaf _ _ (not-false _ (c .before .if1 .left)) (c .if2 .taken)
+returns-2 c = sym (first-leaf _ _ (c .if2 .taken))
 
 returns-3 : tie.Need-returns-3
-returns-3 c = first-head _ _ (not-false _ (c .before .before .if1 .left)) (c .before .if2 .left) (c .if3 .taken)
+returns-3 c = sym (first-head _ _ (not-false _ (c .before .before .if1 .left)) (c .before .if2 .left) (c .if3 .taken))
 
 room-before-requires : tie.Need-room-before-requires
 room-before-requires c κs = search needs
