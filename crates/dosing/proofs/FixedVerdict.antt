@@ -33,10 +33,6 @@ four-good : validReading (Celsius four) ≡ true
 unfolding validReading onScale Ieee.le Ieee.ofInt
 four-good = refl
 
-five-good : validReading (Celsius five) ≡ true
-unfolding validReading onScale Ieee.le Ieee.ofInt
-five-good = refl
-
 four-outside : inGate (warm .gate) (celsius (Celsius four)) ≡ false
 unfolding inGate celsius Ieee.le
 four-outside = refl

@@ -222,10 +222,6 @@ module _ (layout : Layout) where
   pub cells-most : (m : Memory) (w : ℕ) (X : Node) → read layout m w ≡ some X → (c : ℕ) → occurrences c (X .cells) ≤ occurrences c (X .footprint)
   cells-most m w X e c = readAt-cells m (pointer layout w) X (sym (read-is m w _ refl) ∙ e) c
 
-  pub cells-in-footprint : (m : Memory) (w : ℕ) (X : Node) → read layout m w ≡ some X
-      → (c : ℕ) → 1 ≤ occurrences c (X .cells) → 1 ≤ occurrences c (X .footprint)
-  cells-in-footprint m w X e c h = omega (arith, cells-most m w X e c)
-
   -- what is below one word of a mid is part of what is below the mid
   pub mid-ends : (m : Memory) (w j : ℕ) (a : List ℕ) → j < 8 → under (midCells layout m) w ≡ some a
       → (b : List ℕ) × (under (endCells layout m) (wordBelow m w j) ≡ some b) × ((c : ℕ) → occurrences c b ≤ occurrences c a)

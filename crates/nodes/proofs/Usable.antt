@@ -7,7 +7,7 @@ use native.Mathlib.Decide.{decLt}
 use native.Mathlib.Omega.{arith}
 use lib.Dec.{leb}
 use borrow.Author.Tests.{lt-ltb, le-ltb, le-leb, lt-leb, leb-true}
-use Rattle.cells.proofs.Choice.{absurd-bool, both, both-left, both-right}
+use Rattle.cells.proofs.Choice.{absurd-bool, both, both-right}
 use Rattle.nodes.specs.Layout.{Layout, trailerCells, isTrailer, validEdition, usable}
 use Rattle.nodes.proofs.Pointers.{usable-high}
 
@@ -36,14 +36,7 @@ unfolding validEdition
 edition-by-last edition low = rw (le-leb 1 edition low)
 
 module _ (layout : Layout) (cell : ℕ) where
-  -- a trailer cell is among the last
-  pub trailer-range : isTrailer layout cell ≡ true → (layout .cells - trailerCells layout ≤ cell) × (cell ≤ layout .cells - 1)
-  unfolding isTrailer
-  trailer-range is = (
-    leb-true (layout .cells - trailerCells layout) cell (both-left (leb (layout .cells - trailerCells layout) cell) (leb cell (layout .cells - 1)) is),
-    leb-true cell (layout .cells - 1) (both-right (leb (layout .cells - trailerCells layout) cell) (leb cell (layout .cells - 1)) is),
-  )
-
+  -- a trailer cell is one of the last
   pub trailer-is : layout .cells - trailerCells layout ≤ cell → cell ≤ layout .cells - 1 → isTrailer layout cell ≡ true
   unfolding isTrailer
   trailer-is low high = both (le-leb (layout .cells - trailerCells layout) cell low) (le-leb cell (layout .cells - 1) high)

@@ -1,23 +1,22 @@
 -- What a caller knows from the answers of the look-up and of the walk for the next key.
 use mathlib.Core.Path.{_≡_, sym, _∙_}
-use mathlib.Core.Bool.{true, false}
+use mathlib.Core.Bool.{false}
 use mathlib.Core.List.{List}
 use mathlib.Core.Option.{none, some}
 use Prim.Native.Nat.{ℕ}
-use lib.ListN.{take}
 use Rattle.cells.specs.Bytes.{IsBytes}
 use Rattle.cells.specs.Memory.{Memory}
 use Rattle.cells.proofs.Choice.{kept}
 use Rattle.nodes.specs.Layout.{Layout, keyLimit}
 use Rattle.nodes.specs.Pointer.{pointer}
 use Rattle.trees.specs.Root.{isRoot, rootTree}
-use Rattle.trees.specs.Entries.{Entry, entries, nextEntry}
+use Rattle.trees.specs.Entries.{entries, nextEntry}
 use Rattle.trees.specs.Code.NextWalk.{nextFrom}
 use Rattle.trees.specs.Code.Coded.{Grown, KeyWritten}
 use Rattle.trees.specs.declared.next_key.NextStep.{NextStep}
-use Rattle.trees.proofs.NextKey.NextParts.{key-of-some, key-of-none}
+use Rattle.trees.proofs.NextKey.NextParts.{key-of-none}
 use Rattle.trees.proofs.NextKey.NextWalk.{next-key}
-use Rattle.trees.proofs.NextKey.NextWritten.{no-key-told, key-told}
+use Rattle.trees.proofs.NextKey.NextWritten.{no-key-told}
 
 -- a root that obeys every rule has a tree
 pub root-grown : (layout : Layout) (m : Memory) (word : ℕ) (cs : List ℕ) → rootTree layout m word ≡ some cs → Grown layout m keyLimit word
@@ -30,9 +29,3 @@ module _ (layout : Layout) (m : Memory) (bytes : (c : ℕ) → IsBytes (m c)) (w
   pub next-absent : step .found ≡ false → nextEntry key (entries layout m keyLimit word) ≡ none
   next-absent e = key-of-none _
       (sym (next-key layout m bytes keyLimit word (g .0) (g .1) key each) ∙ no-key-told characters 0 step _ told e)
-
-  -- the next pair has the key told
-  pub next-present : step .found ≡ true
-      → (entry : Entry) × (nextEntry key (entries layout m keyLimit word) ≡ some entry) × (entry .key ≡ take (step .size) characters)
-  next-present e = key-of-some _ (take (step .size) characters)
-      (sym (next-key layout m bytes keyLimit word (g .0) (g .1) key each) ∙ key-told characters 0 step _ told e)

@@ -188,10 +188,6 @@ module _ (layout : Layout) (small : layout .cells ≤ cellLimit) (m : Memory) (b
     tree-frame zero = tree-frame-step zero (λ w cs found agree. found)
     tree-frame (suc d) = tree-frame-step (suc d) (tree-frame d)
 
-    pub kids-frame : (d w : ℕ) (cs : List ℕ) → kids layout m d w ≡ some cs → Agree m m′ cs → kids layout m′ d w ≡ some cs
-    kids-frame zero w cs found agree = found
-    kids-frame (suc d) w cs found agree = tree-frame d w cs found agree
-
     -- the table framing law, for every key
     pub lookup-frame : (key : List ℕ) (d w : ℕ) (cs : List ℕ) → tree layout m d w ≡ some cs → Agree m m′ cs
         → lookup layout m′ w key ≡ lookup layout m w key

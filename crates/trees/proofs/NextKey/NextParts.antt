@@ -15,11 +15,6 @@ use Rattle.trees.proofs.Entries.Keys.{held-or-not, before-nil, nil-befo
 use Rattle.trees.proofs.NextKey.Next.{next-none, next-here, next-later}
 
 -- the key of a pair, if there is one
-pub key-of-some : (o : Option Entry) (k : List ℕ) → keyOf o ≡ some k → (e : Entry) × (o ≡ some e) × (e .key ≡ k)
-unfolding keyOf
-key-of-some none k e = never e
-key-of-some (some entry) k e = (entry, refl, cc)
-
 pub key-of-none : (o : Option Entry) → keyOf o ≡ none → o ≡ none
 unfolding keyOf
 key-of-none none e = refl
