@@ -1,2 +1,3 @@
 // What the programs that run samples write.
+pub mod answers;
 pub mod lines;
