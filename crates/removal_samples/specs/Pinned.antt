@@ -4,10 +4,12 @@ use mathlib.Core.List.{List, [], _∷_, _++_}
 use Prim.Native.Nat.{ℕ}
 use Rattle.cells.specs.Bytes.{zeros}
 use Rattle.nodes.specs.Written.{chainBytes, sparseBytes, eightWords, headBytes}
+use Rattle.store.specs.Insert.{insert}
 use Rattle.store.specs.Remove.{remove}
 use Rattle.store.specs.Computing.{callsOpen}
 use Rattle.samples.specs.Calls.{freshIn, fresh, sampleA, sampleE, sampleF, sampleG, sampleH}
-use Rattle.removal_samples.specs.Blocks.{inserted, told}
+use Rattle.samples.specs.Pinned.{insertedAll, splitBlock}
+use Rattle.removal_samples.specs.Blocks.{told}
 
 -- 02, 1: "none makes NONE": 41, the only key, removed from A: the whole block, cell 1 with its bytes, the root 0; and once more, 11
 pub only-key-removed :
@@ -33,30 +35,30 @@ pub prefix-removed :
 unfolding callsOpen freshIn fresh sampleE sampleH
 prefix-removed = refl
 
--- seven children of a split, 42 removed: six in a sparse cell, in rising order
+-- the split of 33 35 41 42 43 50 51, as `split-of-seven` of the samples computes it, 42 removed: six in a sparse cell, in rising order
 pub six-left :
     _≡_ {A = List (List ℕ)}
-    (told (remove (inserted (fresh 16) (0x33 ∷ 0x35 ∷ 0x41 ∷ 0x42 ∷ 0x43 ∷ 0x50 ∷ 0x51 ∷ []) 0) (0x42 ∷ [])) (2 ∷ []))
+    (told (remove splitBlock (0x42 ∷ [])) (2 ∷ []))
     ((0 ∷ 1 ∷ 0x0000005E ∷ []) ∷ eightWords 0xFFFFFFFF 0xFFFFFFFE 0xFFFFFFFD 0xFFFFFFFB 0xFFFFFFFA 0xFFFFFFF9 0x33354143 0x5051AEF6 ∷ [])
-unfolding callsOpen freshIn fresh inserted
+unfolding callsOpen splitBlock
 six-left = refl
 
 -- with 52 as the eighth, 33 removed: "keeps more than six stays a split", its end, mid and head new, in this order
 pub seven-left :
     _≡_ {A = List (List ℕ)}
-    (told (remove (inserted (fresh 16) (0x33 ∷ 0x35 ∷ 0x41 ∷ 0x42 ∷ 0x43 ∷ 0x50 ∷ 0x51 ∷ 0x52 ∷ []) 0) (0x33 ∷ [])) (5 ∷ 6 ∷ 7 ∷ []))
+    (told (remove (insert splitBlock (0x52 ∷ []) 7 .block) (0x33 ∷ [])) (5 ∷ 6 ∷ 7 ∷ []))
     ((0 ∷ 3 ∷ 0x000000FC ∷ [])
     ∷ eightWords 0 0 0 0 0 0xFFFFFFFE 0 0
     ∷ eightWords 0 0 0 0 0 0 0x000000BC 0
     ∷ headBytes 0x000000DC 0x0000011C 0 0
     ∷ [])
-unfolding callsOpen freshIn fresh inserted
+unfolding callsOpen splitBlock
 seven-left = refl
 
 -- "Split cells with no pointer left aren't rebuilt.": 33 is alone in its end and that in its mid, and only the head is new
 pub emptied-cells :
     _≡_ {A = List (List ℕ)}
-    (told (remove (inserted (fresh 24) (0x33 ∷ 0x41 ∷ 0x42 ∷ 0x43 ∷ 0x50 ∷ 0x51 ∷ 0x52 ∷ 0x53 ∷ []) 0) (0x33 ∷ [])) (5 ∷ []))
+    (told (remove (insertedAll (fresh 24) (0x33 ∷ 0x41 ∷ 0x42 ∷ 0x43 ∷ 0x50 ∷ 0x51 ∷ 0x52 ∷ 0x53 ∷ []) 0) (0x33 ∷ [])) (5 ∷ []))
     ((0 ∷ 1 ∷ 0x000000BC ∷ []) ∷ headBytes 0 0x0000011C 0 0 ∷ [])
-unfolding callsOpen freshIn fresh inserted
+unfolding callsOpen freshIn fresh insertedAll
 emptied-cells = refl

@@ -1,8 +1,9 @@
 -- Builds computed byte by byte, with what 01 gives for each: a value put back over a leaf and replaced, a split that gets an end and
 -- a mid that were not there, and keys that end on a sparse and on a split.
-use mathlib.Core.Path.{_≡_, refl}
+use mathlib.Core.Path.{_≡_, refl, ap}
 use mathlib.Core.List.{List, [], _∷_, _++_}
 use Prim.Native.Nat.{ℕ, _+_}
+use lib.ListN.{getD}
 use Rattle.cells.specs.Bytes.{zeros}
 use Rattle.cells.specs.Memory.{memoryOf}
 use Rattle.blocks.specs.Refusal.{Counted}
@@ -10,7 +11,7 @@ use Rattle.store.specs.Insert.{insert}
 use Rattle.store.specs.Computing.{callsOpen}
 use Rattle.samples.specs.Line.{word}
 use Rattle.samples.specs.Calls.{freshIn, fresh, rootOf}
-use Rattle.samples.specs.Pinned.{insertedAll, sixth, seventh}
+use Rattle.samples.specs.Pinned.{seventhIn, whole, end30, end40, end50, sparseOfSix, splitBlock, split-of-seven}
 
 -- the bytes of some cells of a block
 unfoldable pub cellsIn : List ℕ → List ℕ → List (List ℕ)
@@ -23,114 +24,76 @@ told inserted cs =
     let block = inserted .block in
     (inserted .count ∷ rootOf block ∷ []) ∷ cellsIn block cs
 
--- 41 with 0, then 41 42 with 1, then 41 with 9
-unfoldable pub overLeaf : Counted
-overLeaf = insert (insert (fresh 8) (0x41 ∷ []) 0 .block) (0x41 ∷ 0x42 ∷ []) 1
+-- 41 with 0, then 41 42 with 1, in a block of so many cells
+unfoldable pub overLeafIn : ℕ → Counted
+overLeafIn cells = insert (insert (fresh cells) (0x41 ∷ []) 0 .block) (0x41 ∷ 0x42 ∷ []) 1
 
--- 41 with 9
-unfoldable pub replacedValue : Counted
-replacedValue = insert (overLeaf .block) (0x41 ∷ []) 9
+-- the block that this leaves
+unfoldable pub leafBlock : List ℕ
+leafBlock =
+    zeros 32
+    ++ (zeros 27 ++ (0x41 ∷ word 0xFFFFFFFF))
+    ++ (zeros 27 ++ (0x42 ∷ word 0xFFFFFFFE))
+    ++ (word 0x00000000 ++ word 0xFF000000 ++ zeros 20 ++ word 0x0000005B)
+    ++ (zeros 27 ++ (0x41 ∷ word 0x0000007F))
+    ++ zeros 64
+    ++ (word 0x0000009B ++ zeros 16 ++ word 0x00000008 ++ zeros 4 ++ word 0x00000001)
 
 -- 01: "a leaf counts as a value over NONE", "then put the value back with a new prefix cell"
-pub leaf-put-back :
-    _≡_ {A = List (List ℕ)}
-    (told overLeaf (1 ∷ 2 ∷ 3 ∷ 4 ∷ 5 ∷ []))
-    ((3 ∷ 0x0000009B ∷ [])
-    ∷ (zeros 27 ++ (0x41 ∷ word 0xFFFFFFFF))
-    ∷ (zeros 27 ++ (0x42 ∷ word 0xFFFFFFFE))
-    ∷ (word 0x00000000 ++ word 0xFF000000 ++ zeros 20 ++ word 0x0000005B)
-    ∷ (zeros 27 ++ (0x41 ∷ word 0x0000007F))
-    ∷ zeros 32
-    ∷ [])
-unfolding callsOpen told cellsIn freshIn fresh overLeaf
+pub leaf-put-back : _≡_ {A = List (List ℕ)} (whole (overLeafIn 8)) ((0 ∷ 3 ∷ 0x0000009B ∷ []) ∷ leafBlock ∷ [])
+unfolding callsOpen freshIn fresh overLeafIn whole leafBlock
 leaf-put-back = refl
 
--- 01: "A prefix is replaced by a new prefix cell to the same linked node"; cell 1, let go by the insertion before, is taken first
+-- 01: "A prefix is replaced by a new prefix cell to the same linked node": 41 with 9; cell 1, let go by the insertion before, is taken
+-- first
 pub prefix-replaced :
     _≡_ {A = List (List ℕ)}
-    (told replacedValue (1 ∷ 2 ∷ 3 ∷ 5 ∷ []))
+    (told (insert leafBlock (0x41 ∷ []) 9) (1 ∷ 2 ∷ 3 ∷ 5 ∷ []))
     ((2 ∷ 0x000000BB ∷ [])
     ∷ (word 0x00000009 ++ word 0xFF000000 ++ zeros 20 ++ word 0x0000005B)
     ∷ (zeros 27 ++ (0x42 ∷ word 0xFFFFFFFE))
     ∷ (word 0x00000000 ++ word 0xFF000000 ++ zeros 20 ++ word 0x0000005B)
     ∷ (zeros 27 ++ (0x41 ∷ word 0x0000003F))
     ∷ [])
-unfolding callsOpen told cellsIn freshIn fresh overLeaf replacedValue
+unfolding callsOpen told cellsIn leafBlock
 prefix-replaced = refl
 
--- the ends of 33 and 35, of 41, 42 and 43, of 50 and 51, and the sparse of the first six, whose order word is the highest valid one
-abbrev end30 : List ℕ
-end30 = zeros 12 ++ word 0xFFFFFFFF ++ zeros 4 ++ word 0xFFFFFFFE ++ zeros 8
+-- 01: "in a split, each mid's ends in rising order, then that mid, the head last"; "cells not taken keep theirs"
+pub split-block : seventhIn 16 .block ≡ splitBlock
+unfolding whole
+split-block = ap (λ (told : List (List ℕ)). getD told 1 []) split-of-seven
 
--- of 41, 42 and 43
-abbrev end40 : List ℕ
-end40 = zeros 4 ++ word 0xFFFFFFFD ++ word 0xFFFFFFFC ++ word 0xFFFFFFFB ++ zeros 16
-
--- of 50 and 51
-abbrev end50 : List ℕ
-end50 = word 0xFFFFFFFA ++ word 0xFFFFFFF9 ++ zeros 24
-
--- the sparse cell of the first six, with the order word AEF6
-abbrev sparseOfSix : List ℕ
-sparseOfSix =
-    word 0xFFFFFFFF
-    ++ word 0xFFFFFFFE
-    ++ word 0xFFFFFFFD
-    ++ word 0xFFFFFFFC
-    ++ word 0xFFFFFFFB
-    ++ word 0xFFFFFFFA
-    ++ word 0x33354142
-    ++ word 0x4350AEF6
-
--- the block of the split of 33 35 41 42 43 50 51, of which the insertion before left the sparse in cell 2
-unfoldable pub splitBlock : List ℕ
-splitBlock =
+-- the block with 78 (01 111 000) inserted there
+unfoldable pub endBlock : List ℕ
+endBlock =
     zeros 32
     ++ end30
-    ++ sparseOfSix
+    ++ (word 0xFFFFFFF8 ++ zeros 28)
     ++ (zeros 24 ++ word 0x0000003C ++ zeros 4)
     ++ end40
     ++ end50
     ++ (word 0x0000009C ++ zeros 4 ++ word 0x000000BC ++ zeros 20)
     ++ (zeros 16 ++ word 0x0000007C ++ word 0x000000DC ++ zeros 8)
-    ++ zeros 224
-    ++ (word 0x000000FC ++ zeros 16 ++ word 0x00000010 ++ zeros 4 ++ word 0x00000001)
-
--- 01: "in a split, each mid's ends in rising order, then that mid, the head last"; "cells not taken keep theirs"
-pub split-block : seventh .block ≡ splitBlock
-unfolding callsOpen freshIn fresh insertedAll sixth seventh splitBlock
-split-block = refl
-
--- 78 (01 111 000) inserted there, and then C8 (11 001 000)
-unfoldable pub endAdded : Counted
-endAdded = insert splitBlock (0x78 ∷ []) 7
-
--- the child C8
-unfoldable pub midAdded : Counted
-midAdded = insert (endAdded .block) (0xC8 ∷ []) 8
+    ++ (word 0x0000009C ++ zeros 4 ++ word 0x000000BC ++ zeros 16 ++ word 0x0000005C)
+    ++ (zeros 16 ++ word 0x0000007C ++ word 0x0000011C ++ zeros 8)
+    ++ zeros 160
+    ++ (word 0x0000013C ++ zeros 16 ++ word 0x00000010 ++ zeros 4 ++ word 0x00000001)
 
 -- 01: "Split: new end, mid and head, copied from the old where there are any." Here there is no end to copy
-pub end-not-there :
-    _≡_ {A = List (List ℕ)}
-    (told endAdded (2 ∷ 8 ∷ 9 ∷ []))
-    ((3 ∷ 0x0000013C ∷ [])
-    ∷ (word 0xFFFFFFF8 ++ zeros 28)
-    ∷ (word 0x0000009C ++ zeros 4 ++ word 0x000000BC ++ zeros 16 ++ word 0x0000005C)
-    ∷ (zeros 16 ++ word 0x0000007C ++ word 0x0000011C ++ zeros 8)
-    ∷ [])
-unfolding callsOpen told cellsIn splitBlock endAdded
+pub end-not-there : _≡_ {A = List (List ℕ)} (whole (insert splitBlock (0x78 ∷ []) 7)) ((0 ∷ 3 ∷ 0x0000013C ∷ []) ∷ endBlock ∷ [])
+unfolding callsOpen whole splitBlock endBlock
 end-not-there = refl
 
--- and here no mid either; the cells of the old mid and head are taken again
+-- and here, for C8 (11 001 000), no mid either; the cells of the old mid and head are taken again
 pub mid-not-there :
     _≡_ {A = List (List ℕ)}
-    (told midAdded (6 ∷ 7 ∷ 10 ∷ []))
+    (told (insert endBlock (0xC8 ∷ []) 8) (6 ∷ 7 ∷ 10 ∷ []))
     ((3 ∷ 0x0000015C ∷ [])
     ∷ (word 0xFFFFFFF7 ++ zeros 28)
     ∷ (zeros 4 ++ word 0x000000DC ++ zeros 24)
     ∷ (zeros 16 ++ word 0x0000007C ++ word 0x0000011C ++ zeros 4 ++ word 0x000000FC)
     ∷ [])
-unfolding callsOpen told cellsIn splitBlock endAdded midAdded
+unfolding callsOpen told cellsIn endBlock
 mid-not-there = refl
 
 -- the characters below 41, in turn, with the values from one on
@@ -138,25 +101,25 @@ unfoldable pub insertedBelow : List ℕ → List ℕ → ℕ → List ℕ
 insertedBelow block [] value = block
 insertedBelow block (x ∷ xs) value = insertedBelow (insert block (0x41 ∷ x ∷ []) value .block) xs (value + 1)
 
--- 41 where below it stand 42 and 43
-unfoldable pub endsOnSparse : Counted
-endsOnSparse = insert (insertedBelow (fresh 8) (0x42 ∷ 0x43 ∷ []) 0) (0x41 ∷ []) 2
+-- 41 where below it stand 42 and 43, in a block of so many cells
+unfoldable pub endsOnSparseIn : ℕ → Counted
+endsOnSparseIn cells = insert (insertedBelow (fresh cells) (0x42 ∷ 0x43 ∷ []) 0) (0x41 ∷ []) 2
 
 -- 01: "any other node gets a new prefix cell": over a sparse
 pub prefix-over-sparse :
     _≡_ {A = List (List ℕ)}
-    (told endsOnSparse (2 ∷ 1 ∷ 4 ∷ []))
+    (told (endsOnSparseIn 8) (2 ∷ 1 ∷ 4 ∷ []))
     ((2 ∷ 0x0000009B ∷ [])
     ∷ (word 0xFFFFFFFF ++ word 0xFFFFFFFE ++ zeros 16 ++ word 0x42430000 ++ word 0x00000006)
     ∷ (word 0x00000002 ++ word 0xFF000000 ++ zeros 20 ++ word 0x0000005E)
     ∷ (zeros 27 ++ (0x41 ∷ word 0x0000003F))
     ∷ [])
-unfolding callsOpen told cellsIn freshIn fresh insertedBelow endsOnSparse
+unfolding callsOpen told cellsIn freshIn fresh insertedBelow endsOnSparseIn
 prefix-over-sparse = refl
 
--- the seven below 41
-unfoldable pub seventhBelow : Counted
-seventhBelow = insert (insertedBelow (fresh 16) (0x33 ∷ 0x35 ∷ 0x41 ∷ 0x42 ∷ 0x43 ∷ 0x50 ∷ []) 0) (0x41 ∷ 0x51 ∷ []) 6
+-- the seven below 41, in a block of so many cells
+unfoldable pub sevenBelowIn : ℕ → List ℕ
+sevenBelowIn cells = insertedBelow (fresh cells) (0x33 ∷ 0x35 ∷ 0x41 ∷ 0x42 ∷ 0x43 ∷ 0x50 ∷ 0x51 ∷ []) 0
 
 -- the block that this leaves
 unfoldable pub blockBelow : List ℕ
@@ -174,34 +137,36 @@ blockBelow =
     ++ zeros 160
     ++ (word 0x0000013B ++ zeros 16 ++ word 0x00000010 ++ zeros 4 ++ word 0x00000001)
 
-pub block-below : seventhBelow .block ≡ blockBelow
-unfolding callsOpen freshIn fresh insertedBelow seventhBelow blockBelow
+-- the same order of cells, above them the chain of 41
+pub block-below : sevenBelowIn 16 ≡ blockBelow
+unfolding callsOpen freshIn fresh insertedBelow sevenBelowIn blockBelow
 block-below = refl
 
--- then 41 itself, then 41 52
-unfoldable pub endsOnSplit : Counted
-endsOnSplit = insert blockBelow (0x41 ∷ []) 7
-
--- one more child below the prefix
-unfoldable pub belowPrefix : Counted
-belowPrefix = insert (endsOnSplit .block) (0x41 ∷ 0x52 ∷ []) 8
+-- the block with 41 itself inserted there
+unfoldable pub prefixBlock : List ℕ
+prefixBlock =
+    zeros 32
+    ++ end30
+    ++ (word 0x00000007 ++ word 0xFF000000 ++ zeros 20 ++ word 0x0000011C)
+    ++ (zeros 27 ++ (0x41 ∷ word 0x0000005F))
+    ++ (zeros 24 ++ word 0x0000003C ++ zeros 4)
+    ++ end40
+    ++ end50
+    ++ (word 0x000000BC ++ zeros 4 ++ word 0x000000DC ++ zeros 20)
+    ++ (zeros 16 ++ word 0x0000009C ++ word 0x000000FC ++ zeros 8)
+    ++ (zeros 27 ++ (0x41 ∷ word 0x0000011C))
+    ++ zeros 160
+    ++ (word 0x0000007B ++ zeros 16 ++ word 0x00000010 ++ zeros 4 ++ word 0x00000001)
 
 -- 01: "any other node gets a new prefix cell": over a split
-pub prefix-over-split :
-    _≡_ {A = List (List ℕ)}
-    (told endsOnSplit (8 ∷ 2 ∷ 3 ∷ []))
-    ((2 ∷ 0x0000007B ∷ [])
-    ∷ (zeros 16 ++ word 0x0000009C ++ word 0x000000FC ++ zeros 8)
-    ∷ (word 0x00000007 ++ word 0xFF000000 ++ zeros 20 ++ word 0x0000011C)
-    ∷ (zeros 27 ++ (0x41 ∷ word 0x0000005F))
-    ∷ [])
-unfolding callsOpen told cellsIn blockBelow endsOnSplit
+pub prefix-over-split : _≡_ {A = List (List ℕ)} (whole (insert blockBelow (0x41 ∷ []) 7)) ((0 ∷ 2 ∷ 0x0000007B ∷ []) ∷ prefixBlock ∷ [])
+unfolding callsOpen whole blockBelow prefixBlock
 prefix-over-split = refl
 
--- 01: "set aside the node's value .., set the child, then put the value back with a new prefix cell": a split below a prefix
+-- 01: "set aside the node's value .., set the child, then put the value back with a new prefix cell": a split below a prefix, with 41 52
 pub split-below-prefix :
     _≡_ {A = List (List ℕ)}
-    (told belowPrefix (9 ∷ 10 ∷ 11 ∷ 12 ∷ 13 ∷ []))
+    (told (insert prefixBlock (0x41 ∷ 0x52 ∷ []) 8) (9 ∷ 10 ∷ 11 ∷ 12 ∷ 13 ∷ []))
     ((5 ∷ 0x000001BB ∷ [])
     ∷ (word 0xFFFFFFFA ++ word 0xFFFFFFF9 ++ word 0xFFFFFFF7 ++ zeros 20)
     ∷ (word 0x000000BC ++ zeros 4 ++ word 0x0000013C ++ zeros 20)
@@ -209,5 +174,5 @@ pub split-below-prefix :
     ∷ (word 0x00000007 ++ word 0xFF000000 ++ zeros 20 ++ word 0x0000017C)
     ∷ (zeros 27 ++ (0x41 ∷ word 0x0000019F))
     ∷ [])
-unfolding callsOpen told cellsIn blockBelow endsOnSplit belowPrefix
+unfolding callsOpen told cellsIn prefixBlock
 split-below-prefix = refl

@@ -4,6 +4,7 @@ use mathlib.Core.List.{List, [], _∷_, _++_, map}
 use Prim.Native.Nat.{ℕ}
 use Rattle.cells.specs.Bytes.{zeros}
 use Rattle.blocks.specs.Computing.{nextOpen}
+use Rattle.blocks.specs.Refusal.{Counted}
 use Rattle.blocks.specs.Read.{Next, get, nextKey}
 use Rattle.store.specs.Insert.{insert}
 use Rattle.store.specs.Remove.{remove}
@@ -27,12 +28,16 @@ pub asked-labels :
 unfolding callsOpen verdictOpen freshIn fresh longest
 asked-labels = refl
 
+-- the answer of a removal and the root that it leaves
+unfoldable pub answerAndRoot : Counted → List ℕ
+answerAndRoot removed = removed .answer ∷ rootOf (removed .block) ∷ []
+
 -- the same of a removal, which is done for 48 bytes and leaves the root 0
 pub removed-labels :
-    _≡_ {A = List ℕ}
-    (map (λ size. remove longest (label size) .answer) (48 ∷ 49 ∷ 0 ∷ 47 ∷ []) ++ (rootOf (remove longest (label 48) .block) ∷ []))
-    (0 ∷ 3 ∷ 3 ∷ 11 ∷ 0 ∷ [])
-unfolding callsOpen freshIn fresh longest
+    _≡_ {A = List (List ℕ)}
+    (map (λ size. answerAndRoot (remove longest (label size))) (48 ∷ 49 ∷ 0 ∷ 47 ∷ []))
+    ((0 ∷ 0x00000000 ∷ []) ∷ (3 ∷ 0x00000048 ∷ []) ∷ (3 ∷ 0x00000048 ∷ []) ∷ (11 ∷ 0x00000048 ∷ []) ∷ [])
+unfolding callsOpen freshIn fresh longest answerAndRoot
 removed-labels = refl
 
 -- a next key's answer, length and bytes

@@ -21,38 +21,62 @@ unfoldable pub insertedAll : List ℕ → List ℕ → ℕ → List ℕ
 insertedAll block [] value = block
 insertedAll block (x ∷ xs) value = insertedAll (insert block (x ∷ []) value .block) xs (value + 1)
 
--- 01: "the seven children 33 35 41 42 43 50 51 make a split of 6 cells"
-unfoldable pub sixth : List ℕ
-sixth = insertedAll (fresh 16) (0x33 ∷ 0x35 ∷ 0x41 ∷ 0x42 ∷ 0x43 ∷ 0x50 ∷ []) 0
+-- 01: "the seven children 33 35 41 42 43 50 51 make a split of 6 cells": the seventh, 51, in a block of so many cells
+unfoldable pub seventhIn : ℕ → Counted
+seventhIn cells = insert (insertedAll (fresh cells) (0x33 ∷ 0x35 ∷ 0x41 ∷ 0x42 ∷ 0x43 ∷ 0x50 ∷ []) 0) (0x51 ∷ []) 6
 
--- the seventh child, 51
-unfoldable pub seventh : Counted
-seventh = insert sixth (0x51 ∷ []) 6
+-- all of an insertion: the answer, the count and the root that it leaves, then the whole block
+unfoldable pub whole : Counted → List (List ℕ)
+whole inserted = (inserted .answer ∷ inserted .count ∷ rootOf (inserted .block) ∷ []) ∷ inserted .block ∷ []
 
--- a cell of the block that an insertion leaves
-abbrev cellOf : Counted → ℕ → List ℕ
-cellOf inserted c = memoryOf (inserted .block) c
+-- the end of 33 and 35
+abbrev pub end30 : List ℕ
+end30 = zeros 12 ++ word 0xFFFFFFFF ++ zeros 4 ++ word 0xFFFFFFFE ++ zeros 8
 
--- count and root, then the head, a mid and an end
-pub split-of-seven :
-    _≡_ {A = List (List ℕ)}
-    ((seventh .count ∷ rootOf (seventh .block) ∷ [])
-    ∷ cellOf seventh 7
-    ∷ cellOf seventh 6
-    ∷ cellOf seventh 3
-    ∷ [])
-    ((6 ∷ 0x000000FC ∷ [])
-    ∷ (zeros 16 ++ word 0x0000007C ++ word 0x000000DC ++ zeros 8)
-    ∷ (word 0x0000009C ++ zeros 4 ++ word 0x000000BC ++ zeros 20)
-    ∷ (zeros 24 ++ word 0x0000003C ++ zeros 4)
-    ∷ [])
-unfolding callsOpen freshIn fresh insertedAll sixth seventh
+-- of 41, 42 and 43
+abbrev pub end40 : List ℕ
+end40 = zeros 4 ++ word 0xFFFFFFFD ++ word 0xFFFFFFFC ++ word 0xFFFFFFFB ++ zeros 16
+
+-- of 50 and 51
+abbrev pub end50 : List ℕ
+end50 = word 0xFFFFFFFA ++ word 0xFFFFFFF9 ++ zeros 24
+
+-- the sparse cell of the first six, whose order word, AEF6, is the highest valid one
+abbrev pub sparseOfSix : List ℕ
+sparseOfSix =
+    word 0xFFFFFFFF
+    ++ word 0xFFFFFFFE
+    ++ word 0xFFFFFFFD
+    ++ word 0xFFFFFFFC
+    ++ word 0xFFFFFFFB
+    ++ word 0xFFFFFFFA
+    ++ word 0x33354142
+    ++ word 0x4350AEF6
+
+-- the block of the split, from cell 1 on: an end, the sparse that the insertion before left, the mid above that end, two ends, their mid,
+-- the head
+unfoldable pub splitBlock : List ℕ
+splitBlock =
+    zeros 32
+    ++ end30
+    ++ sparseOfSix
+    ++ (zeros 24 ++ word 0x0000003C ++ zeros 4)
+    ++ end40
+    ++ end50
+    ++ (word 0x0000009C ++ zeros 4 ++ word 0x000000BC ++ zeros 20)
+    ++ (zeros 16 ++ word 0x0000007C ++ word 0x000000DC ++ zeros 8)
+    ++ zeros 224
+    ++ (word 0x000000FC ++ zeros 16 ++ word 0x00000010 ++ zeros 4 ++ word 0x00000001)
+
+-- what the seventh gives, and every byte of the block
+pub split-of-seven : _≡_ {A = List (List ℕ)} (whole (seventhIn 16)) ((0 ∷ 6 ∷ 0x000000FC ∷ []) ∷ splitBlock ∷ [])
+unfolding callsOpen freshIn fresh insertedAll seventhIn whole splitBlock
 split-of-seven = refl
 
 -- H's prefix cell, the trailer after a second slot's snapshot of A
 pub prefix-and-slot-bytes :
     _≡_ {A = List (List ℕ)}
-    (cellOf sampleH 2 ∷ memoryOf (snapshot (sampleA .block) 2 .block) 3 ∷ [])
+    (memoryOf (sampleH .block) 2 ∷ memoryOf (snapshot (sampleA .block) 2 .block) 3 ∷ [])
     ((word 0x00000005 ++ word 0xFF000000 ++ zeros 20 ++ word 0x0000003A)
     ∷ (word 0x0000003B ++ zeros 4 ++ word 0x0000003B ++ zeros 4 ++ word 0x02000000 ++ word 0x00000004 ++ zeros 4 ++ word 0x00000001)
     ∷ [])

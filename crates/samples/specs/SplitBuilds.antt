@@ -8,6 +8,7 @@ use Rattle.nodes.specs.Written.{eightWords, chainBytes, headBytes, branchBytes}
 use Rattle.store.specs.Insert.{insert}
 use Rattle.store.specs.Computing.{callsOpen}
 use Rattle.samples.specs.Crafted.{unused}
+use Rattle.samples.specs.Pinned.{whole}
 use Rattle.samples.specs.Builds.{cellsIn, told}
 
 -- 88, C9, 05, FF, 46 and 07 at the positions 0 to 5, with the values 0 to 5
@@ -23,10 +24,8 @@ sixIn behind n = zeros 128 ++ sixChildren ++ zeros behind ++ eightWords 0x000000
 -- the end of 45 and 46, its mid, the old sparse, the end of 88, its mid, the ends of C9 and FF, their mid, the head. All ten are taken
 pub split-of-unordered :
     _≡_ {A = List (List ℕ)}
-    ((insert (sixIn 224 0x0000000D) (0x45 ∷ []) 9 .answer ∷ insert (sixIn 224 0x0000000D) (0x45 ∷ []) 9 .count ∷ [])
-    ∷ insert (sixIn 224 0x0000000D) (0x45 ∷ []) 9 .block
-    ∷ [])
-    ((0 ∷ 10 ∷ [])
+    (whole (insert (sixIn 224 0x0000000D) (0x45 ∷ []) 9))
+    ((0 ∷ 10 ∷ 0x0000017C ∷ [])
     ∷ (unused
     ++ eightWords 0 0 0 0 0 0xFFFFFFFD 0 0xFFFFFFFA
     ++ branchBytes 0x0000003C 0
@@ -41,7 +40,7 @@ pub split-of-unordered :
     ++ headBytes 0x0000005C 0x000000BC 0x000000FC 0x0000015C
     ++ eightWords 0x0000017C 0 0 0 0x00000000 0x0000000D 0x00000000 0x00000001)
     ∷ [])
-unfolding callsOpen
+unfolding callsOpen whole
 split-of-unordered = refl
 
 -- "deepest node first": the chain of 45 41 before all of the split, which is then one cell further on
@@ -61,10 +60,8 @@ split-above-chain = refl
 -- 01: "a copy with the child word replaced": of six children too; FF, at position 3, with 9
 pub sixth-replaced :
     _≡_ {A = List (List ℕ)}
-    ((insert (sixIn 32 0x00000007) (0xFF ∷ []) 9 .answer ∷ insert (sixIn 32 0x00000007) (0xFF ∷ []) 9 .count ∷ [])
-    ∷ insert (sixIn 32 0x00000007) (0xFF ∷ []) 9 .block
-    ∷ [])
-    ((0 ∷ 1 ∷ [])
+    (whole (insert (sixIn 32 0x00000007) (0xFF ∷ []) 9))
+    ((0 ∷ 1 ∷ 0x0000003E ∷ [])
     ∷ (unused
     ++ eightWords 0xFFFFFFFF 0xFFFFFFFE 0xFFFFFFFD 0xFFFFFFF6 0xFFFFFFFB 0xFFFFFFFA 0x88C905FF 0x460760E0
     ++ unused
@@ -73,17 +70,15 @@ pub sixth-replaced :
     ++ unused
     ++ eightWords 0x0000003E 0 0 0 0x00000000 0x00000007 0x00000000 0x00000001)
     ∷ [])
-unfolding callsOpen
+unfolding callsOpen whole
 sixth-replaced = refl
 
 -- 01, answer 7: "the entry takes more cells than are free": ten, and nine are free; nothing is counted and nothing altered
 pub one-cell-too-few :
     _≡_ {A = List (List ℕ)}
-    ((insert (sixIn 192 0x0000000C) (0x45 ∷ []) 9 .answer ∷ insert (sixIn 192 0x0000000C) (0x45 ∷ []) 9 .count ∷ [])
-    ∷ insert (sixIn 192 0x0000000C) (0x45 ∷ []) 9 .block
-    ∷ [])
-    ((7 ∷ 0 ∷ []) ∷ sixIn 192 0x0000000C ∷ [])
-unfolding callsOpen
+    (whole (insert (sixIn 192 0x0000000C) (0x45 ∷ []) 9))
+    ((7 ∷ 0 ∷ 0x0000009E ∷ []) ∷ sixIn 192 0x0000000C ∷ [])
+unfolding callsOpen whole
 one-cell-too-few = refl
 
 -- the split that this leaves, in a block of 15 cells: 4, 12 and 13 are free
@@ -105,18 +100,14 @@ splitOfAll =
     ++ unused
     ++ eightWords 0x0000017C 0 0 0 0x00000000 0x0000000F 0x00000000 0x00000001
 
--- 01: "Split: new end, mid and head, copied from the old where there are any.": another value of FF; then FE 41, which
--- takes a chain cell too and lacks it
+-- 01: "Split: new end, mid and head, copied from the old where there are any.": FE 41, which takes a chain cell too and lacks
+-- it; then another value of FF
 pub split-copied :
     _≡_ {A = List (List ℕ)}
-    ((insert splitOfAll (0xFF ∷ []) 9 .answer
-    ∷ insert splitOfAll (0xFF ∷ []) 9 .count
-    ∷ insert splitOfAll (0xFE ∷ 0x41 ∷ []) 9 .answer
-    ∷ insert splitOfAll (0xFE ∷ 0x41 ∷ []) 9 .count
-    ∷ [])
-    ∷ insert splitOfAll (0xFF ∷ []) 9 .block
-    ∷ [])
-    ((0 ∷ 3 ∷ 7 ∷ 0 ∷ [])
+    (whole (insert splitOfAll (0xFE ∷ 0x41 ∷ []) 9) ++ whole (insert splitOfAll (0xFF ∷ []) 9))
+    ((7 ∷ 0 ∷ 0x0000017C ∷ [])
+    ∷ splitOfAll
+    ∷ (0 ∷ 3 ∷ 0x000001BC ∷ [])
     ∷ (unused
     ++ eightWords 0 0 0 0 0 0xFFFFFFFD 0 0xFFFFFFFA
     ++ branchBytes 0x0000003C 0
@@ -133,5 +124,5 @@ pub split-copied :
     ++ headBytes 0x0000005C 0x000000BC 0x000000FC 0x0000019C
     ++ eightWords 0x000001BC 0 0 0 0x00000000 0x0000000F 0x00000000 0x00000001)
     ∷ [])
-unfolding callsOpen splitOfAll
+unfolding callsOpen whole splitOfAll
 split-copied = refl
