@@ -6,7 +6,7 @@ use Rattle.cells.specs.Bytes.{zeros}
 use Rattle.nodes.specs.Written.{words, chainBytes, eightWords}
 use Rattle.store.specs.Remove.{remove}
 use Rattle.store.specs.Computing.{callsOpen}
-use Rattle.removal_samples.specs.Blocks.{told}
+use Rattle.samples.specs.Told.{told, cellsIn}
 
 -- 43 with 5, and 41 to 44 and 50 to 53 below it: a split head with the prefix in its cell, behind bytes with no meaning (1), its mid (2), its ends (3
 -- and 4), a chain (5)
@@ -34,5 +34,5 @@ pub head-embedded-again :
     ∷ [])
     ∷ ((0 ∷ 1 ∷ 0x000000DB ∷ []) ∷ chainBytes 0x00000043 0x0000003C ∷ [])
     ∷ [])
-unfolding callsOpen words
+unfolding callsOpen told cellsIn words
 head-embedded-again = refl

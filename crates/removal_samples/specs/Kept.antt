@@ -6,7 +6,7 @@ use Rattle.cells.specs.Bytes.{zeros}
 use Rattle.nodes.specs.Written.{eightWords, chainBytes, sparseBytes, prefixBytes, headBytes}
 use Rattle.store.specs.Remove.{remove}
 use Rattle.store.specs.Computing.{callsOpen}
-use Rattle.removal_samples.specs.Blocks.{told}
+use Rattle.samples.specs.Told.{told, cellsIn}
 
 -- ten cells with a root, these first ones, the others zero
 abbrev tenCells : ℕ → List ℕ → List ℕ → List ℕ → List ℕ → List ℕ
@@ -30,7 +30,7 @@ pub replaced-in-split :
     ∷ eightWords 0x000000DC 0 0 0 0 0 0 0
     ∷ headBytes 0 0x000000FC 0 0
     ∷ [])
-unfolding callsOpen
+unfolding callsOpen told cellsIn
 replaced-in-split = refl
 
 -- 41 removed: the split of three loses a child and is a sparse cell
@@ -38,7 +38,7 @@ pub lost-from-split :
     _≡_ {A = List (List ℕ)}
     (told (remove fewInSplit (0x41 ∷ [])) (5 ∷ []))
     ((0 ∷ 1 ∷ 0x000000BE ∷ []) ∷ sparseBytes 0x0000009E 0xFFFFFFFC 0 0x42430000 0x00000006 ∷ [])
-unfolding callsOpen
+unfolding callsOpen told cellsIn
 lost-from-split = refl
 
 -- a chain of 41 (1) over a prefix with 7 (2) over a sparse cell of 50 and 51 (3); 51 is a chain of 60, 61 (4)
@@ -53,7 +53,7 @@ pub one-left-below-value :
     _≡_ {A = List (List ℕ)}
     (told (remove aboveSparse (0x41 ∷ 0x50 ∷ [])) (5 ∷ 6 ∷ 7 ∷ []))
     ((0 ∷ 3 ∷ 0x000000FB ∷ []) ∷ chainBytes 0x00000051 0x0000009A ∷ prefixBytes 7 0xFF000000 0x000000BB ∷ chainBytes 0x00000041 0x000000DF ∷ [])
-unfolding callsOpen
+unfolding callsOpen told cellsIn
 one-left-below-value = refl
 
 -- 41 51 60 61 removed: the whole chain goes, one makes a chain of 50
@@ -61,7 +61,7 @@ pub chain-gone :
     _≡_ {A = List (List ℕ)}
     (told (remove aboveSparse (0x41 ∷ 0x51 ∷ 0x60 ∷ 0x61 ∷ [])) (5 ∷ []))
     ((0 ∷ 3 ∷ 0x000000FB ∷ []) ∷ chainBytes 0x00000050 0xFFFFFFFE ∷ [])
-unfolding callsOpen
+unfolding callsOpen told cellsIn
 chain-gone = refl
 
 -- 41 removed: the prefix becomes its linked node, an old one, and the chain above takes a new cell
@@ -69,7 +69,7 @@ pub value-gone :
     _≡_ {A = List (List ℕ)}
     (told (remove aboveSparse (0x41 ∷ [])) (5 ∷ []))
     ((0 ∷ 1 ∷ 0x000000BB ∷ []) ∷ chainBytes 0x00000041 0x0000007E ∷ [])
-unfolding callsOpen
+unfolding callsOpen told cellsIn
 value-gone = refl
 
 -- chains of 41 and 42 over a sparse cell of 50 and 51: with one left, the characters above go before it in its new cell
@@ -77,5 +77,5 @@ pub joined-above :
     _≡_ {A = List (List ℕ)}
     (told (remove (tenCells 0x0000003A (chainBytes 0x00004142 0x0000005E) (sparseBytes 0xFFFFFFFE 0xFFFFFFFD 0 0x50510000 0x00000006) (zeros 32) (zeros 32)) (0x41 ∷ 0x42 ∷ 0x51 ∷ [])) (3 ∷ []))
     ((0 ∷ 1 ∷ 0x00000079 ∷ []) ∷ chainBytes 0x00414250 0xFFFFFFFE ∷ [])
-unfolding callsOpen
+unfolding callsOpen told cellsIn
 joined-above = refl

@@ -1,4 +1,3 @@
-pub mod Blocks
 pub mod Pinned
 pub mod Refusals
 pub mod Kept

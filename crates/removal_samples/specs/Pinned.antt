@@ -9,7 +9,7 @@ use Rattle.store.specs.Remove.{remove}
 use Rattle.store.specs.Computing.{callsOpen}
 use Rattle.samples.specs.Calls.{freshIn, fresh, sampleA, sampleE, sampleF, sampleG, sampleH}
 use Rattle.samples.specs.Pinned.{insertedAll, splitBlock}
-use Rattle.removal_samples.specs.Blocks.{told}
+use Rattle.samples.specs.Told.{told, cellsIn}
 
 -- 02, 1: "none makes NONE": 41, the only key, removed from A: the whole block, cell 1 with its bytes, the root 0; and once more, 11
 pub only-key-removed :
@@ -19,12 +19,12 @@ pub only-key-removed :
     ∷ (zeros 32 ++ chainBytes 0x00000041 0xFFFFFFFF ++ zeros 32 ++ eightWords 0x00000000 0 0 0 0x00000000 0x00000004 0x00000000 0x00000001)
     ∷ (11 ∷ 0 ∷ 0x00000000 ∷ [])
     ∷ [])
-unfolding callsOpen freshIn fresh sampleA
+unfolding callsOpen told cellsIn freshIn fresh sampleA
 only-key-removed = refl
 
 -- "two to six make a sparse written in rising order": 41 removed from G, whose sparse cell has 35 behind 41 and 43
 pub rewritten-rising : _≡_ {A = List (List ℕ)} (told (remove (sampleG .block) (0x41 ∷ [])) (2 ∷ [])) ((0 ∷ 1 ∷ 0x0000005E ∷ []) ∷ sparseBytes 0xFFFFFFFD 0x0000003A 0 0x35430000 0x00000006 ∷ [])
-unfolding callsOpen freshIn fresh sampleE sampleF sampleG
+unfolding callsOpen told cellsIn freshIn fresh sampleE sampleF sampleG
 rewritten-rising = refl
 
 -- "a prefix its linked node": 43 removed from H; "A value over NONE becomes a leaf": 43 48 41 removed from H
@@ -32,7 +32,7 @@ pub prefix-removed :
     _≡_ {A = List (List ℕ)}
     (told (remove (sampleH .block) (0x43 ∷ [])) (4 ∷ []) ++ told (remove (sampleH .block) (0x43 ∷ 0x48 ∷ 0x41 ∷ [])) (4 ∷ []))
     ((0 ∷ 1 ∷ 0x0000009B ∷ []) ∷ chainBytes 0x00000043 0x0000003A ∷ (0 ∷ 1 ∷ 0x0000009B ∷ []) ∷ chainBytes 0x00000043 0xFFFFFFFA ∷ [])
-unfolding callsOpen freshIn fresh sampleE sampleH
+unfolding callsOpen told cellsIn freshIn fresh sampleE sampleH
 prefix-removed = refl
 
 -- the split of 33 35 41 42 43 50 51, as `split-of-seven` of the samples computes it, 42 removed: six in a sparse cell, in rising order
@@ -40,7 +40,7 @@ pub six-left :
     _≡_ {A = List (List ℕ)}
     (told (remove splitBlock (0x42 ∷ [])) (2 ∷ []))
     ((0 ∷ 1 ∷ 0x0000005E ∷ []) ∷ eightWords 0xFFFFFFFF 0xFFFFFFFE 0xFFFFFFFD 0xFFFFFFFB 0xFFFFFFFA 0xFFFFFFF9 0x33354143 0x5051AEF6 ∷ [])
-unfolding callsOpen splitBlock
+unfolding callsOpen told cellsIn splitBlock
 six-left = refl
 
 -- with 52 as the eighth, 33 removed: "keeps more than six stays a split", its end, mid and head new, in this order
@@ -52,7 +52,7 @@ pub seven-left :
     ∷ eightWords 0 0 0 0 0 0 0x000000BC 0
     ∷ headBytes 0x000000DC 0x0000011C 0 0
     ∷ [])
-unfolding callsOpen splitBlock
+unfolding callsOpen told cellsIn splitBlock
 seven-left = refl
 
 -- "Split cells with no pointer left aren't rebuilt.": 33 is alone in its end and that in its mid, and only the head is new
@@ -60,5 +60,5 @@ pub emptied-cells :
     _≡_ {A = List (List ℕ)}
     (told (remove (insertedAll (fresh 24) (0x33 ∷ 0x41 ∷ 0x42 ∷ 0x43 ∷ 0x50 ∷ 0x51 ∷ 0x52 ∷ 0x53 ∷ []) 0) (0x33 ∷ [])) (5 ∷ []))
     ((0 ∷ 1 ∷ 0x000000BC ∷ []) ∷ headBytes 0 0x0000011C 0 0 ∷ [])
-unfolding callsOpen freshIn fresh insertedAll
+unfolding callsOpen told cellsIn freshIn fresh insertedAll
 emptied-cells = refl

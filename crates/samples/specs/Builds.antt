@@ -5,24 +5,13 @@ use mathlib.Core.List.{List, [], _∷_, _++_}
 use Prim.Native.Nat.{ℕ, _+_}
 use lib.ListN.{getD}
 use Rattle.cells.specs.Bytes.{zeros}
-use Rattle.cells.specs.Memory.{memoryOf}
 use Rattle.blocks.specs.Refusal.{Counted}
 use Rattle.store.specs.Insert.{insert}
 use Rattle.store.specs.Computing.{callsOpen}
 use Rattle.samples.specs.Line.{word}
-use Rattle.samples.specs.Calls.{freshIn, fresh, rootOf}
-use Rattle.samples.specs.Pinned.{seventhIn, whole, end30, end40, end50, sparseOfSix, splitBlock, split-of-seven}
-
--- the bytes of some cells of a block
-unfoldable pub cellsIn : List ℕ → List ℕ → List (List ℕ)
-cellsIn block [] = []
-cellsIn block (c ∷ cs) = memoryOf block c ∷ cellsIn block cs
-
--- the count of an insertion and the root that it leaves, then some of its cells
-unfoldable pub told : Counted → List ℕ → List (List ℕ)
-told inserted cs =
-    let block = inserted .block in
-    (inserted .count ∷ rootOf block ∷ []) ∷ cellsIn block cs
+use Rattle.samples.specs.Calls.{freshIn, fresh}
+use Rattle.samples.specs.Told.{told, whole, cellsIn}
+use Rattle.samples.specs.Pinned.{seventhIn, end30, end40, end50, sparseOfSix, fromFirstMid, splitBlock, split-of-seven}
 
 -- 41 with 0, then 41 42 with 1, in a block of so many cells
 unfoldable pub overLeafIn : ℕ → Counted
@@ -49,7 +38,7 @@ leaf-put-back = refl
 pub prefix-replaced :
     _≡_ {A = List (List ℕ)}
     (told (insert leafBlock (0x41 ∷ []) 9) (1 ∷ 2 ∷ 3 ∷ 5 ∷ []))
-    ((2 ∷ 0x000000BB ∷ [])
+    ((0 ∷ 2 ∷ 0x000000BB ∷ [])
     ∷ (word 0x00000009 ++ word 0xFF000000 ++ zeros 20 ++ word 0x0000005B)
     ∷ (zeros 27 ++ (0x42 ∷ word 0xFFFFFFFE))
     ∷ (word 0x00000000 ++ word 0xFF000000 ++ zeros 20 ++ word 0x0000005B)
@@ -69,11 +58,7 @@ endBlock =
     zeros 32
     ++ end30
     ++ (word 0xFFFFFFF8 ++ zeros 28)
-    ++ (zeros 24 ++ word 0x0000003C ++ zeros 4)
-    ++ end40
-    ++ end50
-    ++ (word 0x0000009C ++ zeros 4 ++ word 0x000000BC ++ zeros 20)
-    ++ (zeros 16 ++ word 0x0000007C ++ word 0x000000DC ++ zeros 8)
+    ++ fromFirstMid
     ++ (word 0x0000009C ++ zeros 4 ++ word 0x000000BC ++ zeros 16 ++ word 0x0000005C)
     ++ (zeros 16 ++ word 0x0000007C ++ word 0x0000011C ++ zeros 8)
     ++ zeros 160
@@ -88,7 +73,7 @@ end-not-there = refl
 pub mid-not-there :
     _≡_ {A = List (List ℕ)}
     (told (insert endBlock (0xC8 ∷ []) 8) (6 ∷ 7 ∷ 10 ∷ []))
-    ((3 ∷ 0x0000015C ∷ [])
+    ((0 ∷ 3 ∷ 0x0000015C ∷ [])
     ∷ (word 0xFFFFFFF7 ++ zeros 28)
     ∷ (zeros 4 ++ word 0x000000DC ++ zeros 24)
     ∷ (zeros 16 ++ word 0x0000007C ++ word 0x0000011C ++ zeros 4 ++ word 0x000000FC)
@@ -109,7 +94,7 @@ endsOnSparseIn cells = insert (insertedBelow (fresh cells) (0x42 ∷ 0x43 ∷ []
 pub prefix-over-sparse :
     _≡_ {A = List (List ℕ)}
     (told (endsOnSparseIn 8) (2 ∷ 1 ∷ 4 ∷ []))
-    ((2 ∷ 0x0000009B ∷ [])
+    ((0 ∷ 2 ∷ 0x0000009B ∷ [])
     ∷ (word 0xFFFFFFFF ++ word 0xFFFFFFFE ++ zeros 16 ++ word 0x42430000 ++ word 0x00000006)
     ∷ (word 0x00000002 ++ word 0xFF000000 ++ zeros 20 ++ word 0x0000005E)
     ∷ (zeros 27 ++ (0x41 ∷ word 0x0000003F))
@@ -121,6 +106,16 @@ prefix-over-sparse = refl
 unfoldable pub sevenBelowIn : ℕ → List ℕ
 sevenBelowIn cells = insertedBelow (fresh cells) (0x33 ∷ 0x35 ∷ 0x41 ∷ 0x42 ∷ 0x43 ∷ 0x50 ∷ 0x51 ∷ []) 0
 
+-- the mid above the first end, two ends, their mid, the head, the chain above it: cells 4 to 9
+abbrev fromFirstMidBelow : List ℕ
+fromFirstMidBelow =
+    (zeros 24 ++ word 0x0000003C ++ zeros 4)
+    ++ end40
+    ++ end50
+    ++ (word 0x000000BC ++ zeros 4 ++ word 0x000000DC ++ zeros 20)
+    ++ (zeros 16 ++ word 0x0000009C ++ word 0x000000FC ++ zeros 8)
+    ++ (zeros 27 ++ (0x41 ∷ word 0x0000011C))
+
 -- the block that this leaves
 unfoldable pub blockBelow : List ℕ
 blockBelow =
@@ -128,12 +123,7 @@ blockBelow =
     ++ end30
     ++ sparseOfSix
     ++ (zeros 27 ++ (0x41 ∷ word 0x0000005E))
-    ++ (zeros 24 ++ word 0x0000003C ++ zeros 4)
-    ++ end40
-    ++ end50
-    ++ (word 0x000000BC ++ zeros 4 ++ word 0x000000DC ++ zeros 20)
-    ++ (zeros 16 ++ word 0x0000009C ++ word 0x000000FC ++ zeros 8)
-    ++ (zeros 27 ++ (0x41 ∷ word 0x0000011C))
+    ++ fromFirstMidBelow
     ++ zeros 160
     ++ (word 0x0000013B ++ zeros 16 ++ word 0x00000010 ++ zeros 4 ++ word 0x00000001)
 
@@ -149,12 +139,7 @@ prefixBlock =
     ++ end30
     ++ (word 0x00000007 ++ word 0xFF000000 ++ zeros 20 ++ word 0x0000011C)
     ++ (zeros 27 ++ (0x41 ∷ word 0x0000005F))
-    ++ (zeros 24 ++ word 0x0000003C ++ zeros 4)
-    ++ end40
-    ++ end50
-    ++ (word 0x000000BC ++ zeros 4 ++ word 0x000000DC ++ zeros 20)
-    ++ (zeros 16 ++ word 0x0000009C ++ word 0x000000FC ++ zeros 8)
-    ++ (zeros 27 ++ (0x41 ∷ word 0x0000011C))
+    ++ fromFirstMidBelow
     ++ zeros 160
     ++ (word 0x0000007B ++ zeros 16 ++ word 0x00000010 ++ zeros 4 ++ word 0x00000001)
 
@@ -167,7 +152,7 @@ prefix-over-split = refl
 pub split-below-prefix :
     _≡_ {A = List (List ℕ)}
     (told (insert prefixBlock (0x41 ∷ 0x52 ∷ []) 8) (9 ∷ 10 ∷ 11 ∷ 12 ∷ 13 ∷ []))
-    ((5 ∷ 0x000001BB ∷ [])
+    ((0 ∷ 5 ∷ 0x000001BB ∷ [])
     ∷ (word 0xFFFFFFFA ++ word 0xFFFFFFF9 ++ word 0xFFFFFFF7 ++ zeros 20)
     ∷ (word 0x000000BC ++ zeros 4 ++ word 0x0000013C ++ zeros 20)
     ∷ (zeros 16 ++ word 0x0000009C ++ word 0x0000015C ++ zeros 8)

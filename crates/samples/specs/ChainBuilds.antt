@@ -8,7 +8,7 @@ use Rattle.nodes.specs.Written.{eightWords, chainBytes, sparseBytes, prefixByte
 use Rattle.store.specs.Insert.{insert}
 use Rattle.store.specs.Computing.{callsOpen}
 use Rattle.samples.specs.Crafted.{unused, sixCells}
-use Rattle.samples.specs.Builds.{cellsIn, told}
+use Rattle.samples.specs.Told.{told, cellsIn}
 
 -- 43 48 41 with 0, as sample E leaves it: one run in cell 1
 abbrev oneRun : List ℕ
@@ -19,7 +19,7 @@ oneRun = sixCells (chainBytes 0x00434841 0xFFFFFFFF) unused unused unused 0x0000
 pub run-copied :
     _≡_ {A = List (List ℕ)}
     (told (insert oneRun (0x43 ∷ 0x48 ∷ 0x41 ∷ []) 1) (1 ∷ 2 ∷ 3 ∷ []))
-    ((1 ∷ 0x00000059 ∷ []) ∷ chainBytes 0x00434841 0xFFFFFFFF ∷ chainBytes 0x00434841 0xFFFFFFFE ∷ unused ∷ [])
+    ((0 ∷ 1 ∷ 0x00000059 ∷ []) ∷ chainBytes 0x00434841 0xFFFFFFFF ∷ chainBytes 0x00434841 0xFFFFFFFE ∷ unused ∷ [])
 unfolding callsOpen told cellsIn
 run-copied = refl
 
@@ -32,10 +32,10 @@ pub run-parted :
     ∷ told (insert oneRun (0x43 ∷ 0x41 ∷ []) 1) (2 ∷ 3 ∷ 4 ∷ [])
     ∷ told (insert oneRun (0x43 ∷ 0x52 ∷ 0x53 ∷ []) 1) (2 ∷ 3 ∷ 4 ∷ [])
     ∷ [])
-    (((2 ∷ 0x0000007A ∷ []) ∷ sparseBytes 0xFFFFFFFF 0xFFFFFFFE 0 0x41520000 0x00000006 ∷ chainBytes 0x00004348 0x0000005E ∷ unused ∷ [])
-    ∷ ((2 ∷ 0x0000007A ∷ []) ∷ sparseBytes 0xFFFFFFFE 0xFFFFFFFF 0 0x35410000 0x00000006 ∷ chainBytes 0x00004348 0x0000005E ∷ unused ∷ [])
-    ∷ ((2 ∷ 0x0000007B ∷ []) ∷ sparseBytes 0xFFFFFFFE 0x0000003B 0 0x41480000 0x00000006 ∷ chainBytes 0x00000043 0x0000005E ∷ unused ∷ [])
-    ∷ ((3 ∷ 0x0000009B ∷ [])
+    (((0 ∷ 2 ∷ 0x0000007A ∷ []) ∷ sparseBytes 0xFFFFFFFF 0xFFFFFFFE 0 0x41520000 0x00000006 ∷ chainBytes 0x00004348 0x0000005E ∷ unused ∷ [])
+    ∷ ((0 ∷ 2 ∷ 0x0000007A ∷ []) ∷ sparseBytes 0xFFFFFFFE 0xFFFFFFFF 0 0x35410000 0x00000006 ∷ chainBytes 0x00004348 0x0000005E ∷ unused ∷ [])
+    ∷ ((0 ∷ 2 ∷ 0x0000007B ∷ []) ∷ sparseBytes 0xFFFFFFFE 0x0000003B 0 0x41480000 0x00000006 ∷ chainBytes 0x00000043 0x0000005E ∷ unused ∷ [])
+    ∷ ((0 ∷ 3 ∷ 0x0000009B ∷ [])
     ∷ chainBytes 0x00000053 0xFFFFFFFE
     ∷ sparseBytes 0x0000003B 0x0000005B 0 0x48520000 0x00000006
     ∷ chainBytes 0x00000043 0x0000007E
@@ -49,12 +49,12 @@ run-parted = refl
 pub run-prefixed :
     _≡_ {A = List (List (List ℕ))}
     (told (insert oneRun (0x43 ∷ 0x48 ∷ []) 5) (1 ∷ 2 ∷ 3 ∷ []) ∷ told (insert oneRun (0x43 ∷ 0x48 ∷ 0x41 ∷ 0x42 ∷ []) 1) (2 ∷ 3 ∷ 4 ∷ []) ∷ [])
-    (((2 ∷ 0x0000007A ∷ [])
+    (((0 ∷ 2 ∷ 0x0000007A ∷ [])
     ∷ chainBytes 0x00434841 0xFFFFFFFF
     ∷ prefixBytes 0x00000005 0xFF000000 0x0000003B
     ∷ chainBytes 0x00004348 0x0000005F
     ∷ [])
-    ∷ ((3 ∷ 0x00000099 ∷ [])
+    ∷ ((0 ∷ 3 ∷ 0x00000099 ∷ [])
     ∷ chainBytes 0x00000042 0xFFFFFFFE
     ∷ prefixBytes 0x00000000 0xFF000000 0x0000005B
     ∷ chainBytes 0x00434841 0x0000007F
@@ -87,7 +87,7 @@ pub run-below-prefix :
     ((insert runBelowPrefix (0x43 ∷ 0x48 ∷ 0x41 ∷ []) 1 .answer ∷ [])
     ∷ told (insert roomier (0x43 ∷ 0x48 ∷ 0x41 ∷ []) 1) (1 ∷ 4 ∷ 5 ∷ 6 ∷ []))
     ((7 ∷ [])
-    ∷ (3 ∷ 0x000000DA ∷ [])
+    ∷ (0 ∷ 3 ∷ 0x000000DA ∷ [])
     ∷ chainBytes 0x00434841 0xFFFFFFFF
     ∷ chainBytes 0x00000041 0xFFFFFFFE
     ∷ prefixBytes 0x00000005 0xFF000000 0x0000009B
@@ -108,7 +108,7 @@ longRun = sixCells (fullRun 0xFFFFFFFF) (chainBytes 0x00000041 0x00000020) unuse
 pub full-run-copied :
     _≡_ {A = List (List ℕ)}
     (told (insert longRun (replicate 29 0x41) 1) (3 ∷ 4 ∷ []))
-    ((2 ∷ 0x0000009B ∷ []) ∷ fullRun 0xFFFFFFFE ∷ chainBytes 0x00000041 0x00000060 ∷ [])
+    ((0 ∷ 2 ∷ 0x0000009B ∷ []) ∷ fullRun 0xFFFFFFFE ∷ chainBytes 0x00000041 0x00000060 ∷ [])
 unfolding callsOpen told cellsIn
 full-run-copied = refl
 
@@ -120,11 +120,11 @@ threeOfG = sixCells unused (sparseBytes 0xFFFFFFFE 0xFFFFFFFD 0xFFFFFFFC 0x41433
 pub positions-kept :
     _≡_ {A = List (List (List ℕ))}
     (told (insert threeOfG (0x35 ∷ []) 9) (1 ∷ 2 ∷ []) ∷ told (insert threeOfG (0x41 ∷ []) 9) (1 ∷ 3 ∷ []) ∷ [])
-    (((1 ∷ 0x0000003E ∷ [])
+    (((0 ∷ 1 ∷ 0x0000003E ∷ [])
     ∷ sparseBytes 0xFFFFFFFE 0xFFFFFFFD 0xFFFFFFF6 0x41433500 0x00000026
     ∷ sparseBytes 0xFFFFFFFE 0xFFFFFFFD 0xFFFFFFFC 0x41433500 0x00000026
     ∷ [])
-    ∷ ((1 ∷ 0x0000003E ∷ []) ∷ sparseBytes 0xFFFFFFF6 0xFFFFFFFD 0xFFFFFFFC 0x41433500 0x00000026 ∷ unused ∷ [])
+    ∷ ((0 ∷ 1 ∷ 0x0000003E ∷ []) ∷ sparseBytes 0xFFFFFFF6 0xFFFFFFFD 0xFFFFFFFC 0x41433500 0x00000026 ∷ unused ∷ [])
     ∷ [])
 unfolding callsOpen told cellsIn
 positions-kept = refl
@@ -138,10 +138,10 @@ pub appended-anywhere :
     ∷ told (insert threeOfG (0x50 ∷ []) 9) (1 ∷ [])
     ∷ told (insert threeOfG (0x42 ∷ 0x44 ∷ []) 9) (1 ∷ 3 ∷ [])
     ∷ [])
-    (((1 ∷ 0x0000003E ∷ []) ∷ eightWords 0xFFFFFFFE 0xFFFFFFFD 0xFFFFFFFC 0xFFFFFFF6 0 0 0x41433520 0x000000E7 ∷ [])
-    ∷ ((1 ∷ 0x0000003E ∷ []) ∷ eightWords 0xFFFFFFFE 0xFFFFFFFD 0xFFFFFFFC 0xFFFFFFF6 0 0 0x41433542 0x00000146 ∷ [])
-    ∷ ((1 ∷ 0x0000003E ∷ []) ∷ eightWords 0xFFFFFFFE 0xFFFFFFFD 0xFFFFFFFC 0xFFFFFFF6 0 0 0x41433550 0x000002AE ∷ [])
-    ∷ ((2 ∷ 0x0000007E ∷ [])
+    (((0 ∷ 1 ∷ 0x0000003E ∷ []) ∷ eightWords 0xFFFFFFFE 0xFFFFFFFD 0xFFFFFFFC 0xFFFFFFF6 0 0 0x41433520 0x000000E7 ∷ [])
+    ∷ ((0 ∷ 1 ∷ 0x0000003E ∷ []) ∷ eightWords 0xFFFFFFFE 0xFFFFFFFD 0xFFFFFFFC 0xFFFFFFF6 0 0 0x41433542 0x00000146 ∷ [])
+    ∷ ((0 ∷ 1 ∷ 0x0000003E ∷ []) ∷ eightWords 0xFFFFFFFE 0xFFFFFFFD 0xFFFFFFFC 0xFFFFFFF6 0 0 0x41433550 0x000002AE ∷ [])
+    ∷ ((0 ∷ 2 ∷ 0x0000007E ∷ [])
     ∷ chainBytes 0x00000044 0xFFFFFFF6
     ∷ eightWords 0xFFFFFFFE 0xFFFFFFFD 0xFFFFFFFC 0x0000003B 0 0 0x41433542 0x00000146
     ∷ [])

@@ -10,7 +10,7 @@ use Rattle.blocks.specs.Read.{validate, get}
 use Rattle.store.specs.Insert.{insert}
 use Rattle.store.specs.Computing.{callsOpen}
 use Rattle.samples.specs.Calls.{freshIn}
-use Rattle.samples.specs.Builds.{cellsIn, told}
+use Rattle.samples.specs.Told.{told, cellsIn}
 
 -- 43 with 5 in a fresh block of an edition, then another key with 0
 abbrev below43 : ℕ → List ℕ → Counted
@@ -21,13 +21,13 @@ below43 edition key = insert (insert (freshIn edition 8) (0x43 ∷ []) 5 .block)
 pub run-below-value :
     _≡_ {A = List (List (List ℕ))}
     (told (below43 2 (0x48 ∷ 0x41 ∷ [])) (1 ∷ 2 ∷ 3 ∷ 4 ∷ []) ∷ told (below43 1 (0x48 ∷ 0x41 ∷ [])) (2 ∷ 3 ∷ 4 ∷ []) ∷ [])
-    (((2 ∷ 0x0000007B ∷ [])
+    (((0 ∷ 2 ∷ 0x0000007B ∷ [])
     ∷ chainBytes 0x00000043 0xFFFFFFFA
     ∷ eightWords 0x00000005 0x1A000000 0 0 0 0 0x00004841 0xFFFFFFFF
     ∷ chainBytes 0x00000043 0x0000005F
     ∷ replicate 32 0x00
     ∷ [])
-    ∷ ((3 ∷ 0x0000009B ∷ []) ∷ chainBytes 0x00004841 0xFFFFFFFF ∷ prefixBytes 0x00000005 0xFF000000 0x0000005A ∷ chainBytes 0x00000043 0x0000007F ∷ [])
+    ∷ ((0 ∷ 3 ∷ 0x0000009B ∷ []) ∷ chainBytes 0x00004841 0xFFFFFFFF ∷ prefixBytes 0x00000005 0xFF000000 0x0000005A ∷ chainBytes 0x00000043 0x0000007F ∷ [])
     ∷ [])
 unfolding callsOpen words freshIn told cellsIn
 run-below-value = refl
@@ -37,11 +37,11 @@ run-below-value = refl
 pub run-of-twenty-three :
     _≡_ {A = List (List (List ℕ))}
     (told (below43 2 (replicate 23 0x41)) (2 ∷ 3 ∷ []) ∷ told (below43 2 (replicate 24 0x41)) (2 ∷ 3 ∷ 4 ∷ []) ∷ [])
-    (((2 ∷ 0x0000007B ∷ [])
+    (((0 ∷ 2 ∷ 0x0000007B ∷ [])
     ∷ ((0x00 ∷ 0x00 ∷ 0x00 ∷ 0x05 ∷ 0x05 ∷ []) ++ replicate 23 0x41 ++ (0xFF ∷ 0xFF ∷ 0xFF ∷ 0xFF ∷ []))
     ∷ chainBytes 0x00000043 0x0000005F
     ∷ [])
-    ∷ ((3 ∷ 0x0000009B ∷ [])
+    ∷ ((0 ∷ 3 ∷ 0x0000009B ∷ [])
     ∷ ((0x00 ∷ 0x00 ∷ 0x00 ∷ 0x00 ∷ []) ++ replicate 24 0x41 ++ (0xFF ∷ 0xFF ∷ 0xFF ∷ 0xFF ∷ []))
     ∷ prefixBytes 0x00000005 0xFF000000 0x00000044
     ∷ chainBytes 0x00000043 0x0000007F
@@ -59,12 +59,12 @@ runBelow = below43 2 (0x48 ∷ 0x41 ∷ []) .block
 pub value-replaced :
     _≡_ {A = List (List (List ℕ))}
     (told (insert runBelow (0x43 ∷ []) 9) (1 ∷ 2 ∷ 4 ∷ []) ∷ told (insert runBelow (0x43 ∷ 0x48 ∷ 0x42 ∷ []) 9) (1 ∷ 2 ∷ 4 ∷ 5 ∷ []) ∷ [])
-    (((2 ∷ 0x0000009B ∷ [])
+    (((0 ∷ 2 ∷ 0x0000009B ∷ [])
     ∷ prefixBytes 0x00000009 0xFF000000 0x0000005A
     ∷ eightWords 0x00000005 0x1A000000 0 0 0 0 0x00004841 0xFFFFFFFF
     ∷ chainBytes 0x00000043 0x0000003F
     ∷ [])
-    ∷ ((3 ∷ 0x000000BB ∷ [])
+    ∷ ((0 ∷ 3 ∷ 0x000000BB ∷ [])
     ∷ sparseBytes 0xFFFFFFFF 0xFFFFFFF6 0 0x41420000 0x00000006
     ∷ eightWords 0x00000005 0x1A000000 0 0 0 0 0x00004841 0xFFFFFFFF
     ∷ eightWords 0x00000005 0x1B000000 0 0 0 0 0x00000048 0x0000003E
@@ -86,7 +86,7 @@ pub both-kinds :
     ++ (validate (bothKinds .block)
     ∷ map (λ key. get (bothKinds .block) key .value) ((0x43 ∷ []) ∷ (0x43 ∷ 0x48 ∷ []) ∷ (0x43 ∷ 0x48 ∷ 0x41 ∷ []) ∷ []))
     ∷ [])
-    ((3 ∷ 0x000000BB ∷ [])
+    ((0 ∷ 3 ∷ 0x000000BB ∷ [])
     ∷ prefixBytes 0x00000007 0xFF000000 0x0000005B
     ∷ eightWords 0x00000005 0x1B000000 0 0 0 0 0x00000048 0x0000003F
     ∷ chainBytes 0x00000043 0x0000009F
@@ -110,8 +110,8 @@ sixBelow edition =
 pub split-below-value :
     _≡_ {A = List (List (List ℕ))}
     (told (insert (sixBelow 2) (0x43 ∷ 0x51 ∷ []) 6) (9 ∷ 10 ∷ []) ∷ told (insert (sixBelow 1) (0x43 ∷ 0x51 ∷ []) 6) (9 ∷ 10 ∷ []) ∷ [])
-    (((7 ∷ 0x0000015B ∷ []) ∷ eightWords 0x00000005 0x1C000000 0 0 0x000000BC 0x0000011C 0 0 ∷ chainBytes 0x00000043 0x0000013F ∷ [])
-    ∷ ((0 ∷ 0x0000007B ∷ []) ∷ replicate 32 0x00 ∷ replicate 32 0x00 ∷ [])
+    (((0 ∷ 7 ∷ 0x0000015B ∷ []) ∷ eightWords 0x00000005 0x1C000000 0 0 0x000000BC 0x0000011C 0 0 ∷ chainBytes 0x00000043 0x0000013F ∷ [])
+    ∷ ((7 ∷ 0 ∷ 0x0000007B ∷ []) ∷ replicate 32 0x00 ∷ replicate 32 0x00 ∷ [])
     ∷ [])
 unfolding callsOpen words told cellsIn
 split-below-value = refl

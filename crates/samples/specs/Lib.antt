@@ -2,6 +2,7 @@ pub mod Line
 pub mod Bytes
 pub mod Calls
 pub mod Samples
+pub mod Told
 pub mod Pinned
 pub mod Foreign
 pub mod FreeCells

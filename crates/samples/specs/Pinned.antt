@@ -15,6 +15,7 @@ use Rattle.snapshots.specs.Computing.{snapshotsOpen}
 use Rattle.store.specs.Computing.{callsOpen}
 use Rattle.samples.specs.Line.{word}
 use Rattle.samples.specs.Calls.{freshIn, fresh, rootOf, sampleA, sampleE, sampleH}
+use Rattle.samples.specs.Told.{whole}
 
 -- one character each, in turn, with the values from one on
 unfoldable pub insertedAll : List ℕ → List ℕ → ℕ → List ℕ
@@ -24,10 +25,6 @@ insertedAll block (x ∷ xs) value = insertedAll (insert block (x ∷ []) value 
 -- 01: "the seven children 33 35 41 42 43 50 51 make a split of 6 cells": the seventh, 51, in a block of so many cells
 unfoldable pub seventhIn : ℕ → Counted
 seventhIn cells = insert (insertedAll (fresh cells) (0x33 ∷ 0x35 ∷ 0x41 ∷ 0x42 ∷ 0x43 ∷ 0x50 ∷ []) 0) (0x51 ∷ []) 6
-
--- all of an insertion: the answer, the count and the root that it leaves, then the whole block
-unfoldable pub whole : Counted → List (List ℕ)
-whole inserted = (inserted .answer ∷ inserted .count ∷ rootOf (inserted .block) ∷ []) ∷ inserted .block ∷ []
 
 -- the end of 33 and 35
 abbrev pub end30 : List ℕ
@@ -53,18 +50,22 @@ sparseOfSix =
     ++ word 0x33354142
     ++ word 0x4350AEF6
 
--- the block of the split, from cell 1 on: an end, the sparse that the insertion before left, the mid above that end, two ends, their mid,
--- the head
+-- the mid above the first end, two ends, their mid, the head: cells 3 to 7
+abbrev pub fromFirstMid : List ℕ
+fromFirstMid =
+    (zeros 24 ++ word 0x0000003C ++ zeros 4)
+    ++ end40
+    ++ end50
+    ++ (word 0x0000009C ++ zeros 4 ++ word 0x000000BC ++ zeros 20)
+    ++ (zeros 16 ++ word 0x0000007C ++ word 0x000000DC ++ zeros 8)
+
+-- the block of the split: the sparse that the insertion before left is in cell 2
 unfoldable pub splitBlock : List ℕ
 splitBlock =
     zeros 32
     ++ end30
     ++ sparseOfSix
-    ++ (zeros 24 ++ word 0x0000003C ++ zeros 4)
-    ++ end40
-    ++ end50
-    ++ (word 0x0000009C ++ zeros 4 ++ word 0x000000BC ++ zeros 20)
-    ++ (zeros 16 ++ word 0x0000007C ++ word 0x000000DC ++ zeros 8)
+    ++ fromFirstMid
     ++ zeros 224
     ++ (word 0x000000FC ++ zeros 16 ++ word 0x00000010 ++ zeros 4 ++ word 0x00000001)
 

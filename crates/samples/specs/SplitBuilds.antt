@@ -8,8 +8,7 @@ use Rattle.nodes.specs.Written.{eightWords, chainBytes, headBytes, branchBytes}
 use Rattle.store.specs.Insert.{insert}
 use Rattle.store.specs.Computing.{callsOpen}
 use Rattle.samples.specs.Crafted.{unused}
-use Rattle.samples.specs.Pinned.{whole}
-use Rattle.samples.specs.Builds.{cellsIn, told}
+use Rattle.samples.specs.Told.{told, whole, cellsIn}
 
 -- 88, C9, 05, FF, 46 and 07 at the positions 0 to 5, with the values 0 to 5
 abbrev sixChildren : List ℕ
@@ -47,7 +46,7 @@ split-of-unordered = refl
 pub split-above-chain :
     _≡_ {A = List (List ℕ)}
     (told (insert (sixIn 256 0x0000000E) (0x45 ∷ 0x41 ∷ []) 9) (1 ∷ 2 ∷ 3 ∷ 5 ∷ 12 ∷ []))
-    ((11 ∷ 0x0000019C ∷ [])
+    ((0 ∷ 11 ∷ 0x0000019C ∷ [])
     ∷ chainBytes 0x00000041 0xFFFFFFF6
     ∷ eightWords 0 0 0 0 0 0xFFFFFFFD 0 0xFFFFFFFA
     ∷ branchBytes 0x0000005C 0
