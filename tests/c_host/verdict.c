@@ -52,6 +52,12 @@ static uint8_t on_day(uint32_t year, uint32_t month, uint32_t day) {
     return answer_of_verdict(&block, q);
 }
 
+/* What a held value gets on a day. */
+static uint8_t held_on(uint32_t value, uint32_t year, uint32_t month, uint32_t day) {
+    CHECK(answer_of_insert(&block, "A", 1, value) == REGISTER_DONE);
+    return on_day(year, month, day);
+}
+
 static void readings(void) {
     static const float refused[] = {NAN, -NAN, INFINITY, -INFINITY, 1000, -1000, 3.4e38f};
     for (uint32_t unit = REGISTER_CELSIUS; unit <= REGISTER_FAHRENHEIT; unit++) {
@@ -118,7 +124,10 @@ static void dates(void) {
     CHECK(on_day(2000, 1, 1) == REGISTER_DONE);
     CHECK(on_day(2199, 12, 31) == REGISTER_DONE);
     CHECK(on_day(2024, 2, 29) == REGISTER_DONE);
-    CHECK(on_day(2100, 2, 29) == REGISTER_DONE);
+    CHECK(on_day(2000, 2, 29) == REGISTER_DONE);
+    CHECK(on_day(2104, 2, 29) == REGISTER_DONE);
+    CHECK(on_day(2100, 2, 28) == REGISTER_DONE);
+    CHECK(on_day(2100, 2, 29) == REGISTER_BAD_TODAY);
     CHECK(on_day(2025, 2, 29) == REGISTER_BAD_TODAY);
     CHECK(on_day(2024, 2, 30) == REGISTER_BAD_TODAY);
     CHECK(on_day(2025, 4, 31) == REGISTER_BAD_TODAY);
@@ -132,6 +141,15 @@ static void dates(void) {
     CHECK(on_day(2025, 3 + 256, 7) == REGISTER_BAD_TODAY);
     CHECK(on_day(2025, 3, 7 + 256) == REGISTER_BAD_TODAY);
     CHECK(on_day(0xFFFFFFFF, 0xFFFFFFFF, 0xFFFFFFFF) == REGISTER_BAD_TODAY);
+}
+
+/* 29 February 2100 is held as 1,075,293 and is no date; the day before is good through its end. */
+static void held_dates(void) {
+    CHECK(held_on(1075293, 2100, 2, 28) == REGISTER_HELD_NO_DATE);
+    CHECK(held_on(1075292, 2100, 2, 28) == REGISTER_DONE);
+    CHECK(held_on(1075292, 2100, 3, 1) == REGISTER_EXPIRED);
+    CHECK(held_on(2104 * 512 + 2 * 32 + 29, 2104, 2, 29) == REGISTER_DONE);
+    good_block();
 }
 
 /* Everything is wrong at first; each answer shows when the ones before it are put right. */
@@ -184,5 +202,6 @@ void test_verdict(void) {
     gates();
     beads();
     dates();
+    held_dates();
     order();
 }

@@ -10,7 +10,7 @@ use borrow.Author.Tests.{lt-ltb, le-ltb, le-leb, lt-leb, eq-eqb, ne-eqb, leb-tru
 use Rattle.calendar.specs.declared.Year.{Year}
 use Rattle.calendar.specs.declared.Month.{Month}
 use Rattle.calendar.specs.declared.Date.{Date}
-use Rattle.calendar.specs.Date.{februaryDays, daysOfMonth, isDate, packedDate, unpackedDate, isAfter, goodOn}
+use Rattle.calendar.specs.Date.{isLeap, februaryDays, daysOfMonth, isDate, packedDate, unpackedDate, isAfter, goodOn}
 
 -- True and false are two, so their equation proves anything.
 never : {A : Type 0} → _≡_ {A = Bool} false true → A
@@ -87,7 +87,7 @@ month-late year month h =
 -- February has at most 29 days, whichever years are leap.
 february-bound : (year : Year) → februaryDays year ≤ 29
 unfolding februaryDays
-february-bound year = cond-within (eqb (year .0 % 4) 0) (omega arith) (omega arith)
+february-bound year = cond-within (isLeap year) (omega arith) (omega arith)
 
 -- No month is longer than 31 days, so a day fits its five bits.
 month-bound : (year : Year) (month : Month) → daysOfMonth year month ≤ 31

@@ -23,9 +23,13 @@ dayOf number = record { 0 = number }
 abbrev pub dateOf : Year → Month → Day → Date
 dateOf year month day = record { year = year; month = month; day = day }
 
--- 01: "A year divisible by 4 has 29 days in February."
+-- 01, "A year divisible by 4 has 29 days in February.", as 02, 4 corrects it: "A century year .. only when 400 divides it".
+abbrev pub isLeap : Year → Bool
+isLeap year = cond (eqb (year .0 % 100) 0) (eqb (year .0 % 400) 0) (eqb (year .0 % 4) 0)
+
+-- 02, 4: "29 days in February" in a leap year, "so 2100 has 28".
 unfoldable pub februaryDays : Year → ℕ
-februaryDays year = cond (eqb (year .0 % 4) 0) 29 28
+februaryDays year = cond (isLeap year) 29 28
 
 -- 01: "Dates are Gregorian, as in ISO 8601." A month that is none has no day.
 unfoldable pub daysOfMonth : Year → Month → ℕ

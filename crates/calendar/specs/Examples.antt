@@ -30,7 +30,9 @@ pub examples :
     ∷ not (goodOn expiry (written 1 1 2026))
     ∷ isDate (written 29 2 2000)
     ∷ isDate (written 29 2 2024)
-    ∷ isDate (written 29 2 2100)
+    ∷ not (isDate (written 29 2 2100))
+    ∷ isDate (written 28 2 2100)
+    ∷ isDate (written 29 2 2104)
     ∷ not (isDate (written 29 2 2001))
     ∷ not (isDate (written 29 2 2022))
     ∷ not (isDate (written 30 2 2024))
@@ -51,7 +53,7 @@ pub examples :
     ∷ not (isDate (unpackedDate 1037223))
     ∷ not (isDate (unpackedDate 4294967295))
     ∷ [])
-    ≡ replicate 30 true
+    ≡ replicate 32 true
 unfolding februaryDays daysOfMonth isDate isAfter
 examples = refl
 
@@ -77,20 +79,27 @@ pub unpacked-values :
 unpacked-values = refl
 
 -- 01, answer 12, "held value is no date": the first and the last that are; then of 7 March 2025 day 0, month 0, 13, 14 and 15; the days
--- before and after the years 2000 to 2199; 31 November, 29 February 2025; 7 March 2025 with 4,096 more years
+-- before and after the years 2000 to 2199; 31 November, 29 February 2025; 7 March 2025 with 4,096 more years; 28 and 29 February 2100
 pub held-values :
     map (λ (value : ℕ). isDate (unpackedDate value))
-    (1024033 ∷ 1126303 ∷ 1036896 ∷ 1036807 ∷ 1037223 ∷ 1037255 ∷ 1037287 ∷ 1023903 ∷ 1126433 ∷ 1037183 ∷ 1036893 ∷ 3134055 ∷ [])
-    ≡ (true ∷ true ∷ false ∷ false ∷ false ∷ false ∷ false ∷ false ∷ false ∷ false ∷ false ∷ false ∷ [])
+    (1024033 ∷ 1126303 ∷ 1036896 ∷ 1036807 ∷ 1037223 ∷ 1037255 ∷ 1037287 ∷ 1023903 ∷ 1126433 ∷ 1037183 ∷ 1036893 ∷ 3134055 ∷ 1075292 ∷ 1075293 ∷ [])
+    ≡ (true ∷ true ∷ false ∷ false ∷ false ∷ false ∷ false ∷ false ∷ false ∷ false ∷ false ∷ false ∷ true ∷ false ∷ [])
 unfolding februaryDays daysOfMonth isDate
 held-values = refl
 
--- 01: "A year divisible by 4 has 29 days in February.": each remainder, and the last years
+-- 01, "A year divisible by 4 has 29 days in February.", as 02, 4 corrects it: each remainder and the last years
 pub februaries :
-    map (λ (year : ℕ). februaryDays (yearOf year)) (2000 ∷ 2001 ∷ 2002 ∷ 2003 ∷ 2004 ∷ 2096 ∷ 2196 ∷ 2199 ∷ [])
-    ≡ (29 ∷ 28 ∷ 28 ∷ 28 ∷ 29 ∷ 29 ∷ 29 ∷ 28 ∷ [])
+    map (λ (year : ℕ). februaryDays (yearOf year)) (2000 ∷ 2001 ∷ 2002 ∷ 2003 ∷ 2004 ∷ 2096 ∷ 2104 ∷ 2196 ∷ 2199 ∷ [])
+    ≡ (29 ∷ 28 ∷ 28 ∷ 28 ∷ 29 ∷ 29 ∷ 29 ∷ 29 ∷ 28 ∷ [])
 unfolding februaryDays
 februaries = refl
+
+-- 02, 4: "A century year has 29 days in February only when 400 divides it, so 2100 has 28.": from 1900 to 2400
+pub centuries :
+    map (λ (year : ℕ). februaryDays (yearOf year)) (1900 ∷ 2000 ∷ 2100 ∷ 2200 ∷ 2300 ∷ 2400 ∷ [])
+    ≡ (28 ∷ 29 ∷ 28 ∷ 28 ∷ 28 ∷ 29 ∷ [])
+unfolding februaryDays
+centuries = refl
 
 -- 01, answer 13, "today after expiry", today first: the day after across the end of a month, of a February and of a year; the day before
 pub day-after-and-before :

@@ -1,2 +1,3 @@
 pub mod Date
+pub mod Correction
 pub mod Examples

@@ -1,6 +1,6 @@
 ghost use mathlib.Core.Bool.{true};
 ghost use mathlib.Core.Path.{_≡_};
-ghost use Rattle.calendar.specs.Date.{februaryDays, daysOfMonth, dateOf, isDate, packedDate, unpackedDate, isAfter};
+ghost use Rattle.calendar.specs.Date.{isLeap, februaryDays, daysOfMonth, dateOf, isDate, packedDate, unpackedDate, isAfter};
 
 // A year of the Gregorian calendar; any number, until `is_date` has judged it.
 pub struct Year(pub u32);
@@ -26,10 +26,20 @@ pub fn date_of(year: Year, month: Month, day: Day) -> Date
 }
 
 // The leap rule, alone so that another rule changes nothing else.
+pub fn is_leap(year: Year) -> bool
+    ensures { λ r. ⌜ r ≡ isLeap year ⌝ }
+{
+    if year.0 % 100 == 0 {
+        return year.0 % 400 == 0;
+    }
+    year.0 % 4 == 0
+}
+
+// February has a day more in a leap year.
 pub fn february_days(year: Year) -> u32
     ensures { λ r. ⌜ r ≡ februaryDays year ⌝ }
 {
-    if year.0 % 4 == 0 { 29 } else { 28 }
+    if is_leap(year) { 29 } else { 28 }
 }
 
 // The last day of a month; a month that is none has no day at all, so it needs no test of its own.

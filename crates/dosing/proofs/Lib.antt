@@ -7,4 +7,5 @@ pub mod WholeReadings
 pub mod VerdictLaws
 mod VerdictSteps
 pub mod VerdictTold
+pub mod MovedDay
 pub mod Proved

@@ -6,17 +6,20 @@ use mathlib.Core.Option.{some}
 use Prim.Native.Nat.{ℕ}
 use Rattle.calendar.specs.declared.Date.{Date}
 use Rattle.calendar.specs.Date.{isDate, unpackedDate}
+use Rattle.calendar.specs.Correction.{movedDay}
 use Rattle.blocks.specs.Refusal.{badKey}
 use Rattle.blocks.specs.Read.{shown}
 use Rattle.blocks.specs.Tables.{Passes, PassesKey}
 use Rattle.dosing.specs.declared.temperature.Reading.{Reading}
 use Rattle.dosing.specs.declared.sheet.ProductSheet.{ProductSheet}
-use Rattle.dosing.specs.Temperature.{WholeReadings}
+use Rattle.dosing.specs.Temperature.{WholeReadings, validReading}
+use Rattle.dosing.specs.Sheet.{validSheet}
 use Rattle.dosing.specs.Verdict.{Verdict, verdict}
-use Rattle.dosing.specs.Tables.{VerdictTable}
+use Rattle.dosing.specs.Tables.{VerdictTable, PassesInputs}
 use Rattle.dosing.proofs.VerdictLaws.{verdict-table}
 use Rattle.dosing.proofs.VerdictTold as told
 use Rattle.dosing.proofs.FixedVerdict as fixed
+use Rattle.dosing.proofs.MovedDay as moved
 use Rattle.dosing.proofs.WholeReadings.{whole-readings}
 
 pub verdict-meets : (block label : List ℕ) (today : Date) (reading : Reading) (sheet : ProductSheet)
@@ -45,3 +48,15 @@ fixed-verdict-refuted-for = fixed.fixed-verdict-refuted-for
 -- 01: "for whole k from -14 to 40, 32 + 9k becomes exactly 5k"
 pub readings-exact : WholeReadings
 readings-exact = whole-readings
+
+-- 02, 4: "29 February 2100 becomes answer 10 as today", where no answer before it applies
+pub moved-today : (block label : List ℕ) (reading : Reading) (sheet : ProductSheet)
+    → PassesKey block (badKey label) → validSheet sheet ≡ true → validReading reading ≡ true
+    → verdict block label movedDay reading sheet .answer ≡ 10
+moved-today = moved.moved-today
+
+-- "and answer 12 as a held date", likewise
+pub moved-held : (block label : List ℕ) (today : Date) (reading : Reading) (sheet : ProductSheet)
+    → PassesInputs block label today reading sheet → shown block label ≡ some 1075293
+    → verdict block label today reading sheet .answer ≡ 12
+moved-held = moved.moved-held

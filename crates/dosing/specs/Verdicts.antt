@@ -122,7 +122,8 @@ verdicts = refl
 abbrev heldOn : List ℕ → Date → Verdict
 heldOn leaf today = verdict (oneLabel leaf 4) (0x41 ∷ []) today (Celsius five) warm
 
--- 01, answer 10, "today is no date": month 35 of 2023 and day 39 of February 2025 would be packed into 7 March 2025; 30 February; years
+-- 01, answer 10, "today is no date": month 35 of 2023 and day 39 of February 2025 would be packed into 7 March 2025; 30 February; years; 02, 4:
+-- 29 February 2100, and 28 February, which is a date
 pub todays :
     (verdict dated (0x41 ∷ []) (on 7 35 2023) (Celsius five) warm
     ∷ verdict dated (0x41 ∷ []) (on 39 2 2025) (Celsius five) warm
@@ -130,12 +131,15 @@ pub todays :
     ∷ verdict dated (0x41 ∷ []) (on 31 12 1999) (Celsius five) warm
     ∷ verdict dated (0x41 ∷ []) (on 1 1 2200) (Celsius five) warm
     ∷ verdict dated (0x41 ∷ []) (on 1 1 2000) (Celsius five) warm
+    ∷ verdict dated (0x41 ∷ []) (on 29 2 2100) (Celsius five) warm
+    ∷ verdict dated (0x41 ∷ []) (on 28 2 2100) (Celsius five) warm
     ∷ [])
-    ≡ (refused 10 ∷ refused 10 ∷ refused 10 ∷ refused 10 ∷ refused 10 ∷ dosed ∷ [])
+    ≡ (refused 10 ∷ refused 10 ∷ refused 10 ∷ refused 10 ∷ refused 10 ∷ dosed ∷ refused 10 ∷ refused 13 ∷ [])
 unfolding verdictOpen
 todays = refl
 
--- 01, answers 12 and 13: 7 of a month 13 of 2025 and 1 January 2200 are no dates; 31 December 2025 and 28 February 2025, that day and the next
+-- 01, answers 12 and 13: 7 of a month 13 of 2025 and 1 January 2200 are no dates; 31 December 2025 and 28 February 2025, that day and the next;
+-- 02, 4: 29 February 2100 (1,075,293) is none, 28 February (1,075,292) is good that day and not on 1 March
 pub held-dates :
     (heldOn (0xFF ∷ 0xF0 ∷ 0x2C ∷ 0x58 ∷ []) (on 7 3 2025)
     ∷ heldOn (0xFF ∷ 0xEE ∷ 0xCF ∷ 0xDE ∷ []) (on 7 3 2025)
@@ -143,7 +147,10 @@ pub held-dates :
     ∷ heldOn (0xFF ∷ 0xF0 ∷ 0x2C ∷ 0x60 ∷ []) (on 1 1 2026)
     ∷ heldOn (0xFF ∷ 0xF0 ∷ 0x2D ∷ 0xA3 ∷ []) (on 28 2 2025)
     ∷ heldOn (0xFF ∷ 0xF0 ∷ 0x2D ∷ 0xA3 ∷ []) (on 1 3 2025)
+    ∷ heldOn (0xFF ∷ 0xEF ∷ 0x97 ∷ 0xA2 ∷ []) (on 28 2 2100)
+    ∷ heldOn (0xFF ∷ 0xEF ∷ 0x97 ∷ 0xA3 ∷ []) (on 28 2 2100)
+    ∷ heldOn (0xFF ∷ 0xEF ∷ 0x97 ∷ 0xA3 ∷ []) (on 1 3 2100)
     ∷ [])
-    ≡ (refused 12 ∷ refused 12 ∷ dosed ∷ refused 13 ∷ dosed ∷ refused 13 ∷ [])
+    ≡ (refused 12 ∷ refused 12 ∷ dosed ∷ refused 13 ∷ dosed ∷ refused 13 ∷ refused 12 ∷ dosed ∷ refused 13 ∷ [])
 unfolding verdictOpen
 held-dates = refl

@@ -48,7 +48,8 @@ const VALUES: [u32; 4] = [2_147_483_646, 2_147_483_647, 2_147_483_648, 4_294_967
 const SLOTS: [u32; 6] = [0, 1, 3, 4, 255, 4_294_967_295];
 const CELLS: [usize; 5] = [3, 4, 2047, 2048, 2049];
 const ASKED_EDITIONS: [u32; 8] = [0, 1, 2, 3, 256, 257, 258, u32::MAX];
-const DAYS: [[u32; 3]; 4] = [[1999, 12, 31], [2000, 1, 1], [2199, 12, 31], [2200, 1, 1]];
+const LAST_DAY: [u32; 3] = [2199, 12, 31];
+const DAYS: [[u32; 3]; 6] = [[1999, 12, 31], [2000, 1, 1], LAST_DAY, [2200, 1, 1], [2100, 2, 28], [2100, 2, 29]];
 
 /// The bounds of each number.
 const BOUNDS: [(Number, f32, f32); 7] = [
@@ -266,7 +267,7 @@ fn with_number(number: Number, bound: f32) -> Question {
 /// The first and the last day, and the days outside, as today and as the held date; the days about the expiry day.
 fn days(comparison: &mut Comparison) {
     for [year, month, day] in DAYS {
-        comparison.step(&mut block_of_value(packed(DAYS[2])), &Call::Verdict(question(year, month, day)));
+        comparison.step(&mut block_of_value(packed(LAST_DAY)), &Call::Verdict(question(year, month, day)));
         comparison.step(&mut block_of_value(packed([year, month, day])), &Call::Verdict(question(2000, 1, 1)));
     }
     for day in [6, 7, 8] {

@@ -252,8 +252,9 @@ fn arithmetic() {
         assert!(product.to_bits() == (left * right).to_bits() || product.is_nan());
     }
     let days = (0..1 << 21).filter(|value| day_number(value / 512 % 4096, value / 32 % 16, value % 32).is_some());
-    assert_eq!(days.count(), 200 * 365 + 50);
-    assert!(day_number(2100, 2, 29).is_some() && day_number(2023, 2, 29).is_none());
+    assert_eq!(days.count(), 200 * 365 + 49);
+    assert!(day_number(2000, 2, 29).is_some() && day_number(2100, 2, 29).is_none() && day_number(2023, 2, 29).is_none());
+    assert_eq!(day_number(2100, 3, 1), day_number(2100, 2, 28).map(|day| day + 1));
 }
 
 /// The table of a foreign block, inserted into a fresh one in order, is shown there again.

@@ -105,12 +105,17 @@ fn gate_lets_through(question: &Question, degrees: f32) -> bool {
     }
 }
 
-/// The days of a month; by the specification every year that 4 divides has 29 in February.
+/// The years with 29 days in February: those that 4 divides, but of the century years only those that 400 divides.
+fn is_leap(year: u32) -> bool {
+    year % 4 == 0 && (year % 100 != 0 || year % 400 == 0)
+}
+
+/// The days of a month; a number that is no month has none.
 pub fn days_in_month(year: u32, month: u32) -> u32 {
     match month {
         1 | 3 | 5 | 7 | 8 | 10 | 12 => 31,
         4 | 6 | 9 | 11 => 30,
-        2 if year % 4 == 0 => 29,
+        2 if is_leap(year) => 29,
         2 => 28,
         _ => 0,
     }
@@ -121,7 +126,7 @@ pub fn day_number(year: u32, month: u32, day: u32) -> Option<u32> {
     if !(2000..=2199).contains(&year) || !(1..=days_in_month(year, month)).contains(&day) {
         return None;
     }
-    let of_years: u32 = (2000..year).map(|year| if year % 4 == 0 { 366 } else { 365 }).sum();
+    let of_years: u32 = (2000..year).map(|year| if is_leap(year) { 366 } else { 365 }).sum();
     let of_months: u32 = (1..month).map(|month| days_in_month(year, month)).sum();
     Some(of_years + of_months + day - 1)
 }
