@@ -12,6 +12,7 @@ pub mod AfterSteps
 pub mod Records
 pub mod Values
 pub mod PageCall
+pub mod Bounds
 pub mod PageTold
 pub mod AfterLast
 pub mod PageStep
