@@ -19,9 +19,9 @@ use Rattle.pages.proofs.Records as records
 use Rattle.pages.proofs.Records.{fourBytes}
 use Rattle.pages.proofs.PageCall as call
 use Rattle.pages.proofs.PageTold as told
-use Rattle.pages.proofs.PageStep as shown
-use Rattle.pages.proofs.Join as join
-use Rattle.pages.proofs.OnePage as one
+use Rattle.pages.proofs.Joining.PageStep as shown
+use Rattle.pages.proofs.Joining.Join as join
+use Rattle.pages.proofs.Joining.OnePage as one
 
 -- a page meets its table of answers, and whatever meets the table equals the page: its answer, its numbers and every byte of the buffer
 pub page-meets : (b key buffer : List ℕ) → PageTable b key buffer (page b key buffer)

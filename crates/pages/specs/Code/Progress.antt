@@ -25,7 +25,7 @@ unfoldable pub putBytes : List ℕ → ℕ → List ℕ → List ℕ
 putBytes buffer at bytes = take at buffer ++ (bytes ++ drop (at + length bytes) buffer)
 
 -- one record more, at the end of those written
-abbrev withRecord : Written → Entry → Written
+abbrev pub withRecord : Written → Entry → Written
 withRecord written entry =
     record {
       records = written .records + 1;
@@ -35,7 +35,7 @@ withRecord written entry =
     }
 
 -- the same where a record did not fit
-abbrev stopped : Written → Written
+abbrev pub stopped : Written → Written
 stopped written = record { records = written .records; used = written .used; full = true; buffer = written .buffer }
 
 -- one record more, if it fits and none before it failed to

@@ -2,7 +2,7 @@ use native.Mathlib.Omega.{arith}
 use borrow.Author.Needs.{needs}
 use Rattle.nodes.proofs.Coded.{prefix-facts}
 use Rattle.nodes.proofs.Steps.LeastWays.{least-past, least-nothing, least-leaf, least-plain}
-use Rattle.pages.proofs.KnownNode.{known-plain, known-linked, known-prefix}
+use Rattle.pages.proofs.Walking.KnownNode.{known-plain, known-linked, known-prefix}
 use Rattle.pages.proofs.known.known_child.Statement.{statement}
 use Rattle.pages.proofs.known.known_child.Tie as tie
 

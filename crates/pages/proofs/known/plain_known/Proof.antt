@@ -3,7 +3,7 @@ use borrow.Author.Needs.{needs}
 use Rattle.nodes.proofs.Coded.{chain-facts, sparse-facts, split-facts}
 use Rattle.nodes.proofs.Steps.StepWays.{cell-length}
 use Rattle.nodes.proofs.Steps.LeastWays.{plain-least-chain, plain-least-sparse, plain-least-split, plain-least-other}
-use Rattle.pages.proofs.KnownNode.{known-sparse, known-split}
+use Rattle.pages.proofs.Walking.KnownNode.{known-sparse, known-split}
 use Rattle.pages.proofs.known.plain_known.Statement.{statement}
 use Rattle.pages.proofs.known.plain_known.Tie as tie
 

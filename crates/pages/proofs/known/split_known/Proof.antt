@@ -5,7 +5,7 @@ use native.Mathlib.Omega.{arith}
 use borrow.Author.Needs.{needs}
 use Rattle.cells.specs.Memory.{memoryOf}
 use Rattle.nodes.specs.Split.{splitChild}
-use Rattle.pages.proofs.KnownSplit.{head-word-is, branch-word-is, pass-on, pass-one, no-mid, no-end, child-of, mid-inside, end-inside, known-found, known-none}
+use Rattle.pages.proofs.Walking.KnownSplit.{head-word-is, branch-word-is, pass-on, pass-one, no-mid, no-end, child-of, mid-inside, end-inside, known-found, known-none}
 use Rattle.pages.proofs.known.split_known.Statement.{statement}
 use Rattle.pages.proofs.known.split_known.Tie as tie
 

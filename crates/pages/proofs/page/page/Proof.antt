@@ -5,7 +5,7 @@ use Rattle.blocks.specs.Answers.{changeNumber}
 use Rattle.blocks.proofs.Trailer.{has-trailer}
 use Rattle.blocks.proofs.ReadSteps.{block-size, block-fits, block-covered, root-grown}
 use Rattle.blocks.proofs.RefusalSteps.{refusal-number}
-use Rattle.pages.proofs.PageSteps.{refused-with, block-no, key-no, buffer-no, page-done}
+use Rattle.pages.proofs.Writing.PageSteps.{refused-with, block-no, key-no, buffer-no, page-done}
 use borrow.Author.Needs.{needs}
 use Rattle.pages.proofs.page.page.Statement.{statement}
 use Rattle.pages.proofs.page.page.Tie as tie

@@ -3,7 +3,7 @@ use mathlib.Core.Path.{_∙_}
 use Prim.Native.Nat.{_+_, _-_, _≤_}
 use native.Mathlib.Omega.{arith}
 use borrow.Author.Needs.{needs}
-use Rattle.pages.proofs.RecordBytes.{Copied, copy-more, copy-length, record-fits, record-over}
+use Rattle.pages.proofs.Writing.RecordBytes.{Copied, copy-more, copy-length, record-fits, record-over}
 use Rattle.pages.proofs.record.put_record.Statement.{statement}
 use Rattle.pages.proofs.record.put_record.Tie as tie
 

@@ -5,8 +5,8 @@ use native.Mathlib.Omega.{arith}
 use lib.ListN.{length}
 use borrow.Author.Needs.{needs}
 use Rattle.trees.proofs.NextKey.NextAnswers.{next-room}
-use Rattle.pages.proofs.WalkParts.{still-open}
-use Rattle.pages.proofs.AfterSteps.{printed-same, after-ended, after-missing, after-full, after-goes}
+use Rattle.pages.proofs.Walking.WalkParts.{still-open}
+use Rattle.pages.proofs.Walking.AfterSteps.{printed-same, after-ended, after-missing, after-full, after-goes}
 use borrow.Fn.Kinds.{In}
 use borrow.Fn.PlainCycle.{Measures, is, falls, and}
 use Rattle.pages.proofs.walk.print_after.Reads as print-after

@@ -7,7 +7,7 @@ use Rattle.nodes.specs.Layout.{keyLimit}
 use Rattle.nodes.proofs.Coded.{coded-chain, chain-facts}
 use Rattle.nodes.proofs.Steps.StepWays.{cell-length}
 use Rattle.pages.specs.Code.Walk.{RunDown}
-use Rattle.pages.proofs.RunSteps.{run-room, run-more}
+use Rattle.pages.proofs.Walking.RunSteps.{run-room, run-more}
 use Rattle.pages.proofs.walk.run_down.Statement.{statement}
 use Rattle.pages.proofs.walk.run_down.Tie as tie
 

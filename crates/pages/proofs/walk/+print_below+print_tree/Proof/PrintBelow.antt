@@ -8,8 +8,8 @@ use borrow.Author.Needs.{needs}
 use Rattle.cells.specs.Memory.{memoryOf}
 use Rattle.nodes.specs.Layout.{keyLimit}
 use Rattle.trees.proofs.NextKey.NextAnswers.{first-grown}
-use Rattle.pages.proofs.WalkParts.{grown-known, still-open}
-use Rattle.pages.proofs.WalkSteps.{below-done, below-near, below-kept, below-goes, below-full}
+use Rattle.pages.proofs.Walking.WalkParts.{grown-known, still-open}
+use Rattle.pages.proofs.Walking.WalkSteps.{below-done, below-near, below-kept, below-goes, below-full}
 use Rattle.pages.specs.Code.Progress.{writtenOf, Open, putRecords}
 use Rattle.pages.specs.Code.Walk.{under, entriesFrom}
 use Rattle.pages.proofs.walk.print_below.Reads as reads

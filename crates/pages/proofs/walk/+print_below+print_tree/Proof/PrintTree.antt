@@ -8,8 +8,8 @@ use borrow.Author.Needs.{needs}
 use Rattle.cells.specs.Memory.{memoryOf}
 use Rattle.nodes.specs.Layout.{keyLimit}
 use Rattle.nodes.specs.Code.Coded.{heldOf}
-use Rattle.pages.proofs.WalkParts.{once-open}
-use Rattle.pages.proofs.WalkSteps.{tree-below, tree-full, tree-leaf, tree-goes}
+use Rattle.pages.proofs.Walking.WalkParts.{once-open}
+use Rattle.pages.proofs.Walking.WalkSteps.{tree-below, tree-full, tree-leaf, tree-goes}
 use Rattle.pages.proofs.walk.print_tree.Reads as reads
 use Rattle.pages.proofs.walk.+print_below+print_tree.Lts-print_tree as lts
 use Rattle.pages.proofs.walk.+print_below+print_tree.Proof.Measures.{print-tree-at, tree-told}

@@ -22,8 +22,8 @@ use Rattle.trees.specs.Code.Coded.{Grown}
 use Rattle.trees.proofs.LookSteps.{grown-read, child-grown}
 use Rattle.trees.proofs.Entries.EntriesLookup.{childEntries-none, entries-zero}
 use Rattle.pages.specs.Code.Walk.{under, entriesFrom, RunDown}
-use Rattle.pages.proofs.Below.{under-below, from-read, tree-entries}
-use Rattle.pages.proofs.WalkParts.{path-more}
+use Rattle.pages.proofs.Walking.Below.{under-below, from-read, tree-entries}
+use Rattle.pages.proofs.Walking.WalkParts.{path-more}
 
 -- the pairs below a range of characters of which one alone has pairs
 children-one : (f : ℕ → List Entry) (x : ℕ) → ((y : ℕ) → y ≢ x → f y ≡ []) → (count from : ℕ) → from ≤ x → x < from + count

@@ -13,7 +13,7 @@ use Rattle.trees.specs.Entries.{entryOf}
 use Rattle.pages.specs.declared.record.Progress.{Progress}
 use Rattle.pages.specs.Record.{wordBytes, recordOf}
 use Rattle.pages.specs.Code.Progress.{Written, writtenOf, Open, putBytes, putRecord}
-use Rattle.pages.proofs.Progress.{put-fits, put-over}
+use Rattle.pages.proofs.Writing.Progress.{put-fits, put-over}
 
 -- bytes put one after the other are bytes put at once
 sets-put : (l : List ℕ) (at : ℕ) (bytes : List ℕ) → at + length bytes ≤ length l → sets l at bytes ≡ putBytes l at bytes

@@ -13,7 +13,7 @@ use borrow.Author.Tests.{le-leb, lt-leb, lt-ltb, le-ltb}
 use Rattle.trees.specs.Entries.{Entry}
 use Rattle.pages.specs.Record.{recordOf, recordsOf}
 use Rattle.pages.specs.Page.{fitting, pageOf}
-use Rattle.pages.specs.Code.Progress.{Written, putBytes, putRecord, putRecords}
+use Rattle.pages.specs.Code.Progress.{Written, putBytes, withRecord, stopped, putRecord, putRecords}
 use Rattle.pages.proofs.Fitting.{fitting-none, fitting-more, fitting-stops}
 
 -- bytes put inside a list leave its length
@@ -22,26 +22,13 @@ unfolding putBytes
 put-bytes-length buffer at bytes inside =
     simp (length-append, length-drop, length-take-le at buffer (omega arith)) (omega arith)
 
--- what a record that fits leaves, and one that does not
-abbrev added : Written → Entry → Written
-added s entry =
-    record {
-      records = s .records + 1;
-      used = s .used + length (recordOf entry);
-      full = false;
-      buffer = putBytes (s .buffer) (s .used) (recordOf entry);
-    }
-
-abbrev stopped : Written → Written
-stopped s = record { records = s .records; used = s .used; full = true; buffer = s .buffer }
-
 -- the three ways of a record: none is written where one did not fit before, or it fits, or it does not
 module _ (s : Written) (entry : Entry) where
   pub put-full : s .full ≡ true → putRecord s entry ≡ s
   unfolding putRecord
   put-full full = rw full
 
-  pub put-fits : s .full ≡ false → s .used + length (recordOf entry) ≤ length (s .buffer) → putRecord s entry ≡ added s entry
+  pub put-fits : s .full ≡ false → s .used + length (recordOf entry) ≤ length (s .buffer) → putRecord s entry ≡ withRecord s entry
   unfolding putRecord
   put-fits going fits = rw (going, le-leb (s .used + length (recordOf entry)) (length (s .buffer)) fits)
 
@@ -50,7 +37,7 @@ module _ (s : Written) (entry : Entry) where
   put-over going over = rw (going, lt-leb (s .used + length (recordOf entry)) (length (s .buffer)) over)
 
   -- what holds after each of them holds after a record
-  put-ways : (P : Written → Type 0) → P s → (s .used + length (recordOf entry) ≤ length (s .buffer) → P (added s entry)) → P (stopped s) → P (putRecord s entry)
+  put-ways : (P : Written → Type 0) → P s → (s .used + length (recordOf entry) ≤ length (s .buffer) → P (withRecord s entry)) → P (stopped s) → P (putRecord s entry)
   put-ways P same more none = go (s .full) refl
     where
       go : (t : Bool) → s .full ≡ t → P (putRecord s entry)
@@ -136,7 +123,7 @@ module _ (count : ℕ) (w rest : List ℕ) (entry : Entry) where
   abbrev bytes : List ℕ
   bytes = recordOf entry
 
-  added-behind : added (goingFrom count w rest) entry ≡ goingFrom (count + 1) (w ++ bytes) (drop (length bytes) rest)
+  added-behind : withRecord (goingFrom count w rest) entry ≡ goingFrom (count + 1) (w ++ bytes) (drop (length bytes) rest)
   added-behind =
       let used : length w + length bytes ≡ length (w ++ bytes) = sym (length-append w bytes) in
       let buffer = put-behind w rest bytes in

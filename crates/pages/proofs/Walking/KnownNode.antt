@@ -24,7 +24,7 @@ use Rattle.nodes.proofs.Read.{read-prefix}
 use Rattle.nodes.proofs.Coded.{coded-prefix}
 use Rattle.nodes.proofs.Steps.Rest.{Among}
 use Rattle.nodes.proofs.Steps.LeastWays.{prefix-least-taken, least-prefix}
-use Rattle.pages.proofs.KnownSplit.{there-is}
+use Rattle.pages.proofs.Walking.KnownSplit.{there-is}
 
 module _ (layout : Layout) (m : Memory) where
   -- but for NONE, a leaf and a prefix, any node is read as a chain, sparse or split

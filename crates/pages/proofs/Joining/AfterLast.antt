@@ -19,7 +19,7 @@ use Rattle.trees.proofs.Entries.EntriesLookup.{entry-here, entry-later}
 use Rattle.trees.proofs.Entries.EntriesRising.{beforeAll, rising-head, rising-tail}
 use Rattle.trees.proofs.NextKey.Next.{next-all}
 use Rattle.pages.specs.Printed.{lastKey}
-use Rattle.pages.proofs.AfterKey.{after-none, after-here, after-passed}
+use Rattle.pages.proofs.Walking.AfterKey.{after-none, after-here, after-passed}
 
 -- a test of every pair is one of the pairs after a key, and of the first of two parts
 pub all-after : (test : Entry → Bool) (key : List ℕ) (l : List Entry) → all test l ≡ true → all test (entriesAfter key l) ≡ true

@@ -19,8 +19,8 @@ use Rattle.trees.proofs.LookSteps.{grown-read}
 use Rattle.pages.specs.declared.record.Progress.{Progress}
 use Rattle.pages.specs.Code.Progress.{Written, writtenOf, putRecord, putRecords, Open, Printed}
 use Rattle.pages.specs.Code.Walk.{under}
-use Rattle.pages.proofs.Below.{under-below, map-append}
-use Rattle.pages.proofs.Progress.{put-append, put-one, put-stopped, put-counted, put-inside}
+use Rattle.pages.proofs.Walking.Below.{under-below, map-append}
+use Rattle.pages.proofs.Writing.Progress.{put-append, put-one, put-stopped, put-counted, put-inside}
 
 -- a path with one character more
 pub path-more : (path : List ℕ) (at x : ℕ) → at < length path → take (at + 1) (set path at x) ≡ take at path ++ (x ∷ [])

@@ -28,9 +28,9 @@ use Rattle.trees.proofs.NextKey.NextSteps.{AmongLeast, least-held, told-least, 
 use Rattle.pages.specs.declared.walk.Stand.{Stand}
 use Rattle.pages.specs.Code.Progress.{Written, putRecord, putRecords, Printed}
 use Rattle.pages.specs.Code.Walk.{under, entriesFrom, RunDown}
-use Rattle.pages.proofs.Below.{from-none, from-least, from-childless, tree-entries}
-use Rattle.pages.proofs.Progress.{put-stopped}
-use Rattle.pages.proofs.WalkParts.{kept-less, put-none, put-first, child-kept, child-then}
+use Rattle.pages.proofs.Walking.Below.{from-none, from-least, from-childless, tree-entries}
+use Rattle.pages.proofs.Writing.Progress.{put-stopped}
+use Rattle.pages.proofs.Walking.WalkParts.{kept-less, put-none, put-first, child-kept, child-then}
 
 -- below the children of a node, from a character on: what is left to write from a state on ends where the whole ends
 module _ (layout : Layout) (m : Memory) (at w : ℕ) (g : Grown layout m (keyLimit - at) w) (from : ℕ) (path₀ : List ℕ) (s target : Written)

@@ -23,10 +23,10 @@ use Rattle.pages.specs.Page.{Page, fitting, leastBuffer, pairsLeft, page
 use Rattle.pages.specs.Printed.{usedBytes, printed, joined, recordCount, ended, accepted, InOrder}
 use Rattle.pages.proofs.Records.{records-alone}
 use Rattle.pages.proofs.Fitting.{all-fit}
-use Rattle.pages.proofs.AfterLast.{after-all, nil-before-all}
+use Rattle.pages.proofs.Joining.AfterLast.{after-all, nil-before-all}
 use Rattle.pages.proofs.PageCall.{page-is, done-given, page-more}
-use Rattle.pages.proofs.PageStep.{Step, step, shown-rising, shown-values}
-use Rattle.pages.proofs.Join.{pages-whole}
+use Rattle.pages.proofs.Joining.PageStep.{Step, step, shown-rising, shown-values}
+use Rattle.pages.proofs.Joining.Join.{pages-whole}
 
 module _ (b key : List ℕ) where
   -- an accepted page with none left behind it has the records of all pairs left

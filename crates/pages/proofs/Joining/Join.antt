@@ -17,7 +17,7 @@ use Rattle.pages.specs.Page.{Page, leastBuffer, pairsLeft, page}
 use Rattle.pages.specs.Printed.{usedBytes, keyAfter, printed, joined, recordCount, ended, accepted, wide}
 use Rattle.pages.proofs.Records.{records-append}
 use Rattle.pages.proofs.PageCall.{done-given}
-use Rattle.pages.proofs.PageStep.{Step, step}
+use Rattle.pages.proofs.Joining.PageStep.{Step, step}
 
 -- the test of an accepted page
 abbrev answered : Page → Bool

@@ -25,8 +25,8 @@ use Rattle.pages.specs.Page.{Page, leastBuffer, pairsLeft, page}
 use Rattle.pages.specs.Tables.{Filled}
 use Rattle.pages.specs.Printed.{usedBytes, lastKey, keyAfter}
 use Rattle.pages.proofs.Records.{fourBytes, record-length, records-none, records-alone}
-use Rattle.pages.proofs.Values.{entries-values}
-use Rattle.pages.proofs.AfterLast.{all-after, all-front, after-last, last-short}
+use Rattle.pages.proofs.Joining.Values.{entries-values}
+use Rattle.pages.proofs.Joining.AfterLast.{all-after, all-front, after-last, last-short}
 use Rattle.pages.proofs.PageCall.{page-table, done-only}
 
 -- the pairs that a root shows rise by key; four bytes hold each value, and no key is longer than the limit

@@ -23,7 +23,7 @@ use Rattle.pages.specs.Page.{Page, leastBuffer, pairsLeft, pageRefusals,
 use Rattle.pages.specs.Code.Progress.{Written, writtenOf, putRecords, Printed}
 use Rattle.pages.specs.Code.Walk.{under}
 use Rattle.pages.proofs.PageCall.{page-is, page-refused, done-given}
-use Rattle.pages.proofs.Progress.{put-page}
+use Rattle.pages.proofs.Writing.Progress.{put-page}
 
 -- an answer that is refused, with any buffer
 pub refused-with : (r : PageAnswer) (k : ℕ) (buffer : List ℕ) → pageOutcome r [] ≡ refusedPage k [] → refusedPage k buffer ≡ pageOutcome r buffer

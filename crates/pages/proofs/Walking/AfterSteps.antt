@@ -22,9 +22,9 @@ use Rattle.trees.proofs.NextKey.NextAnswers.{next-room}
 use Rattle.trees.proofs.Entries.EntriesLookup.{entries-zero}
 use Rattle.pages.specs.Code.Progress.{Written, putRecords, Printed}
 use Rattle.pages.specs.Code.Walk.{under, entriesFrom}
-use Rattle.pages.proofs.AfterKey.{after-none, after-own, after-children-nil, after-children}
-use Rattle.pages.proofs.Below.{from-read, tree-entries}
-use Rattle.pages.proofs.WalkParts.{child-kept, child-then, child-full}
+use Rattle.pages.proofs.Walking.AfterKey.{after-none, after-own, after-children-nil, after-children}
+use Rattle.pages.proofs.Walking.Below.{from-read, tree-entries}
+use Rattle.pages.proofs.Walking.WalkParts.{child-kept, child-then, child-full}
 
 -- the same written for pairs that are the same
 pub printed-same : (at : ℕ) (path path′ : List ℕ) (s s′ : Written) (l l′ : List Entry) → l ≡ l′
