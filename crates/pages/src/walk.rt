@@ -1,8 +1,7 @@
 // The walk of a page: down the tree by rising characters, one record after the other, until one does not fit.
-ghost use mathlib.Core.Path.{_≡_};
 ghost use mathlib.Core.List.{map};
 ghost use Prim.Native.Nat.{_+_, _-_, _≤_, _<_};
-ghost use lib.ListN.{length, take, drop, set};
+ghost use lib.ListN.{take, drop};
 ghost use Rattle.cells.specs.Memory.{memoryOf};
 ghost use Rattle.nodes.specs.Layout.{keyLimit};
 ghost use Rattle.nodes.specs.Code.Covered.{Covered};

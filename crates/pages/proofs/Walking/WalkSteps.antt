@@ -9,7 +9,6 @@ use lib.ListN.{length, take, set}
 use Rattle.cells.specs.Memory.{Memory}
 use Rattle.nodes.specs.Layout.{Layout, keyLimit}
 use Rattle.nodes.specs.Node.{Node, childless, read, readAt}
-use Rattle.nodes.specs.Pointer.{pointer}
 use Rattle.nodes.specs.Pointer.Pointer.{leaf}
 use Rattle.nodes.specs.Value.{valueOf}
 use Rattle.nodes.specs.Code.Coded.{leastOf}

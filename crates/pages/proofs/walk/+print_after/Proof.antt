@@ -1,5 +1,4 @@
 -- `print_after` meets its contract: one law for each answer, and what is left of the key falls with each character.
-use mathlib.Core.Path.{refl}
 use Prim.Native.Nat.{ℕ, _-_, _<_}
 use native.Mathlib.Omega.{arith}
 use lib.ListN.{length}

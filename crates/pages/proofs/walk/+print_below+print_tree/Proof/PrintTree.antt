@@ -1,12 +1,8 @@
 -- The records of a tree are written as its contract says.
-use mathlib.Core.Path.{_≡_, refl, sym, ap, _∙_}
-use mathlib.Core.List.{map}
-use Prim.Native.Nat.{ℕ, _+_, _-_}
+use mathlib.Core.Path.{sym, ap, _∙_}
+use Prim.Native.Nat.{ℕ, _-_}
 use native.Mathlib.Omega.{arith}
-use lib.ListN.{length, take}
 use borrow.Author.Needs.{needs}
-use Rattle.cells.specs.Memory.{memoryOf}
-use Rattle.nodes.specs.Layout.{keyLimit}
 use Rattle.nodes.specs.Code.Coded.{heldOf}
 use Rattle.pages.proofs.Walking.WalkParts.{once-open}
 use Rattle.pages.proofs.Walking.WalkSteps.{tree-below, tree-full, tree-leaf, tree-goes}
