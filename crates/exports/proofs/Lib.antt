@@ -1,3 +1,4 @@
 pub mod ChangeSteps
 pub mod PageSteps
 pub mod RunSteps
+pub mod Proved

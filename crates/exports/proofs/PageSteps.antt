@@ -1,12 +1,12 @@
 -- What a page answered, told in numbers.
 use mathlib.Core.Path.{_≡_, sym, ap, _∙_}
 use mathlib.Core.Bool.{cond}
-use mathlib.Core.List.{List, _++_}
+use mathlib.Core.List.{List, [], _++_}
 use Prim.Native.Nat.{ℕ, _≤_, _<_}
 use native.Mathlib.Decide.{decLe}
 use native.Mathlib.Omega.{arith}
-use lib.ListN.{length, take, drop}
-use lib.Seq.{length-take-le}
+use lib.ListN.{length, take, drop, drop-of-length-le}
+use lib.Seq.{length-take-le, take-all}
 use borrow.Author.Tests.{le-leb, lt-leb}
 use Rattle.blocks.specs.Answers.{changeNumber}
 use Rattle.pages.specs.declared.page.PageAnswer.{PageAnswer}
@@ -58,3 +58,11 @@ module _ (buffer : List ℕ) (end : ℕ) (is : end ≡ countable (length buffer)
         ap (λ (n : ℕ). numbersOf (page b key (take n buffer)) (drop n buffer)) (sym is)
         ∙ ap (λ (p : Page). numbersOf p (drop end buffer)) e
         ∙ (λ i. record { answer = sym number i; records = told .records; used = told .used; more = sym bit i; buffer = part ++ drop end buffer })
+
+-- a buffer that can be counted is lent whole
+pub counted-whole : (b key buffer : List ℕ) → length buffer ≤ 4294967295 → pageNumbers b key buffer ≡ numbersOf (page b key buffer) []
+counted-whole b key buffer small =
+    let all = countable-all (length buffer) small in
+    ap (λ (n : ℕ). numbersOf (page b key (take n buffer)) (drop n buffer)) all
+    ∙ ap (λ (l : List ℕ). numbersOf (page b key l) (drop (length buffer) buffer)) (take-all (length buffer) buffer (omega arith))
+    ∙ ap (λ (rest : List ℕ). numbersOf (page b key buffer) rest) (drop-of-length-le buffer {i = length buffer} (omega arith))
