@@ -1,4 +1,4 @@
-//! Pages: those of many sizes after many labels, checked; that of the whole book and all of one size, measured.
+//! Pages: those of many sizes after many labels, checked; that of a whole register and all of one size, measured.
 
 use crate::plain::{Page, LONGEST_KEY};
 use crate::printing::LONGEST_RECORD;
@@ -23,15 +23,15 @@ type Call = fn(&[u8], &[u8], &mut [u8]) -> Page;
 /// the records of the map.
 pub fn compare(block: &[u8], map: &BTreeMap<Vec<u8>, u32>, labels: &[Vec<u8>]) {
     compare_refusals(block);
-    let book = book(map);
-    for size in SIZES.into_iter().chain([whole(&book)]) {
+    let all = records_of(map);
+    for size in SIZES.into_iter().chain([whole(&all)]) {
         let bounds = [&[][..], &[0xFF; LONGEST_KEY], &[0; LONGEST_KEY + 1]];
         for label in labels.iter().map(Vec::as_slice).chain(bounds) {
             page(block, label, size);
         }
         if size >= LONGEST_RECORD {
             let pages: Vec<u8> = pages(block, size).into_iter().flat_map(|(_, records)| records).collect();
-            assert!(pages == book, "the pages of {size} bytes, one after the other");
+            assert!(pages == all, "the pages of {size} bytes, one after the other");
         }
     }
 }
@@ -48,14 +48,14 @@ fn compare_refusals(block: &[u8]) {
 }
 
 /// The records of a map in rising order.
-fn book(map: &BTreeMap<Vec<u8>, u32>) -> Vec<u8> {
+fn records_of(map: &BTreeMap<Vec<u8>, u32>) -> Vec<u8> {
     let record = |(label, value): (&Vec<u8>, &u32)| [&[label.len() as u8], &label[..], &value.to_be_bytes()].concat();
     map.iter().flat_map(record).collect()
 }
 
 /// The bytes of a buffer for all records.
-fn whole(book: &[u8]) -> usize {
-    book.len().max(LONGEST_RECORD)
+fn whole(records: &[u8]) -> usize {
+    records.len().max(LONGEST_RECORD)
 }
 
 /// The page after a label and its buffer, on which both programs must agree to the last byte.
@@ -92,9 +92,9 @@ fn last_label(records: &[u8]) -> Vec<u8> {
     last.to_vec()
 }
 
-/// Measures the page of the whole book, and all pages of one size.
+/// Measures the page of a whole register, and all pages of one size.
 pub fn report(start: &str, block: &[u8], map: &BTreeMap<Vec<u8>, u32>) {
-    report_pages(&format!("{start} | page, whole"), block, &[Vec::new()], whole(&book(map)));
+    report_pages(&format!("{start} | page, whole"), block, &[Vec::new()], whole(&records_of(map)));
     let labels: Vec<Vec<u8>> = pages(block, SIZE).into_iter().map(|(label, _)| label).collect();
     report_pages(&format!("{start} | page, {SIZE}"), block, &labels, SIZE);
 }

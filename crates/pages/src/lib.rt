@@ -1,4 +1,4 @@
-// Pages of the book: the records of the labels after a given one, in order, into a lent buffer.
+// Pages of a block: the records of the keys after a given one, in order, into a lent buffer.
 pub mod known;
 pub mod page;
 pub mod record;

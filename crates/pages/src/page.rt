@@ -34,7 +34,7 @@ fn refused_page(refusal: Refusal) -> PageAnswer
     }
 }
 
-// Writes the records of the labels after a given one, in order, until the next does not fit.
+// Writes the records of the keys after a given one, in order, until the next does not fit.
 pub fn page(block: &[u8], key: &[u8], buffer: &mut [u8]) -> PageAnswer
     ensures { λ r. ⌜ page (now (block .entry)) (now (key .entry)) (now (buffer .entry)) ≡ pageOutcome r (now (buffer .exit)) ⌝ }
 {
