@@ -4,4 +4,5 @@ pub mod Printed
 pub mod Tables
 pub mod Answers
 pub mod Computing
+pub mod Examples
 pub mod Code

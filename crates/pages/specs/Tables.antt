@@ -11,7 +11,7 @@ use Rattle.blocks.specs.Sound.{sound}
 use Rattle.blocks.specs.Refusal.{overLong}
 use Rattle.blocks.specs.Tables.{Exactly, PassesKey}
 use Rattle.pages.specs.Record.{recordOf, recordsOf}
-use Rattle.pages.specs.Page.{Page, leastBuffer, pairsLeft, refusedPage}
+use Rattle.pages.specs.Page.{Page, leastBuffer, pairsLeft}
 
 -- 02, 5: "It writes whole records in order until the next doesn't fit or none is left, and answers with the records written, the bytes
 -- used and whether more remain. Bytes past those used are untouched."
@@ -34,4 +34,4 @@ pub record PageTable (b key buffer : List ℕ) (p : Page) : Type 0 where
   pub short-buffer : Exactly (p .answer) 15 (PassesKey b (overLong key) × (length buffer < leastBuffer))
   pub done : Exactly (p .answer) 0 (PassesKey b (overLong key) × (leastBuffer ≤ length buffer))
   pub filled : p .answer ≡ 0 → Filled (pairsLeft b key) buffer p
-  pub refused : p .answer ≢ 0 → p ≡ refusedPage (p .answer) buffer
+  pub refused : p .answer ≢ 0 → p ≡ record { answer = p .answer; records = 0; used = 0; more = false; buffer = buffer }
