@@ -2,6 +2,7 @@
 -- label of the one before until none remain, the pages joined are the same list as one page with room for all, and that list, begun at
 -- the empty label, is the table in order, so long as the book doesn't alter in between." All pages are of one block.
 use mathlib.Core.Path.{_≡_}
+use mathlib.Core.Logic.{_≢_}
 use mathlib.Core.Bool.{true, false}
 use mathlib.Core.List.{List, [], _++_}
 use Prim.Native.Nat.{ℕ, _≤_}
@@ -19,6 +20,7 @@ use Rattle.pages.proofs.Records as records
 use Rattle.pages.proofs.Records.{fourBytes}
 use Rattle.pages.proofs.PageCall as call
 use Rattle.pages.proofs.PageTold as told
+use Rattle.pages.proofs.FixedPages as fixed
 use Rattle.pages.proofs.Joining.PageStep as shown
 use Rattle.pages.proofs.Joining.Join as join
 use Rattle.pages.proofs.Joining.OnePage as one
@@ -29,6 +31,13 @@ page-meets = call.page-table
 
 pub page-told : (b key buffer : List ℕ) (p : Page) → PageTable b key buffer p → p ≡ page b key buffer
 page-told = told.page-told
+
+-- one fixed answer for all pages: over all blocks, and for all buffers in any one block that passes validation
+pub fixed-page-refuted : (p : Page) → ((b key buffer : List ℕ) → PageTable b key buffer p) → ⊥
+fixed-page-refuted = fixed.fixed-page-refuted
+
+pub fixed-page-refuted-in : (b : List ℕ) → Passes b → (p : Page) → ((buffer : List ℕ) → PageTable b [] buffer p) → ⊥
+fixed-page-refuted-in = fixed.fixed-page-refuted-in
 
 -- the bytes of records give back their pairs, whatever is behind them, where four bytes hold each value; and they hold every value shown
 pub records-read : (l : List Entry) (rest : List ℕ) → all fourBytes l ≡ true → pairsIn (length l) (recordsOf l ++ rest) ≡ l
@@ -70,6 +79,10 @@ module _ (b key : List ℕ) where
 
     pub one-page-count : page b key whole .more ≡ false → page b key whole .records ≡ length (pairsLeft b key)
     one-page-count last = one.one-page b key whole zero last .count
+
+    -- a page that is not refused writes a record where one is left, so that pages come to an end
+    pub page-writes : pairsLeft b key ≢ [] → 1 ≤ page b key whole .records
+    page-writes = one.one-written b key whole zero
 
     -- none remain where the buffer holds all records, also where the last of them ends with the buffer
     pub none-remain : length (recordsOf (pairsLeft b key)) ≤ length whole → page b key whole .more ≡ false

@@ -1,14 +1,11 @@
 // The walk of a page: down the tree by rising characters, one record after the other, until one does not fit.
-ghost use mathlib.Core.List.{map};
 ghost use Prim.Native.Nat.{_+_, _-_, _≤_, _<_};
-ghost use lib.ListN.{take, drop};
 ghost use Rattle.cells.specs.Memory.{memoryOf};
 ghost use Rattle.nodes.specs.Layout.{keyLimit};
 ghost use Rattle.nodes.specs.Code.Covered.{Covered};
-ghost use Rattle.trees.specs.Entries.{entries, entriesAfter};
 ghost use Rattle.trees.specs.Code.Coded.{Grown};
 ghost use Rattle.pages.specs.Code.Progress.{writtenOf, Open, Printed};
-ghost use Rattle.pages.specs.Code.Walk.{under, entriesFrom, RunDown};
+ghost use Rattle.pages.specs.Code.Walk.{treePairs, pairsBelow, pairsAfter, RunDown};
 use crate::known::known_child;
 use crate::record::Progress;
 use crate::record::put_record;
@@ -65,7 +62,7 @@ fn print_tree(
     start: Progress,
 ) -> Progress
     requires { ⌜ Covered layout (now block) × (at ≤ keyLimit) × Grown layout (memoryOf (now block)) (keyLimit - at) word × Open start (now buffer) ⌝ }
-    ensures { λ r. ⌜ Printed at (now (path .entry)) (now (path .exit)) (writtenOf start (now (buffer .entry))) (map (under (take at (now (path .entry)))) (entries layout (memoryOf (now (block .entry))) (keyLimit - at) word)) (writtenOf r (now (buffer .exit))) ⌝ }
+    ensures { λ r. ⌜ Printed at (now (path .entry)) (now (path .exit)) (writtenOf start (now (buffer .entry))) (treePairs layout (memoryOf (now (block .entry))) (now (path .entry)) at word) (writtenOf r (now (buffer .exit))) ⌝ }
 {
     let stand = run_down(layout, block, word, at, path);
     let below = stand.word;
@@ -100,7 +97,7 @@ fn print_below(
     start: Progress,
 ) -> Progress
     requires { ⌜ Covered layout (now block) × (at ≤ keyLimit) × Grown layout (memoryOf (now block)) (keyLimit - at) word × Open start (now buffer) ⌝ }
-    ensures { λ r. ⌜ Printed at (now (path .entry)) (now (path .exit)) (writtenOf start (now (buffer .entry))) (map (under (take at (now (path .entry)))) (entriesFrom layout (memoryOf (now (block .entry))) (keyLimit - (at + 1)) word first)) (writtenOf r (now (buffer .exit))) ⌝ }
+    ensures { λ r. ⌜ Printed at (now (path .entry)) (now (path .exit)) (writtenOf start (now (buffer .entry))) (pairsBelow layout (memoryOf (now (block .entry))) (now (path .entry)) at word first) (writtenOf r (now (buffer .exit))) ⌝ }
 {
     let mut progress = Progress {
         records: start.records,
@@ -138,7 +135,7 @@ pub fn print_after(
     start: Progress,
 ) -> Progress
     requires { ⌜ Covered layout (now block) × (i ≤ keyLimit) × Grown layout (memoryOf (now block)) (keyLimit - i) word × Open start (now buffer) ⌝ }
-    ensures { λ r. ⌜ Printed i (now (path .entry)) (now (path .exit)) (writtenOf start (now (buffer .entry))) (map (under (take i (now (path .entry)))) (entriesAfter (drop i (now (key .entry))) (entries layout (memoryOf (now (block .entry))) (keyLimit - i) word))) (writtenOf r (now (buffer .exit))) ⌝ }
+    ensures { λ r. ⌜ Printed i (now (path .entry)) (now (path .exit)) (writtenOf start (now (buffer .entry))) (pairsAfter layout (memoryOf (now (block .entry))) (now (path .entry)) i word (now (key .entry))) (writtenOf r (now (buffer .exit))) ⌝ }
 {
     if key.len() <= i {
         return print_below(layout, block, word, 0, i, path, buffer, start);

@@ -1,7 +1,8 @@
 -- A page that writes all pairs left, and what the pages of a block are beside it.
-use mathlib.Core.Path.{_≡_, sym, ap, _∙_, subst}
+use mathlib.Core.Path.{_≡_, refl, sym, ap, _∙_, subst}
+use mathlib.Core.Logic.{_≢_}
 use mathlib.Core.Bool.{true, false}
-use mathlib.Core.List.{List, [], _++_, append-nil}
+use mathlib.Core.List.{List, [], _∷_, _++_, append-nil}
 use Prim.Native.Nat.{ℕ, _+_, _≤_}
 use native.Mathlib.Omega.{arith}
 use lib.ListN.{length}
@@ -41,6 +42,20 @@ module _ (b key : List ℕ) where
         let all-here : s .here ≡ pairsLeft b key =
         sym (append-nil (s .here)) ∙ ap (λ (l : List Entry). s .here ++ l) (sym (s .more .0 last)) ∙ s .in-order in
         record { bytes = s .bytes ∙ ap recordsOf all-here; count = s .records ∙ ap (λ (l : List Entry). length l) all-here }
+
+    -- where something is left a record is written
+    pub one-written : pairsLeft b key ≢ [] → 1 ≤ page b key whole .records
+    one-written some-left = go (s .here) (s .later) refl refl
+      where
+        s : Step b key (page b key whole)
+        s = step b key whole zero
+
+        go : (here later : List Entry) → s .here ≡ here → s .later ≡ later → 1 ≤ page b key whole .records
+        go (entry ∷ here) later h l = omega (arith, s .records, ap (λ (z : List Entry). length z) h)
+        go [] [] h l = absurd (some-left (sym (s .in-order) ∙ (λ i. h i ++ l i)))
+        go [] (entry ∷ later) h l =
+            let moved = s .moved (λ none-later. absurd (omega (arith, ap (λ (z : List Entry). length z) (sym l ∙ none-later)))) in
+            omega (arith, s .records, moved)
 
     -- none remain where the buffer has room for all records, the last ending where the buffer does or before
     pub none-behind : length (recordsOf (pairsLeft b key)) ≤ length whole → page b key whole .more ≡ false

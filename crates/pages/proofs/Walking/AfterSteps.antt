@@ -21,7 +21,7 @@ use Rattle.trees.proofs.LookSteps.{rest-none, found-word, stopped-word, grown-r
 use Rattle.trees.proofs.NextKey.NextAnswers.{next-room}
 use Rattle.trees.proofs.Entries.EntriesLookup.{entries-zero}
 use Rattle.pages.specs.Code.Progress.{Written, putRecords, Printed}
-use Rattle.pages.specs.Code.Walk.{under, entriesFrom}
+use Rattle.pages.specs.Code.Walk.{under, entriesFrom, pairsBelow}
 use Rattle.pages.proofs.Walking.AfterKey.{after-none, after-own, after-children-nil, after-children}
 use Rattle.pages.proofs.Walking.Below.{from-read, tree-entries}
 use Rattle.pages.proofs.Walking.WalkParts.{child-kept, child-then, child-full}
@@ -107,7 +107,7 @@ module _ (layout : Layout) (m : Memory) (i w : ℕ) (key : List ℕ) (g : Grown 
 
         -- the page went on
         pub after-goes : (path₃ : List ℕ) (z₂ : Written)
-            → Printed i path₂ path₃ z₁ (map (under (take i path₂)) (entriesFrom layout m (keyLimit - (i + 1)) w (x + 1))) z₂
+            → Printed i path₂ path₃ z₁ (pairsBelow layout m path₂ i w (x + 1)) z₂
             → Printed i path path₃ z (map (under (take i path)) greater) z₂
         after-goes path₃ z₂ second =
             let kept = child-kept i x path path₁ path₂ room put z z₁ (entriesAfter (drop (i + 1) key) (entries layout m (keyLimit - (i + 1)) v)) [] first in

@@ -26,14 +26,14 @@ use Rattle.trees.proofs.NextKey.NextAnswers.{first-grown}
 use Rattle.trees.proofs.NextKey.NextSteps.{AmongLeast, least-held, told-least, told-no-least}
 use Rattle.pages.specs.declared.walk.Stand.{Stand}
 use Rattle.pages.specs.Code.Progress.{Written, putRecord, putRecords, Printed}
-use Rattle.pages.specs.Code.Walk.{under, entriesFrom, RunDown}
+use Rattle.pages.specs.Code.Walk.{under, entriesFrom, treePairs, pairsBelow, RunDown}
 use Rattle.pages.proofs.Walking.Below.{from-none, from-least, from-childless, tree-entries}
 use Rattle.pages.proofs.Writing.Progress.{put-stopped}
 use Rattle.pages.proofs.Walking.WalkParts.{kept-less, put-none, put-first, child-kept, child-then}
 
 -- below the children of a node, from a character on: what is left to write from a state on ends where the whole ends
 module _ (layout : Layout) (m : Memory) (at w : ℕ) (g : Grown layout m (keyLimit - at) w) (from : ℕ) (path₀ : List ℕ) (s target : Written)
-    (left : putRecords s (map (under (take at path₀)) (entriesFrom layout m (keyLimit - (at + 1)) w from)) ≡ target)
+    (left : putRecords s (pairsBelow layout m path₀ at w from) ≡ target)
     (l : Least) (coded : leastOf l ≡ leastStep layout m w from) where
   node : (X : Node) × (read layout m w ≡ some X)
   node = grown-read layout m (keyLimit - at) w g
@@ -72,7 +72,7 @@ module _ (layout : Layout) (m : Memory) (at w : ℕ) (g : Grown layout m (keyLim
       pub below-kept : take at path′ ≡ take at path₀
       below-kept = child-kept at x path path₁ path′ first put s s′ (entries layout m (keyLimit - (at + 1)) v) [] printed ∙ kept
 
-      pub below-goes : putRecords s′ (map (under (take at path₀)) (entriesFrom layout m (keyLimit - (at + 1)) w (x + 1))) ≡ target
+      pub below-goes : putRecords s′ (pairsBelow layout m path₀ at w (x + 1)) ≡ target
       below-goes =
           ap (λ (p : List ℕ). putRecords s′ (map (under p) (entriesFrom layout m (keyLimit - (at + 1)) w (x + 1)))) (sym kept)
           ∙ sym (child-then at x path path₁ path′ first put s s′ (entries layout m (keyLimit - (at + 1)) v) (entriesFrom layout m (keyLimit - (at + 1)) w (x + 1)) printed)
@@ -86,7 +86,7 @@ module _ (layout : Layout) (m : Memory) (at w : ℕ) (g : Grown layout m (keyLim
 module _ (layout : Layout) (m : Memory) (at w : ℕ) (path path₁ : List ℕ) (stand : Stand) (run : RunDown layout m path at w path₁ stand) where
   -- its pairs: the node's own, then those below
   tree-parts : (o : Option ℕ) → o ≡ valueOf layout m (stand .word)
-      → map (under (take at path)) (entries layout m (keyLimit - at) w)
+      → treePairs layout m path at w
       ≡ map (under (take (stand .at) path₁)) (ownEntry o ++ entriesFrom layout m (keyLimit - (stand .at + 1)) (stand .word) 0)
   tree-parts o value =
       let node = grown-read layout m (keyLimit - stand .at) (stand .word) (run .grown) in
@@ -101,8 +101,8 @@ module _ (layout : Layout) (m : Memory) (at w : ℕ) (path path₁ : List ℕ) (
 
   -- no value: what is below is all
   pub tree-below : none ≡ valueOf layout m (stand .word) → (path₂ : List ℕ) (s s′ : Written)
-      → Printed (stand .at) path₁ path₂ s (map (under (take (stand .at) path₁)) (entriesFrom layout m (keyLimit - (stand .at + 1)) (stand .word) 0)) s′
-      → Printed at path path₂ s (map (under (take at path)) (entries layout m (keyLimit - at) w)) s′
+      → Printed (stand .at) path₁ path₂ s (pairsBelow layout m path₁ (stand .at) (stand .word) 0) s′
+      → Printed at path path₂ s (treePairs layout m path at w) s′
   unfolding ownEntry
   tree-below value path₂ s s′ below =
       record { kept = tree-kept path₂ (below .kept); written = below .written ∙ ap (putRecords s) (sym (tree-parts none value)) }
@@ -110,17 +110,17 @@ module _ (layout : Layout) (m : Memory) (at w : ℕ) (path path₁ : List ℕ) (
   module _ (n : ℕ) (value : some n ≡ valueOf layout m (stand .word)) (s s₁ : Written)
       (put : s₁ ≡ putRecord s (entryOf (take (stand .at) path₁) n)) where
     -- the first record, then those below
-    tree-first : putRecords s (map (under (take at path)) (entries layout m (keyLimit - at) w))
-        ≡ putRecords s₁ (map (under (take (stand .at) path₁)) (entriesFrom layout m (keyLimit - (stand .at + 1)) (stand .word) 0))
+    tree-first : putRecords s (treePairs layout m path at w)
+        ≡ putRecords s₁ (pairsBelow layout m path₁ (stand .at) (stand .word) 0)
     unfolding ownEntry
     tree-first =
-        let later : List Entry = map (under (take (stand .at) path₁)) (entriesFrom layout m (keyLimit - (stand .at + 1)) (stand .word) 0) in
+        let later : List Entry = pairsBelow layout m path₁ (stand .at) (stand .word) 0 in
         ap (putRecords s) (tree-parts (some n) value)
         ∙ ap (λ (k : List ℕ). putRecords s (entryOf k n ∷ later)) (append-nil (take (stand .at) path₁))
         ∙ put-first s (entryOf (take (stand .at) path₁) n) later
         ∙ ap (λ (z : Written). putRecords z later) (sym put)
 
-    pub tree-full : s₁ .full ≡ true → Printed at path path₁ s (map (under (take at path)) (entries layout m (keyLimit - at) w)) s₁
+    pub tree-full : s₁ .full ≡ true → Printed at path path₁ s (treePairs layout m path at w) s₁
     tree-full full = record { kept = run .kept; written = sym (put-stopped s₁ _ full) ∙ sym tree-first }
 
     -- a leaf has nothing below
@@ -130,7 +130,7 @@ module _ (layout : Layout) (m : Memory) (at w : ℕ) (path path₁ : List ℕ) (
         from-childless layout m (keyLimit - (stand .at + 1)) (stand .word) 0 (childless (some (4294967295 - stand .word)))
         (read-is layout m (stand .word) (leaf (4294967295 - stand .word)) (pointer-leaf layout (stand .word) top)) (λ y near. refl)
 
-    pub tree-leaf : 2147483648 ≤ stand .word → Printed at path path₁ s (map (under (take at path)) (entries layout m (keyLimit - at) w)) s₁
+    pub tree-leaf : 2147483648 ≤ stand .word → Printed at path path₁ s (treePairs layout m path at w) s₁
     tree-leaf top =
         record {
           kept = run .kept;
@@ -138,6 +138,6 @@ module _ (layout : Layout) (m : Memory) (at w : ℕ) (path path₁ : List ℕ) (
         }
 
     pub tree-goes : (path₂ : List ℕ) (s₂ : Written)
-        → Printed (stand .at) path₁ path₂ s₁ (map (under (take (stand .at) path₁)) (entriesFrom layout m (keyLimit - (stand .at + 1)) (stand .word) 0)) s₂
-        → Printed at path path₂ s (map (under (take at path)) (entries layout m (keyLimit - at) w)) s₂
+        → Printed (stand .at) path₁ path₂ s₁ (pairsBelow layout m path₁ (stand .at) (stand .word) 0) s₂
+        → Printed at path path₂ s (treePairs layout m path at w) s₂
     tree-goes path₂ s₂ below = record { kept = tree-kept path₂ (below .kept); written = below .written ∙ sym tree-first }

@@ -1,17 +1,15 @@
 -- The records below a node's children are written as its contract says.
 use mathlib.Core.Path.{_≡_, _∙_}
-use mathlib.Core.List.{map}
-use Prim.Native.Nat.{ℕ, _+_, _-_}
+use Prim.Native.Nat.{ℕ, _-_}
 use native.Mathlib.Omega.{arith}
 use lib.ListN.{length, take}
 use borrow.Author.Needs.{needs}
 use Rattle.cells.specs.Memory.{memoryOf}
-use Rattle.nodes.specs.Layout.{keyLimit}
 use Rattle.trees.proofs.NextKey.NextAnswers.{first-grown}
 use Rattle.pages.proofs.Walking.WalkParts.{grown-known, still-open}
 use Rattle.pages.proofs.Walking.WalkSteps.{below-done, below-near, below-kept, below-goes, below-full}
 use Rattle.pages.specs.Code.Progress.{writtenOf, Open, putRecords}
-use Rattle.pages.specs.Code.Walk.{under, entriesFrom}
+use Rattle.pages.specs.Code.Walk.{pairsBelow}
 use Rattle.pages.proofs.walk.print_below.Reads as reads
 use Rattle.pages.proofs.walk.+print_below+print_tree.Lts-print_below as lts
 use Rattle.pages.proofs.walk.+print_below+print_tree.Proof.Measures.{print-below-at, below-told}
@@ -19,7 +17,7 @@ use Rattle.pages.proofs.walk.+print_below+print_tree.Proof.Measures.{pr
 abbrev pub Inv-loop : lts.InvT-loop
 Inv-loop layout block word first at path₀ buffer₀ progress₀ from₀ path buffer progress from =
     (take at path ≡ take at path₀) × (length buffer ≡ length buffer₀) × Open progress buffer
-    × (putRecords (writtenOf progress buffer) (map (under (take at path₀)) (entriesFrom layout (memoryOf block) (keyLimit - (at + 1)) word from)) ≡ putRecords (writtenOf progress₀ buffer₀) (map (under (take at path₀)) (entriesFrom layout (memoryOf block) (keyLimit - (at + 1)) word from₀)))
+    × (putRecords (writtenOf progress buffer) (pairsBelow layout (memoryOf block) path₀ at word from) ≡ putRecords (writtenOf progress₀ buffer₀) (pairsBelow layout (memoryOf block) path₀ at word from₀))
 
 abbrev pub μ-loop : lts.MeasureT-loop
 μ-loop layout block word first at path₀ buffer₀ progress₀ from₀ path buffer progress from = 256 - from
