@@ -43,8 +43,7 @@ fn run_down(layout: Layout, block: &[u8], word: u32, at: usize, path: &mut [u8; 
             };
         };
         let bytes = cell(block, number);
-        let characters: &mut [u8] = path;
-        characters[depth] = bytes[place];
+        put_character(path, depth, bytes[place]);
         here = chain_child(bytes, number, place);
         depth += 1;
     }

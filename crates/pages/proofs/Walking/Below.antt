@@ -57,10 +57,6 @@ under-below path x (e ∷ l) =
     let key : path ++ (x ∷ e .key) ≡ (path ++ (x ∷ [])) ++ e .key = sym (append-assoc path (x ∷ []) (e .key)) in
     λ i. record { key = key i; value = e .value } ∷ under-below path x l i
 
-pub map-append : {A B : Type 0} (f : A → B) (a b : List A) → map f (a ++ b) ≡ map f a ++ map f b
-map-append f [] b = refl
-map-append f (x ∷ a) b = ap (λ l. f x ∷ l) (map-append f a b)
-
 module _ (layout : Layout) (m : Memory) where
   -- the pairs from a character on, where the node is known
   pub from-read : (d w from : ℕ) (X : Node) → read layout m w ≡ some X

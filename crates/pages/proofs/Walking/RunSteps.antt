@@ -107,9 +107,9 @@ module _ (layout : Layout) (m : Memory) (path₀ : List ℕ) (at w : ℕ) (path 
       ∙ ap (λ (q : List ℕ). map (under q) (entries layout m e v)) (sym (path-more path depth x (omega arith)))
 
   -- the way down, with the step to its child
-  pub run-more : (v : ℕ) → v ≡ chainChild bytes c k → length path ≡ keyLimit
+  run-set : (v : ℕ) → v ≡ chainChild bytes c k → length path ≡ keyLimit
       → RunDown layout m path₀ at w (set path depth (getD bytes k 0)) (record { word = v; at = depth + 1 })
-  run-more v child size =
+  run-set v child size =
       let r = place-grown layout m (keyLimit - depth) here c k (run .grown) named character in
       let word : v ≡ chainChild (m c) c k = child ∙ ap (λ (l : List ℕ). chainChild l c k) cell in
       let left : r .0 ≡ keyLimit - (depth + 1) = omega (arith, r .1) in
@@ -120,3 +120,8 @@ module _ (layout : Layout) (m : Memory) (path₀ : List ℕ) (at w : ℕ) (path 
         kept = take-set-le at path depth (getD bytes k 0) (run .onward) ∙ run .kept;
         same = run .same ∙ run-step v (keyLimit - (depth + 1)) word (omega arith) size;
       }
+
+  pub run-more : (v : ℕ) → v ≡ chainChild bytes c k → (path₁ : List ℕ) → (length path ≡ keyLimit) × (path₁ ≡ set path depth (getD bytes k 0))
+      → RunDown layout m path₀ at w path₁ (record { word = v; at = depth + 1 })
+  run-more v child path₁ put =
+      subst (λ (q : List ℕ). RunDown layout m path₀ at w q (record { word = v; at = depth + 1 })) (sym (put .1)) (run-set v child (put .0))

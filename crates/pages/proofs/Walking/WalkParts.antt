@@ -2,7 +2,7 @@
 use mathlib.Core.Path.{_≡_, refl, sym, ap, _∙_, subst}
 use mathlib.Core.Logic.{_≢_}
 use mathlib.Core.Bool.{true, false}
-use mathlib.Core.List.{List, [], _∷_, _++_, map}
+use mathlib.Core.List.{List, [], _∷_, _++_, map, map-append}
 use mathlib.Core.Option.{none}
 use Prim.Native.Nat.{ℕ, _+_, _≤_, _<_}
 use native.Mathlib.Omega.{arith}
@@ -19,7 +19,7 @@ use Rattle.trees.proofs.LookSteps.{grown-read}
 use Rattle.pages.specs.declared.record.Progress.{Progress}
 use Rattle.pages.specs.Code.Progress.{Written, writtenOf, putRecord, putRecords, Open, Printed}
 use Rattle.pages.specs.Code.Walk.{under}
-use Rattle.pages.proofs.Walking.Below.{under-below, map-append}
+use Rattle.pages.proofs.Walking.Below.{under-below}
 use Rattle.pages.proofs.Writing.Progress.{put-append, put-one, put-stopped, put-counted, put-inside}
 
 -- a path with one character more

@@ -33,27 +33,27 @@ returns c = search needs
 cell-requires : tie.Need-cell-requires Inv-loop μ-loop
 cell-requires c κs = omega (arith, chain-facts _ _ _ (c .before .before .before .pointer-of .ensures) _ _ (c .before .number .given .1) .3)
 
-shared-slice-read-characters : tie.Need-shared-slice-read-characters Inv-loop μ-loop
-shared-slice-read-characters c = omega (arith, cell-length _ _ _ (c .before .before .cell .ensures), chain-facts _ _ _ (c .before .before .before .before .before .before .pointer-of .ensures) _ _ (c .before .before .before .before .number .given .1) .2)
+shared-slice-read-put-character : tie.Need-shared-slice-read-put-character Inv-loop μ-loop
+shared-slice-read-put-character c = omega (arith, cell-length _ _ _ (c .before .before .cell .ensures), chain-facts _ _ _ (c .before .before .before .before .before .before .pointer-of .ensures) _ _ (c .before .before .before .before .number .given .1) .2)
 
-slice-write-characters : tie.Need-slice-write-characters Inv-loop μ-loop
-slice-write-characters c = omega (arith, run-room _ _ _ _ _ _ _ _ (c .before .before .before .before .before .before .before .loop .inv) _ _ (coded-chain _ _ _ (c .before .before .before .before .before .before .pointer-of .ensures) _ _ (c .before .before .before .before .number .given .1)) _ (c .before .before .cell .ensures) (omega (arith, c .shared-slice-known2 .given (c .before .before .before .before .number .given .0 .1 .0))))
+put-character-requires : tie.Need-put-character-requires Inv-loop μ-loop
+put-character-requires c κs = run-room _ _ _ _ _ _ _ _ (c .before .before .before .before .before .before .before .loop .inv) _ _ (coded-chain _ _ _ (c .before .before .before .before .before .before .pointer-of .ensures) _ _ (c .before .before .before .before .number .given .1)) _ (c .before .before .cell .ensures) (omega (arith, c .shared-slice-known2 .given (c .before .before .before .before .number .given .0 .1 .0)))
 
 chain-child-requires : tie.Need-chain-child-requires Inv-loop μ-loop
 chain-child-requires c κs =
-    let facts = chain-facts _ _ _ (c .before .before .before .before .before .before .pointer-of .ensures) _ _ (c .before .before .before .before .number .given .1) in
-    (cell-length _ _ _ (c .before .before .cell .ensures), omega (arith, facts .3), facts .2)
+    let facts = chain-facts _ _ _ (c .before .before .before .before .before .before .before .pointer-of .ensures) _ _ (c .before .before .before .before .before .number .given .1) in
+    (cell-length _ _ _ (c .before .before .before .cell .ensures), omega (arith, facts .3), facts .2)
 
 add-depth : tie.Need-add-depth Inv-loop μ-loop
 add-depth c = search needs
 
 loop-less : tie.Need-loop-less Inv-loop μ-loop
-loop-less c = omega (arith, run-room _ _ _ _ _ _ _ _ (c .before .before .before .before .before .before .before .before .loop .inv) _ _ (coded-chain _ _ _ (c .before .before .before .before .before .before .before .pointer-of .ensures) _ _ (c .before .before .before .before .before .number .given .1)) _ (c .before .before .before .cell .ensures) (omega (arith, c .before .shared-slice-known2 .given (c .before .before .before .before .before .number .given .0 .1 .0))))
+loop-less c = omega (arith, run-room _ _ _ _ _ _ _ _ (c .before .before .before .before .before .before .before .before .before .loop .inv) _ _ (coded-chain _ _ _ (c .before .before .before .before .before .before .before .before .pointer-of .ensures) _ _ (c .before .before .before .before .before .before .number .given .1)) _ (c .before .before .before .before .cell .ensures) (omega (arith, c .before .before .shared-slice-known2 .given (c .before .before .before .before .before .before .number .given .0 .1 .0))))
 
 loop-again : tie.Need-loop-again Inv-loop μ-loop
 loop-again c =
-    run-more _ _ _ _ _ _ _ _ (c .before .before .before .before .before .before .before .before .loop .inv) _ _ (coded-chain _ _ _ (c .before .before .before .before .before .before .before .pointer-of .ensures) _ _ (c .before .before .before .before .before .number .given .1)) _ (c .before .before .before .cell .ensures) (omega (arith, c .before .shared-slice-known2 .given (c .before .before .before .before .before .number .given .0 .1 .0)))
-    _ (c .chain-child .ensures) (omega arith)
+    run-more _ _ _ _ _ _ _ _ (c .before .before .before .before .before .before .before .before .before .loop .inv) _ _ (coded-chain _ _ _ (c .before .before .before .before .before .before .before .before .pointer-of .ensures) _ _ (c .before .before .before .before .before .before .number .given .1)) _ (c .before .before .before .before .cell .ensures) (omega (arith, c .before .before .shared-slice-known2 .given (c .before .before .before .before .before .before .number .given .0 .1 .0)))
+    _ (c .chain-child .ensures) _ (c .before .put-character .ensures)
 
 pub run-down-spec : {M : Type 1} → statement M
 run-down-spec =
@@ -66,8 +66,8 @@ run-down-spec =
     enum-known-number
     returns
     cell-requires
-    shared-slice-read-characters
-    slice-write-characters
+    shared-slice-read-put-character
+    put-character-requires
     chain-child-requires
     add-depth
     loop-less
