@@ -40,6 +40,23 @@ void fresh(struct block *block, size_t cells) {
     put_word(block, trailer(block) + 0x1C, 1);
 }
 
+/* The next of a row of numbers, by three shifts. */
+static uint32_t next(uint32_t state) {
+    state ^= state << 13;
+    state ^= state >> 17;
+    return state ^ state << 5;
+}
+
+void draw(struct block *block, unsigned turn, uint32_t *state) {
+    fresh(block, 4 + turn % 13);
+    for (size_t at = CELL; at < trailer(block) + 4; at++) {
+        *state = next(*state);
+        uint8_t drawn = (uint8_t)(*state >> 8);
+        bytes(block)[at] = turn % 2 == 0 || *state % 4 == 0 ? drawn : drawn & 0x1F;
+    }
+    put_word(block, trailer(block), root(block) % (uint32_t)block->size);
+}
+
 /* The block as it was before a call. */
 static struct block before;
 

@@ -26,6 +26,11 @@ void put_word(struct block *block, size_t at, uint32_t word);
 size_t trailer(const struct block *block);
 uint32_t root(struct block *block);
 
+/* Makes a block of random bytes under a valid trailer, every second one with bytes that are mostly small; drawn from the same first state,
+   the blocks are the same in every run. */
+#define FIRST_STATE 2463534242u
+void draw(struct block *block, unsigned turn, uint32_t *state);
+
 /* Keeps a copy of the block before a call; then whether it, or only its margins, are as they were. */
 void keep(const struct block *block);
 bool kept(const struct block *block);
