@@ -25,7 +25,7 @@
 extern "C" {
 #endif
 
-/* What a call answers. 5 and 6 are answers of calls that firmware does not have. */
+/* What a call answers. 5, 6 and 15 are answers of calls that firmware does not have. */
 enum {
     REGISTER_DONE = 0,
     REGISTER_BAD_SIZE = 1,     /* the size is no multiple of 32, or not 4 to 2,048 cells */

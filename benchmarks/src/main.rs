@@ -3,7 +3,9 @@
 mod insertion;
 mod labels;
 mod orders;
+mod pages;
 mod plain;
+mod printing;
 mod proved;
 mod removal;
 mod room;
@@ -19,6 +21,9 @@ use timing::{measure, Work};
 
 /// The labels that one look-up or next-key measurement asks for.
 const QUESTIONS: usize = 2000;
+
+/// The labels that both programs are asked for the pages after.
+const PAGES: usize = 50;
 
 /// The serial numbers of the case of 2,000 labels, which leave much of the largest block free.
 const SERIALS: usize = 2000;
@@ -153,6 +158,7 @@ impl Case {
             let next = proved::next_key(&self.full, label);
             assert_eq!(next, plain::next_key(&self.full, label), "next key after {label:?}");
         }
+        pages::compare(&self.full, &self.map, &self.questions[..PAGES]);
         self.compare_damaged();
     }
 
@@ -190,6 +196,7 @@ impl Case {
         self.report("insert", "plain", fills * self.entered.len(), &ours, &theirs);
         let (ours, theirs) = (|| self.emptied(fills, proved::remove), || self.emptied(fills, plain::remove));
         self.report("remove", "plain", fills * self.removed.len(), &ours, &theirs);
+        pages::report(&self.start(), full, &self.map);
         orders::report_block(&self.start(), full);
     }
 

@@ -1,6 +1,7 @@
 //! The plain program: the same answers over the same block bytes, in ordinary Rust without a proof.
 
 use crate::insertion;
+use crate::printing;
 use crate::removal;
 use crate::validation;
 use crate::walk;
@@ -32,6 +33,15 @@ pub struct Next {
     pub answer: u8,
     pub size: u32,
     pub key: [u8; LONGEST_KEY],
+}
+
+/// The answer to the question for a page: its records, the bytes that they use and whether more remain.
+#[derive(Clone, Copy, Debug, Default, PartialEq, Eq)]
+pub struct Page {
+    pub answer: u8,
+    pub records: u32,
+    pub used: u32,
+    pub more: bool,
 }
 
 /// The four bytes at an offset as a number, highest byte first.
@@ -141,6 +151,22 @@ pub fn next_key(block: &[u8], key: &[u8]) -> Next {
         None => next = Next { answer: 11, size: 0, key: [0; LONGEST_KEY] },
     }
     next
+}
+
+/// Writes the records of the keys that are greater than the given one, in order, until one does not fit, after validation.
+#[inline(never)]
+pub fn page(block: &[u8], after: &[u8], buffer: &mut [u8]) -> Page {
+    let answer = match validate(block) {
+        0 if after.len() > LONGEST_KEY => 3,
+        0 if buffer.len() < printing::LONGEST_RECORD => 15,
+        answer => answer,
+    };
+    if answer != 0 {
+        return Page { answer, ..Page::default() };
+    }
+    let mut writer = printing::Writer { block, path: [0; LONGEST_KEY], buffer, records: 0, used: 0 };
+    let more = !writer.after(root_of(block), after, 0);
+    Page { answer, records: writer.records, used: writer.used as u32, more }
 }
 
 /// Enters a key with its value after validation: the answer number and the count of cells taken.

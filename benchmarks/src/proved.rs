@@ -1,6 +1,6 @@
 //! The proved library behind its C functions; all use of them stands in this file.
 
-use crate::plain::Next;
+use crate::plain::{Next, Page};
 
 extern "C" {
     fn exports_format(block: *mut u8, block_len: usize, edition: u32) -> u8;
@@ -22,6 +22,17 @@ extern "C" {
         key_len: usize,
         size: *mut u32,
         key_out: *mut u8,
+    ) -> u8;
+    fn exports_page(
+        block: *const u8,
+        block_len: usize,
+        key: *const u8,
+        key_len: usize,
+        buffer: *mut u8,
+        buffer_len: usize,
+        records: *mut u32,
+        used: *mut u32,
+        more: *mut u32,
     ) -> u8;
     fn exports_is_valid_order(word: u16) -> u8;
 }
@@ -60,6 +71,27 @@ pub fn next_key(block: &[u8], key: &[u8]) -> Next {
     next.answer =
         unsafe { exports_next_key(block.as_ptr(), block.len(), key.as_ptr(), key.len(), &mut next.size, out) };
     next
+}
+
+/// Writes the records of the keys that are greater than the given one, in order, until one does not fit.
+pub fn page(block: &[u8], after: &[u8], buffer: &mut [u8]) -> Page {
+    let (mut page, mut more) = (Page::default(), 0);
+    // Each pointer comes with the length of its own slice, and no slice overlaps another.
+    page.answer = unsafe {
+        exports_page(
+            block.as_ptr(),
+            block.len(),
+            after.as_ptr(),
+            after.len(),
+            buffer.as_mut_ptr(),
+            buffer.len(),
+            &mut page.records,
+            &mut page.used,
+            &mut more,
+        )
+    };
+    page.more = more != 0;
+    page
 }
 
 /// Enters a key with its value: the answer number and the count of cells taken.

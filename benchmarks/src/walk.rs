@@ -20,7 +20,7 @@ pub fn value_of(block: &[u8], root: u32, key: &[u8]) -> Option<u32> {
 }
 
 /// The node behind a prefix, or the node itself.
-fn without_prefix(block: &[u8], word: u32) -> u32 {
+pub fn without_prefix(block: &[u8], word: u32) -> u32 {
     if !is_leaf(word) && kind_of(word) == PREFIX {
         linked_word(block, word)
     } else {
@@ -102,7 +102,12 @@ fn least_in_split(block: &[u8], head: usize, from: u8) -> Option<(u8, u32)> {
 
 /// The children of a node with their characters, rising.
 pub fn children(block: &[u8], word: u32) -> impl Iterator<Item = (u8, u32)> + '_ {
-    let mut from = Some(0);
+    children_from(block, word, 0)
+}
+
+/// The children of a node whose characters are not below the given one, rising.
+pub fn children_from(block: &[u8], word: u32, first: u8) -> impl Iterator<Item = (u8, u32)> + '_ {
+    let mut from = Some(first);
     std::iter::from_fn(move || {
         let (character, child) = least_child(block, word, from?)?;
         from = character.checked_add(1);

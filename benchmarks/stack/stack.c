@@ -16,12 +16,15 @@ uint8_t exports_insert(uint8_t *block, size_t size, const uint8_t *key, size_t l
 uint8_t exports_remove(uint8_t *block, size_t size, const uint8_t *key, size_t length, uint32_t *count);
 uint8_t exports_get(const uint8_t *block, size_t size, const uint8_t *key, size_t length, uint32_t *value);
 uint8_t exports_next_key(const uint8_t *block, size_t size, const uint8_t *key, size_t length, uint32_t *next, uint8_t *out);
+uint8_t exports_page(const uint8_t *block, size_t size, const uint8_t *key, size_t length, uint8_t *buffer, size_t room,
+                     uint32_t *records, uint32_t *used, uint32_t *more);
 
 static uint8_t block[2048 * 32];
 static size_t block_size;
 static uint8_t key[KEY_LIMIT];
 static size_t key_length;
 static uint8_t answer;
+static uint8_t buffer[65536];
 
 static void *nothing(void *unused) {
     return unused;
@@ -54,6 +57,19 @@ static void *next_key(void *unused) {
     uint32_t size;
     uint8_t out[KEY_LIMIT];
     answer = exports_next_key(block, block_size, key, key_length, &size, out);
+    return unused;
+}
+
+// all of the register on one page, and the page after the deepest key
+static void *page(void *unused) {
+    uint32_t records, used, more;
+    answer = exports_page(block, block_size, key, 0, buffer, sizeof buffer, &records, &used, &more);
+    return unused;
+}
+
+static void *page_after(void *unused) {
+    uint32_t records, used, more;
+    answer = exports_page(block, block_size, key, key_length, buffer, sizeof buffer, &records, &used, &more);
     return unused;
 }
 
@@ -101,6 +117,8 @@ static void all_calls(const char *title) {
     measure("get", get, 0);
     key_length = KEY_LIMIT - 1;
     measure("next key", next_key, 0);
+    measure("page", page, 0);
+    measure("page after a key", page_after, 0);
     key_length = KEY_LIMIT;
     measure("insert", insert, 0);
     measure("remove", remove_key, 0);

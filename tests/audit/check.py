@@ -9,6 +9,7 @@ CALLS = {
     "crates/blocks/src/validate.rt": ["validate"],
     "crates/blocks/src/get.rt": ["get"],
     "crates/blocks/src/next.rt": ["next_key"],
+    "crates/pages/src/page.rt": ["page"],
     "crates/store/src/formatting.rt": ["format"],
     "crates/store/src/inserting.rt": ["insert"],
     "crates/store/src/removing.rt": ["remove"],

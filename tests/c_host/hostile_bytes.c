@@ -86,18 +86,11 @@ static void every_byte(void) {
     }
 }
 
-/* Blocks of random bytes under a valid trailer; the numbers are the same in every run. */
+/* Blocks of random bytes under a valid trailer. */
 static void random_blocks(void) {
-    uint32_t state = 2463534242u;
+    uint32_t state = FIRST_STATE;
     for (unsigned turn = 0; turn < 20000; turn++) {
-        fresh(&block, 4 + turn % 13);
-        for (size_t at = CELL; at < trailer(&block) + 4; at++) {
-            state ^= state << 13;
-            state ^= state >> 17;
-            state ^= state << 5;
-            bytes(&block)[at] = turn % 2 == 0 || state % 4 == 0 ? (uint8_t)(state >> 8) : (uint8_t)(state >> 8 & 0x1F);
-        }
-        put_word(&block, trailer(&block), root(&block) % (uint32_t)block.size);
+        draw(&block, turn, &state);
         uint8_t answer = answer_of_get(&block, "A", 1);
         CHECK(answer == REGISTER_DONE || answer == REGISTER_UNSOUND || answer == REGISTER_MISSING);
         uint8_t judged = answer_of_verdict(&block, question);

@@ -9,7 +9,7 @@ use native.Mathlib.Omega.{arith}
 use borrow.Author.Tests.{ne-eqb}
 use Rattle.blocks.specs.declared.answer.ChangeAnswer.{ChangeAnswer}
 use Rattle.blocks.specs.declared.answer.Refusal as declared
-use Rattle.blocks.specs.declared.answer.Refusal.the-variants.{BadSize, Unsound, BadKey, BadValue, BadSlot, SlotNotInUse, NoRoom, BadSheet, BadReading, BadToday, Missing, HeldNoDate, Expired, OutsideGate}
+use Rattle.blocks.specs.declared.answer.Refusal.the-variants.{BadSize, Unsound, BadKey, BadValue, BadSlot, SlotNotInUse, NoRoom, BadSheet, BadReading, BadToday, Missing, HeldNoDate, Expired, OutsideGate, ShortBuffer}
 use Rattle.blocks.specs.Answers.{refusalNumber, changeNumber}
 use Rattle.blocks.specs.Refusal.{Refusal, refusal, firstRefusal, changedBy}
 use Rattle.blocks.proofs.Refusals.{NoneApplies, first-holds, first-fails, passed}
@@ -30,6 +30,7 @@ refusal-number Missing e = omega (arith, e)
 refusal-number HeldNoDate e = omega (arith, e)
 refusal-number Expired e = omega (arith, e)
 refusal-number OutsideGate e = omega (arith, e)
+refusal-number ShortBuffer e = omega (arith, e)
 
 -- the number of an answer that is refused, and of one that is done
 module _ (answer : ChangeAnswer) where

@@ -3,7 +3,7 @@ use mathlib.Core.Path.{_≡_, refl}
 use mathlib.Core.List.{List, [], _∷_, map}
 use Prim.Native.Nat.{ℕ}
 use Rattle.blocks.specs.declared.answer.Refusal.{Refusal}
-use Rattle.blocks.specs.declared.answer.Refusal.the-variants.{BadSize, Unsound, BadKey, BadValue, BadSlot, SlotNotInUse, NoRoom, BadSheet, BadReading, BadToday, Missing, HeldNoDate, Expired, OutsideGate}
+use Rattle.blocks.specs.declared.answer.Refusal.the-variants.{BadSize, Unsound, BadKey, BadValue, BadSlot, SlotNotInUse, NoRoom, BadSheet, BadReading, BadToday, Missing, HeldNoDate, Expired, OutsideGate, ShortBuffer}
 use Rattle.blocks.specs.declared.answer.ChangeAnswer.{ChangeAnswer}
 use Rattle.blocks.specs.declared.answer.CountAnswer.{CountAnswer}
 use Rattle.blocks.specs.declared.answer.GetAnswer.{GetAnswer}
@@ -11,7 +11,7 @@ use Rattle.blocks.specs.declared.answer.NextAnswer.{NextAnswer}
 use Rattle.blocks.specs.Refusal.{Changed, Counted}
 use Rattle.blocks.specs.Read.{Found, Next, padded}
 
--- 01's table, "When the answer is no"
+-- 01's table, "When the answer is no", and 02, 5: "new answer 15"
 abbrev pub refusalNumber : Refusal → ℕ
 refusalNumber BadSize = 1
 refusalNumber Unsound = 2
@@ -27,6 +27,7 @@ refusalNumber Missing = 11
 refusalNumber HeldNoDate = 12
 refusalNumber Expired = 13
 refusalNumber OutsideGate = 14
+refusalNumber ShortBuffer = 15
 
 -- 01: "0", "done"
 abbrev pub changeNumber : ChangeAnswer → ℕ
@@ -60,9 +61,9 @@ nextOutcome next = record { answer = changeNumber (next .answer); size = next .s
 abbrev pub refusedNext : ℕ → Next
 refusedNext number = record { answer = number; size = 0; key = padded [] }
 
--- 01's table, "When the answer is no", top to bottom
+-- 01's table, "When the answer is no", top to bottom, and 02, 5: "new answer 15"
 pub answer-numbers :
     map refusalNumber
-    (BadSize ∷ Unsound ∷ BadKey ∷ BadValue ∷ BadSlot ∷ SlotNotInUse ∷ NoRoom ∷ BadSheet ∷ BadReading ∷ BadToday ∷ Missing ∷ HeldNoDate ∷ Expired ∷ OutsideGate ∷ [])
-    ≡ (1 ∷ 2 ∷ 3 ∷ 4 ∷ 5 ∷ 6 ∷ 7 ∷ 8 ∷ 9 ∷ 10 ∷ 11 ∷ 12 ∷ 13 ∷ 14 ∷ [])
+    (BadSize ∷ Unsound ∷ BadKey ∷ BadValue ∷ BadSlot ∷ SlotNotInUse ∷ NoRoom ∷ BadSheet ∷ BadReading ∷ BadToday ∷ Missing ∷ HeldNoDate ∷ Expired ∷ OutsideGate ∷ ShortBuffer ∷ [])
+    ≡ (1 ∷ 2 ∷ 3 ∷ 4 ∷ 5 ∷ 6 ∷ 7 ∷ 8 ∷ 9 ∷ 10 ∷ 11 ∷ 12 ∷ 13 ∷ 14 ∷ 15 ∷ [])
 answer-numbers = refl

@@ -19,6 +19,7 @@ pub enum Refusal {
     HeldNoDate,
     Expired,
     OutsideGate,
+    ShortBuffer,
 }
 
 // The answer of a call that changes a block, or only judges it.
@@ -65,6 +66,7 @@ pub fn number(refusal: Refusal) -> u8
         Refusal::HeldNoDate => 12,
         Refusal::Expired => 13,
         Refusal::OutsideGate => 14,
+        Refusal::ShortBuffer => 15,
     }
 }
 

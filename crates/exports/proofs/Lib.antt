@@ -1,2 +1,4 @@
 pub mod ChangeSteps
+pub mod PageSteps
 pub mod RunSteps
+pub mod Proved

@@ -1,4 +1,5 @@
 // Every call over numbers and bytes, for tests and tools, and a list of them; firmware has its own three.
 mod calls;
 mod lists;
+mod page;
 mod verdict;

@@ -1,5 +1,6 @@
 // The least character from one on that has a child, on any block.
 ghost use mathlib.Core.Path.{_≡_};
+ghost use mathlib.Core.Bool.{true};
 ghost use Prim.Native.Nat.{_-_, _*_, _<_, _≤_};
 ghost use lib.ListN.{length};
 ghost use Rattle.cells.specs.Memory.{memoryOf};
@@ -7,6 +8,7 @@ ghost use Rattle.nodes.specs.Code.Step.{chainStep, sparseStep, splitStep
 ghost use Rattle.nodes.specs.Code.LeastChild.{firstStep, leastStep};
 ghost use Rattle.nodes.specs.Code.Coded.{pointerOf, Named, leastOf};
 ghost use Rattle.nodes.specs.Layout.{cellLimit};
+ghost use Rattle.nodes.specs.Sparse.{validSparse};
 ghost use Rattle.nodes.specs.Code.Covered.{Covered};
 use crate::chains::chain_child;
 use crate::layout::Layout;
@@ -31,7 +33,7 @@ pub enum Least {
 }
 
 // The least at a place of a chain cell.
-fn chain_least(bytes: &[u8], number: usize, place: usize, from: usize) -> Least
+pub fn chain_least(bytes: &[u8], number: usize, place: usize, from: usize) -> Least
     requires { ⌜ (length (now bytes) ≡ 32) × (number < cellLimit) × (place < 28) × (from < 256) ⌝ }
     ensures { λ r. ⌜ leastOf r ≡ firstStep (chainStep (now (bytes .entry)) number place) (256 - from) from ⌝ }
 {
@@ -46,14 +48,11 @@ fn chain_least(bytes: &[u8], number: usize, place: usize, from: usize) -> Least
     Least::Found(character, child)
 }
 
-// The least in a sparse cell: its children are looked at by rising character.
-fn sparse_least(bytes: &[u8], from: usize) -> Least
-    requires { ⌜ (length (now bytes) ≡ 32) × (from < 256) ⌝ }
+// The least in a sparse cell that obeys its rules: its children are looked at by rising character.
+pub fn sparse_known(bytes: &[u8], from: usize) -> Least
+    requires { ⌜ (length (now bytes) ≡ 32) × (from < 256) × (validSparse (now bytes) ≡ true) ⌝ }
     ensures { λ r. ⌜ leastOf r ≡ firstStep (sparseStep (now (bytes .entry))) (256 - from) from ⌝ }
 {
-    if !is_valid_sparse(bytes) {
-        return Least::Broken;
-    }
     let count = sparse_count(bytes);
     let mut i: usize = 0;
     while i < count {
@@ -65,6 +64,17 @@ fn sparse_least(bytes: &[u8], from: usize) -> Least
         i += 1;
     }
     Least::Missing
+}
+
+// The least in a sparse cell.
+fn sparse_least(bytes: &[u8], from: usize) -> Least
+    requires { ⌜ (length (now bytes) ≡ 32) × (from < 256) ⌝ }
+    ensures { λ r. ⌜ leastOf r ≡ firstStep (sparseStep (now (bytes .entry))) (256 - from) from ⌝ }
+{
+    if !is_valid_sparse(bytes) {
+        return Least::Broken;
+    }
+    sparse_known(bytes, from)
 }
 
 // The least in a split: a mid or an end that is absent is passed at once.

@@ -23,7 +23,7 @@ pub struct NextStep {
 }
 
 // Writes a character to a position.
-fn put_character(out: &mut [u8; KEY_LIMIT], at: usize, character: u8)
+pub fn put_character(out: &mut [u8; KEY_LIMIT], at: usize, character: u8)
     requires { ⌜ at < keyLimit ⌝ }
     ensures { λ _. ⌜ (length (now (out .entry)) ≡ keyLimit) × (now (out .exit) ≡ set (now (out .entry)) at character) ⌝ }
 {

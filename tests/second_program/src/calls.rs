@@ -5,6 +5,7 @@ use crate::coverage::Coverage;
 use crate::encode::{entered, fresh_cells, Build, Layer};
 use crate::limits::{held_limits, limits_met};
 use crate::model::{put_word, word_at, Node, Store, CELL, EDITIONS, LONGEST_KEY};
+use crate::pages::{meet_refused, page, Page, Printed};
 use crate::removal::without;
 use crate::verdict::{verdict, Question};
 use std::ops::Bound;
@@ -22,21 +23,23 @@ pub enum Call {
     Release { slot: u32 },
     Verdict(Question),
     Remove { key: Vec<u8> },
+    Page(Page),
 }
 
-/// An answer number with every value that goes beside it; the dose by its bits.
-#[derive(Clone, Copy, Debug, PartialEq, Eq)]
+/// An answer number with every value that goes beside it; the dose by its bits, the number of a page that of its records.
+#[derive(Clone, Debug, PartialEq, Eq)]
 pub struct Outcome {
     pub answer: u8,
     pub number: u32,
     pub key: [u8; LONGEST_KEY],
     pub dose: u32,
+    pub page: Printed,
 }
 
 impl Outcome {
     /// An answer with zeros beside it, which is how every refusal comes.
     pub fn bare(answer: u8) -> Outcome {
-        Outcome { answer, number: 0, key: [0; LONGEST_KEY], dose: 0 }
+        Outcome { answer, number: 0, key: [0; LONGEST_KEY], dose: 0, page: Printed::default() }
     }
 
     /// Done, with a count, value or size.
@@ -59,13 +62,18 @@ impl Call {
             Call::Release { .. } => 7,
             Call::Verdict(_) => 8,
             Call::Remove { .. } => 9,
+            Call::Page(_) => 10,
         }
     }
 }
 
-/// Makes a call on a block and counts what it met.
+/// Makes a call on a block and counts what it met; a page that is refused leaves its buffer.
 pub fn perform(block: &mut [u8], call: &Call, coverage: &mut Coverage) -> Outcome {
-    let outcome = answer(block, call, coverage);
+    let mut outcome = answer(block, call, coverage);
+    if let (Call::Page(page), 1..) = (call, outcome.answer) {
+        outcome.page.buffer.clone_from(&page.buffer);
+        meet_refused(page, outcome.answer, coverage);
+    }
     coverage.call(call.number(), outcome.answer, block.len());
     limits_met(block.len(), call, outcome.answer).into_iter().for_each(|limit| coverage.limit(limit));
     outcome
@@ -93,6 +101,7 @@ fn answer(block: &mut [u8], call: &Call, coverage: &mut Coverage) -> Outcome {
         Call::Remove { key } => remove(block, store, key, coverage),
         Call::Get { key } => get(&store, key),
         Call::NextKey { key } => next_key(&store, key),
+        Call::Page(asked) => page(&store.root.table(), asked, coverage),
         Call::Snapshot { slot } => snapshot(block, *slot),
         Call::Restore { slot } => restore(block, *slot),
         Call::Release { slot } => release(block, *slot),

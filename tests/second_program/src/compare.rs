@@ -2,7 +2,7 @@
 
 use crate::calls::{perform, Call, Outcome};
 use crate::coverage::Coverage;
-use crate::display::{block_in_words, differing_cells, hexadecimal};
+use crate::display::{block_in_words, differing_bytes, differing_cells, hexadecimal, page_in_words};
 use crate::ledger::Ledger;
 use crate::lists::{run, Ended, List, NOT_FRESH};
 use crate::model::Store;
@@ -52,8 +52,10 @@ impl Comparison {
             let their = (other.call)(&mut their_block, call);
             if own != their || *block != their_block {
                 let cells = differing_cells(block, &their_block);
-                let (own, their) = (describe(&own), describe(&their));
-                self.note(call, &before, &format!("the model answers   {own}\nthe library answers {their}{cells}"));
+                let bytes = differing_bytes(&own.page.buffer, &their.page.buffer);
+                let (own, their) = (describe(call, &own), describe(call, &their));
+                let what = format!("the model answers   {own}\nthe library answers {their}{cells}{bytes}");
+                self.note(call, &before, &what);
             }
         }
         #[cfg(alone)]
@@ -141,7 +143,10 @@ impl Comparison {
 }
 
 /// An outcome in words.
-fn describe(outcome: &Outcome) -> String {
+fn describe(call: &Call, outcome: &Outcome) -> String {
+    if let Call::Page(_) = call {
+        return format!("{}, {} records, {}", outcome.answer, outcome.number, page_in_words(&outcome.page));
+    }
     let key = hexadecimal(&outcome.key);
     format!("{}, number {}, key {key}, dose {:08X}", outcome.answer, outcome.number, outcome.dose)
 }

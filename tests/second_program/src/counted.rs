@@ -149,3 +149,19 @@ counted! {
     RemovedOf0, RemovedOf48, RemovedOf49, RemovedOf255, LongList, LargeBlock, EditionOne, EditionTwo, OtherEdition,
     Embeds,
 }
+
+counted! {
+    /// How a page meets its buffer, from which key it begins, and what else would have been refused beside its refusal.
+    PageCase: LeastBuffer, HugeBuffer, ExactFitOfOne, ExactFitOfTwo, ExactFitOfMore, ExactWithMore, ExactToTheLast,
+    OneByteShort, OneByteShortOfLast, OneByteOver, LongestRecord, TenRecords, RoomForAll, NothingLeft, NothingAtAll,
+    FromEmptyKey, AfterShown, AfterGreatest, AfterAbsent, AfterPrefix, AfterExtension, AfterKeyOf48, AfterKeyWith00,
+    AfterKeyWithFF, NoBuffer, OneUnderLeast, ShortOnBadSize, ShortOnUnsound, ShortBesideLongKey, LongKeyOnBadSize,
+    LongKeyOnUnsound,
+}
+
+counted! {
+    /// What a series of pages prints, from which key it begins, and how its pages turn out.
+    SeriesCase: EmptyTable, NothingAfterKey, OnePage, TwoPages, TenPages, HundredRecords, LeastBuffersOnly,
+    OneRecordEach, LastFitsExactly, FromEmptyKey, AfterShown, AfterAbsent, LongestRecord, OfHistory, OfForeign,
+    EditionOne, EditionTwo, WithEmbedded, WithSnapshot,
+}

@@ -1,16 +1,19 @@
 //! What the calls have met: answers by call, shapes of nodes, build cases, broken rules.
 
-use crate::counted::{BuildCase, Change, Flaw, ListCase, Room, Shape, Spoilt, BUILT};
+use crate::counted::{BuildCase, Change, Flaw, ListCase, PageCase, Room, SeriesCase, Shape, Spoilt, BUILT};
 use crate::limits::{all_limits, Limit};
 use crate::model::{FIRST_EMBEDDED, SPLIT};
 use std::collections::BTreeMap;
 
 /// The calls, in the order of `Call::number`.
-pub const CALLS: [&str; 10] =
-    ["format", "validate", "insert", "get", "next_key", "snapshot", "restore", "release", "verdict", "remove"];
+pub const CALLS: [&str; 11] =
+    ["format", "validate", "insert", "get", "next_key", "snapshot", "restore", "release", "verdict", "remove", "page"];
+
+/// The answers that there are, from 0 on.
+const ANSWERS: usize = 16;
 
 /// The answers that each call can give.
-const REACHABLE: [&[usize]; 10] = [
+const REACHABLE: [&[usize]; CALLS.len()] = [
     &[0, 1],
     &[0, 1, 2],
     &[0, 1, 2, 3, 4, 7],
@@ -21,6 +24,7 @@ const REACHABLE: [&[usize]; 10] = [
     &[0, 1, 2, 5, 6],
     &[0, 1, 2, 3, 8, 9, 10, 11, 12, 13, 14],
     &[0, 1, 2, 3, 7, 11],
+    &[0, 1, 2, 3, 15],
 ];
 
 /// The answers that the calls of a list can give: its block is fresh, so none of its own calls gets 1 or 2.
@@ -67,7 +71,7 @@ impl Met {
 pub struct Coverage {
     pub calls: u64,
     pub large_calls: u64,
-    answers: [[u64; 15]; CALLS.len()],
+    answers: [[u64; ANSWERS]; CALLS.len()],
     shapes: [u64; Shape::NAMES.len()],
     cases: [[u64; BuildCase::NAMES.len()]; 2],
     flaws: [u64; Flaw::NAMES.len()],
@@ -77,6 +81,8 @@ pub struct Coverage {
     spoilt: [u64; Spoilt::NAMES.len()],
     limits: BTreeMap<Limit, u64>,
     lists: [u64; ListCase::NAMES.len()],
+    pages: [u64; PageCase::NAMES.len()],
+    series: [u64; SeriesCase::NAMES.len()],
 }
 
 impl Coverage {
@@ -85,7 +91,7 @@ impl Coverage {
         Coverage {
             calls: 0,
             large_calls: 0,
-            answers: [[0; 15]; CALLS.len()],
+            answers: [[0; ANSWERS]; CALLS.len()],
             shapes: [0; Shape::NAMES.len()],
             cases: [[0; BuildCase::NAMES.len()]; 2],
             flaws: [0; Flaw::NAMES.len()],
@@ -95,6 +101,8 @@ impl Coverage {
             spoilt: [0; Spoilt::NAMES.len()],
             limits: all_limits().into_iter().map(|limit| (limit, 0)).collect(),
             lists: [0; ListCase::NAMES.len()],
+            pages: [0; PageCase::NAMES.len()],
+            series: [0; SeriesCase::NAMES.len()],
         }
     }
 
@@ -160,6 +168,20 @@ impl Coverage {
         self.lists[case as usize] += u64::from(holds);
     }
 
+    /// Counts the cases of a page that hold.
+    pub fn page(&mut self, cases: &[(PageCase, bool)]) {
+        for (case, holds) in cases {
+            self.pages[*case as usize] += u64::from(*holds);
+        }
+    }
+
+    /// Counts the cases of a series of pages that hold.
+    pub fn series(&mut self, cases: &[(SeriesCase, bool)]) {
+        for (case, holds) in cases {
+            self.series[*case as usize] += u64::from(*holds);
+        }
+    }
+
     /// How many lists were run.
     pub fn lists(&self) -> u64 {
         let ends = [ListCase::AtEnd, ListCase::NotFresh, ListCase::NoCall, ListCase::Full];
@@ -188,6 +210,8 @@ impl Coverage {
         let places: Vec<String> = (FIRST_EMBEDDED..=SPLIT).map(|place| format!("at {place:02X}")).collect();
         let places: Vec<&str> = places.iter().map(String::as_str).collect();
         short += print_counts("nodes of embedded prefixes", &places, &self.places, least);
+        short += print_counts("pages", PageCase::NAMES, &self.pages, least);
+        short += print_counts("series of pages", SeriesCase::NAMES, &self.series, self.demanded(50));
         short += self.report_limits();
         let words = self.orders.len();
         println!("order words met: {words} of 436");

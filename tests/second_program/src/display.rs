@@ -1,7 +1,8 @@
-//! A block in words, for a difference: its trailer and the cells that it leads into, whether it is sound or not.
+//! A block in words, for a difference: its trailer and the cells that it leads into, whether it is sound or not; and a page.
 
 use crate::calls::valid_length;
 use crate::model::{embeds, pointer, word_at, CELL, PREFIX};
+use crate::pages::{pairs_in, Printed};
 use std::collections::{BTreeMap, BTreeSet};
 
 /// What a word leads to; the words of a split name its parts by one kind.
@@ -77,6 +78,29 @@ pub fn differing_cells(own: &[u8], their: &[u8]) -> String {
         format!("\ncell {cell} of the model:   {}\ncell {cell} of the library: {}", words(own), words(their))
     });
     differing.collect()
+}
+
+/// A page's numbers, and what the bytes that it says it used hold: each key with its value, where they are whole records.
+pub fn page_in_words(page: &Printed) -> String {
+    let used = page.buffer.get(..page.used as usize).unwrap_or(&page.buffer);
+    let records = match pairs_in(used) {
+        Some(pairs) => pairs.iter().map(|(key, value)| format!(" {}={value}", hexadecimal(key))).collect(),
+        None => format!(" no whole records: {}", hexadecimal(used)),
+    };
+    format!("{} bytes used, more {}:{records}", page.used, page.more)
+}
+
+/// How many bytes of two buffers of one size differ, and which is the first.
+pub fn differing_bytes(own: &[u8], their: &[u8]) -> String {
+    let mut differing = own.iter().zip(their).enumerate().filter(|(_, (own, their))| own != their);
+    match differing.next() {
+        None => String::new(),
+        Some((place, (own, their))) => {
+            let count = 1 + differing.count();
+            let first = format!("byte {place} is {own:02X} of the model, {their:02X} of the library");
+            format!("\n{count} bytes of the buffer differ, and the first, {first}")
+        }
+    }
 }
 
 /// Bytes as words of hexadecimal digits.

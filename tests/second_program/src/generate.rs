@@ -1,26 +1,27 @@
 //! Seeded arguments: keys, values, dates, sheets and whole calls, valid and not.
 
 use crate::calls::Call;
-use crate::model::EDITIONS;
+use crate::model::{Table, EDITIONS};
+use crate::pages::drawn_page;
 use crate::random::Random;
 use crate::verdict::{celsius, days_in_month, Question, CELSIUS, FAHRENHEIT, GATE_ANY, GATE_AT_LEAST, GATE_BETWEEN};
 use std::collections::BTreeSet;
 
 /// How often each call comes, in the order of `Call::number`.
-pub type Weights = [usize; 10];
+pub type Weights = [usize; 11];
 
 /// Calls of a history from a formatted block, while its table grows.
-pub const HISTORY: Weights = [1, 3, 36, 10, 12, 9, 7, 5, 17, 10];
+pub const HISTORY: Weights = [1, 3, 36, 10, 12, 9, 7, 5, 17, 10, 9];
 /// Calls of a history while its table shrinks.
-pub const SHRINKING: Weights = [0, 2, 8, 5, 6, 4, 3, 4, 6, 40];
+pub const SHRINKING: Weights = [0, 2, 8, 5, 6, 4, 3, 4, 6, 40, 6];
 /// Calls on a sound block that no history made.
-pub const FOREIGN: Weights = [0, 6, 36, 11, 15, 6, 6, 4, 16, 30];
+pub const FOREIGN: Weights = [0, 6, 36, 11, 15, 6, 6, 4, 16, 30, 14];
 /// Calls on a block that may be unsound.
-pub const HOSTILE: Weights = [1, 20, 16, 10, 10, 9, 9, 9, 16, 12];
+pub const HOSTILE: Weights = [1, 20, 16, 10, 10, 9, 9, 9, 16, 12, 10];
 /// Calls of a list.
-pub const LISTED: Weights = [0, 0, 62, 0, 0, 14, 13, 11, 0, 34];
+pub const LISTED: Weights = [0, 0, 62, 0, 0, 14, 13, 11, 0, 34, 0];
 /// Calls on a block of a bad length.
-pub const BAD_LENGTH: Weights = [1; 10];
+pub const BAD_LENGTH: Weights = [1, 1, 1, 1, 1, 1, 1, 1, 1, 1, 3];
 
 /// The most keys that a scene remembers.
 const REMEMBERED: usize = 64;
@@ -183,7 +184,8 @@ impl Scene {
             6 => Call::Restore { slot: slot(random) },
             7 => Call::Release { slot: slot(random) },
             8 => Call::Verdict(self.question(random)),
-            _ => Call::Remove { key: self.key_to_remove(random) },
+            9 => Call::Remove { key: self.key_to_remove(random) },
+            _ => Call::Page(drawn_page(self.start_key(random), &Table::new(), random)),
         }
     }
 

@@ -5,6 +5,7 @@ use crate::coverage::Coverage;
 use crate::encode::Layer;
 use crate::ledger::Ledger;
 use crate::model::{put_word, word_at, Node, Place, Seat, Store, CELL};
+use crate::pages::{pairs_in, Page, Printed};
 
 /// The first promise that a call broke, in words.
 type Verdict = Result<(), String>;
@@ -29,15 +30,18 @@ pub fn check(before: &[u8], after: &[u8], call: &Call, outcome: &Outcome) -> Ver
     }
     if outcome.answer != 0 {
         demand(before == after, "a refusal leaves the block")?;
-        demand(*outcome == Outcome::bare(outcome.answer), "a refusal gives zeros")?;
+        demand(*outcome == refused(call, outcome.answer), "a refusal gives zeros and leaves a buffer")?;
         return check_no_room(before, call, outcome);
+    }
+    if let Call::Page(page) = call {
+        check_page(before, page, outcome)?;
     }
     let store = Store::decode(after).map_err(|flaw| format!("broken: the block is sound after the call ({flaw:?})"))?;
     match call {
         Call::Format { edition } => {
             demand(is_fresh(after, *edition), "a fresh block is zero but for its size and edition")
         }
-        Call::Validate | Call::Get { .. } | Call::NextKey { .. } | Call::Verdict(_) => {
+        Call::Validate | Call::Get { .. } | Call::NextKey { .. } | Call::Verdict(_) | Call::Page(_) => {
             demand(before == after, "a reading call leaves the block")
         }
         _ => {
@@ -67,6 +71,34 @@ fn check_next(block: &[u8], key: &[u8], outcome: &Outcome) -> Verdict {
     let expected = greater.map(|next| next.as_slice());
     demand(expected == (outcome.answer == 0).then_some(&outcome.key[..size]), "the next key is the least greater one")?;
     demand(outcome.key[size..].iter().all(|byte| *byte == 0), "the key is zero past its size")
+}
+
+/// A refusal of a call: zeros, and beside a page's its buffer as it was.
+fn refused(call: &Call, answer: u8) -> Outcome {
+    let mut outcome = Outcome::bare(answer);
+    if let Call::Page(page) = call {
+        outcome.page.buffer.clone_from(&page.buffer);
+    }
+    outcome
+}
+
+/// A page's used bytes are whole records, each of the least key past the one before with the value that the bytes show; the
+/// next would not fit, or there is none; the rest of the buffer is as it was.
+fn check_page(block: &[u8], asked: &Page, outcome: &Outcome) -> Verdict {
+    let Printed { used, more, buffer } = &outcome.page;
+    let used = *used as usize;
+    demand(buffer.len() == asked.buffer.len() && buffer[used..] == asked.buffer[used..], "a page leaves the rest")?;
+    let pairs = pairs_in(&buffer[..used]).ok_or("broken: a page is of whole records")?;
+    demand(pairs.len() == outcome.number as usize, "a page counts its records")?;
+    let shown = Store::decode(block).expect("sound").root.table();
+    let mut left = shown.keys().filter(|key| **key > asked.key);
+    for (key, value) in &pairs {
+        demand(left.next() == Some(key), "a record is of the least greater key")?;
+        demand(look_up(block, key) == Some(*value), "a record has the value that the bytes show")?;
+    }
+    let next = left.next();
+    demand(next.is_some() == (*more == 1) && *more < 2, "more is told exactly when a key is left")?;
+    demand(next.is_none_or(|key| used + key.len() + 5 > buffer.len()), "a record that fits is written")
 }
 
 /// Which bytes a mutating call may write.

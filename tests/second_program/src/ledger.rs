@@ -24,7 +24,7 @@ impl Ledger {
             Call::Snapshot { slot } => Some(self.snapshot(*slot)),
             Call::Restore { slot } => Some(self.restore(*slot)),
             Call::Release { slot } => Some(self.release(*slot)),
-            Call::Validate | Call::Get { .. } | Call::NextKey { .. } | Call::Verdict(_) => None,
+            Call::Validate | Call::Get { .. } | Call::NextKey { .. } | Call::Verdict(_) | Call::Page(_) => None,
         }
     }
 

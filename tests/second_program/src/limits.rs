@@ -2,9 +2,11 @@
 
 use crate::calls::{valid_length, Call};
 use crate::compare::Comparison;
+use crate::coverage::CALLS;
 use crate::foreign::{foreign_block, junk};
 use crate::generate::Scene;
 use crate::model::{CELL, EDITIONS, LONGEST_KEY};
+use crate::pages::{drawn_bytes, Page, LEAST_BUFFER};
 use crate::random::Random;
 use crate::sweeps::{block_of_value, insert, question};
 use crate::verdict::{celsius, day_number, Question, CELSIUS, FAHRENHEIT, GATE_AT_LEAST, GATE_BETWEEN};
@@ -41,6 +43,8 @@ pub enum Limit {
     Held(u32),
     /// How many days today lies past the expiry day.
     Past(i32),
+    /// The bytes lent to a page.
+    Buffer(usize),
 }
 
 const KEYS: [usize; 6] = [0, 1, 47, 48, 49, 255];
@@ -49,6 +53,7 @@ const SLOTS: [u32; 6] = [0, 1, 3, 4, 255, 4_294_967_295];
 const CELLS: [usize; 5] = [3, 4, 2047, 2048, 2049];
 const ASKED_EDITIONS: [u32; 8] = [0, 1, 2, 3, 256, 257, 258, u32::MAX];
 const LAST_DAY: [u32; 3] = [2199, 12, 31];
+const BUFFERS: [usize; 6] = [0, 1, LEAST_BUFFER - 1, LEAST_BUFFER, LEAST_BUFFER + 1, 65_536];
 const DAYS: [[u32; 3]; 6] = [[1999, 12, 31], [2000, 1, 1], LAST_DAY, [2200, 1, 1], [2100, 2, 28], [2100, 2, 29]];
 
 /// The bounds of each number.
@@ -81,8 +86,8 @@ fn packed([year, month, day]: [u32; 3]) -> u32 {
 pub fn all_limits() -> Vec<Limit> {
     let mut limits = Vec::new();
     let blocks = CELLS.into_iter().flat_map(lengths);
-    limits.extend(blocks.flat_map(|bytes| (0..10).map(move |call| Limit::Block(call, bytes))));
-    limits.extend(KEYS.into_iter().flat_map(|bytes| [2, 3, 4, 8, 9].map(|call| Limit::Key(call, bytes))));
+    limits.extend(blocks.flat_map(|bytes| (0..CALLS.len()).map(move |call| Limit::Block(call, bytes))));
+    limits.extend(KEYS.into_iter().flat_map(|bytes| [2, 3, 4, 8, 9, 10].map(|call| Limit::Key(call, bytes))));
     limits.extend(VALUES.map(Limit::Value));
     limits.extend(SLOTS.into_iter().flat_map(|slot| [5, 6, 7].map(|call| Limit::Slot(call, slot))));
     for (number, low, high) in BOUNDS {
@@ -95,6 +100,7 @@ pub fn all_limits() -> Vec<Limit> {
     limits.extend(DAYS.map(Limit::Today));
     limits.extend(DAYS.map(|day| Limit::Held(packed(day))));
     limits.extend([-1, 0, 1].map(Limit::Past));
+    limits.extend(BUFFERS.map(Limit::Buffer));
     limits
 }
 
@@ -116,6 +122,10 @@ pub fn limits_met(block_length: usize, call: &Call, answer: u8) -> Vec<Limit> {
         }
         Call::Get { key } | Call::NextKey { key } | Call::Remove { key } => {
             limits.push(Limit::Key(number, key.len()));
+        }
+        Call::Page(page) => {
+            limits.push(Limit::Key(number, page.key.len()));
+            limits.extend((answer != 3).then_some(Limit::Buffer(page.buffer.len())));
         }
         Call::Snapshot { slot } | Call::Restore { slot } | Call::Release { slot } => {
             limits.push(Limit::Slot(number, *slot));
@@ -201,16 +211,17 @@ fn block_lengths(comparison: &mut Comparison, cells: usize, random: &mut Random)
         let (get, next) = (Call::Get { key: key.clone() }, Call::NextKey { key: key.clone() });
         let (snapshot, restore, release) =
             (Call::Snapshot { slot: 3 }, Call::Restore { slot: 3 }, Call::Release { slot: 3 });
+        let page = page_after(&key, LEAST_BUFFER, random);
         let (insert, remove) = (insert(&key, packed([2025, 3, 7])), Call::Remove { key });
         let format = Call::Format { edition: scene.edition };
-        let rest = [insert, get, next, snapshot, restore, release, asked, remove, format];
+        let rest = [insert, get, next, page, snapshot, restore, release, asked, remove, format];
         for call in [Call::Validate].iter().chain(&rest) {
             comparison.step(&mut block, call);
         }
     }
 }
 
-/// Keys, values and slots at their limits on a fresh block.
+/// Keys, values, buffers and slots at their limits on a fresh block.
 fn arguments(comparison: &mut Comparison, cells: usize, random: &mut Random) {
     let mut block = junk(cells, random);
     for edition in ASKED_EDITIONS.into_iter().chain([random.pick(&EDITIONS)]) {
@@ -221,6 +232,7 @@ fn arguments(comparison: &mut Comparison, cells: usize, random: &mut Random) {
         comparison.step(&mut block, &insert(&key, packed([2025, 3, 7])));
         comparison.step(&mut block, &Call::Get { key: key.clone() });
         comparison.step(&mut block, &Call::NextKey { key: key.clone() });
+        comparison.step(&mut block, &page_after(&key, LEAST_BUFFER, random));
         comparison.step(&mut block, &Call::Verdict(Question { label: key.clone(), ..question(2025, 3, 7) }));
         comparison.step(&mut block, &Call::Remove { key: key.clone() });
         comparison.step(&mut block, &insert(&key, packed([2025, 3, 7])));
@@ -228,11 +240,19 @@ fn arguments(comparison: &mut Comparison, cells: usize, random: &mut Random) {
     for value in VALUES {
         comparison.step(&mut block, &insert(&[random.byte()], value));
     }
+    for size in BUFFERS {
+        comparison.step(&mut block, &page_after(&[], size, random));
+    }
     for slot in SLOTS {
         for call in [Call::Restore { slot }, Call::Release { slot }, Call::Snapshot { slot }, Call::Restore { slot }] {
             comparison.step(&mut block, &call);
         }
     }
+}
+
+/// A page after a key into so many random bytes.
+fn page_after(key: &[u8], size: usize, random: &mut Random) -> Call {
+    Call::Page(Page { key: key.to_vec(), buffer: drawn_bytes(size, random) })
 }
 
 /// Every number of sheet and reading at its bounds, all else valid; then readings at the limits of a gate.

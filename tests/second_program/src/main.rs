@@ -20,6 +20,9 @@ mod limits;
 mod lists;
 mod model;
 mod orders;
+mod pages;
+#[cfg(alone)]
+mod pages_test;
 #[cfg(not(alone))]
 mod proved;
 mod random;
@@ -30,6 +33,7 @@ mod removal_test;
 mod schedule;
 #[cfg(alone)]
 mod self_test;
+mod series;
 mod spoilt;
 mod sweeps;
 mod verdict;
@@ -38,10 +42,11 @@ use compare::{Comparison, Other};
 use std::process::ExitCode;
 
 /// The calls of a run that names no other number.
-const CALLS: u64 = 1_400_000;
+const CALLS: u64 = 1_600_000;
 
-/// One list of calls for so many calls that are made one by one.
+/// One list of calls, and one series of pages, for so many calls that are made one by one.
 const CALLS_FOR_A_LIST: u64 = 50;
+const CALLS_FOR_A_SERIES: u64 = 500;
 
 /// The other program is the proved library.
 #[cfg(not(alone))]
@@ -64,6 +69,8 @@ fn main() -> ExitCode {
     sweeps::run(&mut comparison);
     limits::run(&mut comparison);
     schedule::run(&mut comparison, target);
+    let series = target / CALLS_FOR_A_SERIES;
+    series::run(&mut comparison, series);
     schedule::lists(&mut comparison, target / CALLS_FOR_A_LIST);
     let (calls, lists) = (comparison.coverage.calls, comparison.listed.lists());
     let least = if lists < 20_000 { 0 } else { 50 };
@@ -72,7 +79,8 @@ fn main() -> ExitCode {
         println!("{short} counts fall short");
     }
     comparison.print_kept();
-    println!("{}: {calls} calls and {lists} lists of calls, {} differences", OTHER.1, comparison.differences);
+    let counts = format!("{calls} calls, {series} series of pages and {lists} lists of calls");
+    println!("{}: {counts}, {} differences", OTHER.1, comparison.differences);
     match short == 0 && comparison.differences == 0 {
         true => ExitCode::SUCCESS,
         false => ExitCode::FAILURE,

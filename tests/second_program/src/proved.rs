@@ -3,6 +3,7 @@
 use crate::calls::{Call, Outcome};
 use crate::compare::Other;
 use crate::lists::{Ended, List};
+use crate::pages::{Page, Printed};
 use crate::verdict::Question;
 
 extern "C" {
@@ -25,6 +26,17 @@ extern "C" {
         key_len: usize,
         size: *mut u32,
         key_out: *mut u8,
+    ) -> u8;
+    fn exports_page(
+        block: *const u8,
+        block_len: usize,
+        key: *const u8,
+        key_len: usize,
+        buffer: *mut u8,
+        buffer_len: usize,
+        records: *mut u32,
+        used: *mut u32,
+        more: *mut u32,
     ) -> u8;
     fn exports_snapshot(block: *mut u8, block_len: usize, slot: u32) -> u8;
     fn exports_restore(block: *mut u8, block_len: usize, slot: u32) -> u8;
@@ -137,6 +149,7 @@ fn perform_lent(block: &mut [u8], call: &Call) -> Outcome {
                 outcome.key = [FILLER; 48];
                 exports_next_key(start, size, key.as_ptr(), key.len(), number, outcome.key.as_mut_ptr())
             }
+            Call::Page(asked) => return page(start, size, asked),
             Call::Format { edition } => without_value(number, exports_format(start, size, *edition)),
             Call::Validate => without_value(number, exports_validate(start, size)),
             Call::Snapshot { slot } => without_value(number, exports_snapshot(start, size, *slot)),
@@ -149,6 +162,29 @@ fn perform_lent(block: &mut [u8], call: &Call) -> Outcome {
             }
         }
     };
+    outcome
+}
+
+/// The library's page, on a copy of the buffer.
+unsafe fn page(start: *const u8, size: usize, asked: &Page) -> Outcome {
+    let filler = u32::from_be_bytes([FILLER; 4]);
+    let mut outcome = Outcome { number: filler, ..Outcome::bare(0) };
+    let Printed { used, more, buffer } = &mut outcome.page;
+    (*used, *more) = (filler, filler);
+    let mut lent = with_margins(&asked.buffer);
+    outcome.answer = exports_page(
+        start,
+        size,
+        asked.key.as_ptr(),
+        asked.key.len(),
+        lent[MARGIN..].as_mut_ptr(),
+        asked.buffer.len(),
+        &mut outcome.number,
+        used,
+        more,
+    );
+    buffer.clone_from(&asked.buffer);
+    take_back(buffer, &lent);
     outcome
 }
 

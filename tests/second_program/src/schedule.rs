@@ -8,8 +8,10 @@ use crate::generate::{children_of, stems, Scene, Weights, BAD_LENGTH, FOREIGN, H
 use crate::hostile::{bad_length_block, damage, noise_block};
 use crate::ledger::Ledger;
 use crate::lists::drawn_list;
-use crate::model::{Store, EDITIONS, LONGEST_KEY};
+use crate::model::{Store, Table, EDITIONS, LONGEST_KEY};
+use crate::pages::drawn_page;
 use crate::random::Random;
+use crate::series::of_long_keys;
 use crate::spoilt::spoilt;
 
 /// Scenes of random calls until the target is reached; each scene has its own seed, so that it can be met again.
@@ -19,14 +21,15 @@ pub fn run(comparison: &mut Comparison, target: u64) {
         comparison.seed += 1;
         let mut random = Random::seeded(comparison.seed);
         let cells = draw_cells(comparison, &mut random);
-        match random.weighted(&[18, 40, 42, 11, 14, 9, 7]) {
+        match random.weighted(&[18, 40, 42, 11, 14, 9, 7, 5]) {
             0 => history(comparison, cells, &mut random),
             1 => foreign(comparison, cells, &mut random),
             2 => hostile(comparison, cells, &mut random),
             3 => shrunk(comparison, cells.max(24), &mut random),
             4 => emptied(comparison, &mut random),
             5 => stemmed(comparison, cells.max(16), &mut random),
-            _ => spoilt(comparison, cells, &mut random),
+            6 => spoilt(comparison, cells, &mut random),
+            _ => paged(comparison, cells, &mut random),
         }
     }
 }
@@ -55,9 +58,7 @@ pub fn lists(comparison: &mut Comparison, count: u64) {
 
 /// Lets a scene draw its keys from those that a sound block shows.
 pub fn remember_shown(scene: &mut Scene, block: &[u8]) {
-    if let Ok(store) = Store::decode(block) {
-        scene.remember(store.root.table().into_keys());
-    }
+    scene.remember(shown(block).into_keys());
 }
 
 /// So many random calls on a block.
@@ -75,16 +76,35 @@ pub fn calls(
     }
 }
 
-/// A call as it was drawn, but that a removal is mostly one of a key that the block shows.
+/// A call as it was drawn, but that a removal is mostly one of a key that the block shows, and that a page is drawn by the keys
+/// that it shows.
 fn aimed(call: Call, block: &[u8], random: &mut Random) -> Call {
-    if !matches!(call, Call::Remove { .. }) || !valid_length(block.len()) || random.chance(50) {
-        return call;
+    match call {
+        Call::Page(page) => Call::Page(drawn_page(page.key, &shown(block), random)),
+        Call::Remove { key } if random.chance(50) => {
+            let shown = shown(block);
+            let place = random.below(shown.len().max(1));
+            Call::Remove { key: shown.into_keys().nth(place).unwrap_or(key) }
+        }
+        _ => call,
     }
-    let shown = Store::decode(block).map(|store| store.root.table()).unwrap_or_default();
-    let place = random.below(shown.len().max(1));
-    match shown.into_keys().nth(place) {
-        Some(key) => Call::Remove { key },
-        None => call,
+}
+
+/// The table that a block shows, empty where it is not sound.
+fn shown(block: &[u8]) -> Table {
+    if !valid_length(block.len()) {
+        return Table::new();
+    }
+    Store::decode(block).map(|store| store.root.table()).unwrap_or_default()
+}
+
+/// Pages of a block of long keys, whose records often fill a buffer to the last byte.
+fn paged(comparison: &mut Comparison, cells: usize, random: &mut Random) {
+    let mut block = of_long_keys(comparison, cells, random);
+    let shown = shown(&block);
+    for _ in 0..random.between(8, 24) {
+        let page = drawn_page(Vec::new(), &shown, random);
+        comparison.step(&mut block, &Call::Page(page));
     }
 }
 
@@ -165,8 +185,7 @@ fn foreign(comparison: &mut Comparison, cells: usize, random: &mut Random) {
 fn emptied(comparison: &mut Comparison, random: &mut Random) {
     let scene = Scene::drawn(random);
     let mut block = foreign_block(random.between(5, 24), LONGEST_KEY, &scene, random);
-    let shown = Store::decode(&block).map(|store| store.root.table()).unwrap_or_default();
-    let mut keys: Vec<Vec<u8>> = shown.into_keys().collect();
+    let mut keys: Vec<Vec<u8>> = shown(&block).into_keys().collect();
     random.shuffle(&mut keys);
     for key in keys.into_iter().take(16) {
         comparison.step(&mut block, &Call::Remove { key });

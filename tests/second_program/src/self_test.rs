@@ -27,6 +27,7 @@ pub fn run() {
     lists_of_calls();
     crate::removal_test::run();
     crate::embedded_test::run();
+    crate::pages_test::run();
     println!("second_program alone: samples A to L and the further cases hold");
 }
 

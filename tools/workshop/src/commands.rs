@@ -2,6 +2,7 @@
 
 use crate::block_file;
 use crate::dates;
+use crate::pages::{self, Page};
 use crate::proved::{self, Sheet, CELL_SIZE, MOST_CELLS_LENT, USUAL_EDITION};
 use crate::trouble::{No, Trouble};
 use crate::words;
@@ -15,6 +16,7 @@ workshop new FILE CELLS [EDITION]
 workshop enter FILE LABEL DATE   enter a cartridge with its expiry day
 workshop remove FILE LABEL       remove a label, as of a batch that was withdrawn
 workshop list FILE               list all labels in order
+workshop print FILE SIZE         print all labels in pages of SIZE bytes, 53 at least
 workshop find FILE LABEL         show the expiry day of a label
 workshop next FILE LABEL         show the next label in order
 workshop mark FILE SLOT          mark the present state in slot 1, 2 or 3
@@ -25,11 +27,17 @@ workshop verdict FILE LABEL --today DATE --reading 20C|68F --gate any|5..|5..40 
                                  judge whether a cartridge may be laid, and give the dose
                                  (gate in degrees Celsius, section in square millimetres, length in millimetres)
 A DATE is written 2025-03-07. A LABEL is text, or hex:43484131.
-Exit status: 0 done, 1 to 14 the number of the no, 64 the command was not understood, 74 trouble with a file.
+Exit status: 0 done, 1 to 15 the number of the no, 64 the command was not understood, 74 trouble with a file.
 ";
 
 /// What the commands that alter a slot have in common.
 type SlotCall = fn(&mut [u8], u32) -> Result<(), No>;
+
+/// A row of a table: a label and its value, in words.
+type Row = (String, String);
+
+/// The bytes of each page by which a list is made.
+const LIST_PAGE: u32 = 4_096;
 
 /// The five options of a verdict, in the order in which they are asked for.
 const VERDICT_OPTIONS: [&str; 5] = ["--today", "--reading", "--gate", "--section", "--length"];
@@ -46,6 +54,7 @@ pub fn perform(arguments: &[OsString]) -> Result<String, Trouble> {
         ("enter", [file, label, date]) => enter(Path::new(file), label, date),
         ("remove", [file, label]) => remove(Path::new(file), label),
         ("list", [file]) => list(Path::new(file)),
+        ("print", [file, size]) => print(Path::new(file), size),
         ("find", [file, label]) => find(Path::new(file), label),
         ("next", [file, label]) => next(Path::new(file), label),
         ("mark", [file, slot]) => slot_change(Path::new(file), slot, proved::snapshot, "marked slot"),
@@ -94,28 +103,47 @@ fn remove(file: &Path, label: &OsStr) -> Result<String, Trouble> {
 
 /// How many cells a command took, in words.
 fn taken(count: u32) -> String {
-    let cells = if count == 1 { "cell" } else { "cells" };
-    format!("{count} {cells} taken")
+    format!("{} taken", counted(count, "cell"))
 }
 
-/// Lists all labels in order with their values, from the empty label on.
+/// A number of things, in words.
+fn counted(count: u32, thing: &str) -> String {
+    let end = if count == 1 { "" } else { "s" };
+    format!("{count} {thing}{end}")
+}
+
+/// Lists all labels in order with their values, page by page.
 fn list(file: &Path) -> Result<String, Trouble> {
     let block = block_file::read(file)?;
     let mut rows = vec![("label".to_string(), "expires".to_string())];
-    let mut label = Vec::new();
-    loop {
-        label = match proved::next_key(&block, &label) {
-            Ok(next) => next,
-            Err(No::MISSING) => return Ok(table(&rows)),
-            Err(no) => return Err(no.into()),
-        };
-        let value = proved::get(&block, &label)?;
-        rows.push((words::show_label(&label), dates::show_value(value)));
+    for page in pages::all(&block, LIST_PAGE)? {
+        rows.extend(page_rows(&page));
     }
+    Ok(table(&rows))
+}
+
+/// Prints all labels in pages of a size: what each page tells of itself, and below it its labels with their values.
+fn print(file: &Path, size: &OsStr) -> Result<String, Trouble> {
+    let size = words::whole_number(size, "size of a page")?;
+    let block = block_file::read(file)?;
+    let mut lines = String::new();
+    for (place, page) in pages::all(&block, size)?.iter().enumerate() {
+        let records = counted(page.told.records, "record");
+        let remain = if page.told.more { "more remain" } else { "none remain" };
+        lines += &format!("page {}: {records}, {} of {size} bytes used, {remain}\n", place + 1, page.told.used);
+        let rows: Vec<Row> = page_rows(page).into_iter().map(|(label, value)| (format!("  {label}"), value)).collect();
+        lines += &table(&rows);
+    }
+    Ok(lines)
+}
+
+/// The labels of a page with their values, in words.
+fn page_rows(page: &Page) -> Vec<Row> {
+    page.records.iter().map(|record| (words::show_label(&record.label), dates::show_value(record.value))).collect()
 }
 
 /// Sets rows of two columns under each other.
-fn table(rows: &[(String, String)]) -> String {
+fn table(rows: &[Row]) -> String {
     let width = rows.iter().map(|(left, _)| left.len()).max().unwrap_or(0);
     rows.iter().map(|(left, right)| format!("{left:width$}  {right}\n")).collect()
 }

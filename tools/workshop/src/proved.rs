@@ -24,6 +24,17 @@ extern "C" {
         next_size: *mut u32,
         next_key: *mut u8,
     ) -> u8;
+    fn exports_page(
+        block: *const u8,
+        block_size: usize,
+        key: *const u8,
+        key_size: usize,
+        buffer: *mut u8,
+        buffer_size: usize,
+        records: *mut u32,
+        used: *mut u32,
+        more: *mut u32,
+    ) -> u8;
     fn exports_snapshot(block: *mut u8, block_size: usize, slot: u32) -> u8;
     fn exports_restore(block: *mut u8, block_size: usize, slot: u32) -> u8;
     fn exports_release(block: *mut u8, block_size: usize, slot: u32) -> u8;
@@ -57,6 +68,14 @@ pub const USUAL_EDITION: u32 = 1;
 
 /// The bytes that the next label is written into.
 const LABEL_ROOM: usize = 48;
+
+/// What a page tells of itself: its records, the bytes that they use, and whether more remain.
+#[derive(Clone, Copy)]
+pub struct Told {
+    pub records: u32,
+    pub used: u32,
+    pub more: bool,
+}
 
 /// What the thermometer shows.
 #[derive(Clone, Copy)]
@@ -132,6 +151,25 @@ pub fn next_key(block: &[u8], label: &[u8]) -> Result<Vec<u8>, No> {
         exports_next_key(block.as_ptr(), block.len(), label.as_ptr(), label.len(), &mut size, next.as_mut_ptr())
     };
     result(answer, next[..size as usize].to_vec())
+}
+
+/// Writes the records of the labels greater than this one into a buffer, as many as fit.
+pub fn page(block: &[u8], label: &[u8], buffer: &mut [u8]) -> Result<Told, No> {
+    let (mut records, mut used, mut more) = (0, 0, 0);
+    let answer = unsafe {
+        exports_page(
+            block.as_ptr(),
+            block.len(),
+            label.as_ptr(),
+            label.len(),
+            buffer.as_mut_ptr(),
+            buffer.len(),
+            &mut records,
+            &mut used,
+            &mut more,
+        )
+    };
+    result(answer, Told { records, used, more: more != 0 })
 }
 
 /// Marks the present state in a slot.

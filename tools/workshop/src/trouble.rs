@@ -7,7 +7,7 @@ const USAGE_STATUS: u8 = 64;
 const FILE_STATUS: u8 = 74;
 
 /// What each no means, in the order of their numbers from 1 on.
-const MEANINGS: [&str; 14] = [
+const MEANINGS: [&str; 15] = [
     "the size is no multiple of 32 bytes, or not 4 to 2,048 cells, or a new block's edition is not 1 or 2",
     "the block is not sound",
     "the label is empty or has over 48 bytes",
@@ -23,6 +23,7 @@ const MEANINGS: [&str; 14] = [
     "the value held for the label is no date",
     "today is after the expiry day",
     "the temperature is outside the gate",
+    "the page has under 53 bytes",
 ];
 
 /// An answer of the library other than done.
@@ -45,7 +46,7 @@ impl From<No> for Trouble {
 }
 
 impl No {
-    /// No such label, or no next one: how a list comes to its end.
+    /// No such label, or no next one.
     pub const MISSING: No = No(11);
 
     /// The number and its meaning on one line.

@@ -81,7 +81,8 @@ module _ (layout : Layout) (m : Memory) where
     | no other ↦ ap (λ s. onward s (λ u. branchStep layout m u i)) (sym (word-found w other)) ∙ step other
   ]
 
-  split-step-is : (c x : ℕ) (X : Node) → x < 256 → plain layout m (split c) ≡ some X → splitStep layout m c x ≡ wordStep (X .child x)
+  -- a split that is read: its steps are those to its child words
+  pub split-step-is : (c x : ℕ) (X : Node) → x < 256 → plain layout m (split c) ≡ some X → splitStep layout m c x ≡ wordStep (X .child x)
   unfolding splitStep splitChild
   split-step-is c x X near e =
       let p = split-cut layout m c X e in

@@ -1,86 +1,21 @@
--- The children before the i-th have characters below the one sought.
-use Prim.Native.Nat.{ℕ, _+_, _-_, _≤_, _<_}
 use mathlib.Core.Path.{sym, _∙_}
-use native.Mathlib.Omega.{arith}
 use borrow.Author.Needs.{needs}
 use borrow.Author.Tests.{not-true, not-false}
-use Rattle.nodes.proofs.SparseNodes.SparseSteps.{position-small}
-use Rattle.nodes.proofs.SparseNodes.SparseChildren.{characterAt}
-use Rattle.nodes.proofs.SparseNodes.SparseLeast.{sparse-least-read, sparse-least-past, sparse-passed}
 use Rattle.nodes.proofs.Steps.LeastWays.{sparse-least-broken}
 use Rattle.nodes.proofs.least.sparse_least.Statement.{statement}
 use Rattle.nodes.proofs.least.sparse_least.Tie as tie
 
-abbrev Inv-loop : tie.InvT-loop
-Inv-loop bytes from count i₀ i = (i ≤ count) × ((j : ℕ) → j < i → characterAt bytes j < from)
-
-abbrev μ-loop : tie.MeasureT-loop
-μ-loop bytes from count i₀ i = count - i
-
-is-valid-sparse-requires : tie.Need-is-valid-sparse-requires Inv-loop μ-loop
+is-valid-sparse-requires : tie.Need-is-valid-sparse-requires
 is-valid-sparse-requires c κs = search needs
 
-returns : tie.Need-returns Inv-loop μ-loop
+returns : tie.Need-returns
 returns c = sparse-least-broken _ _ _ (c .before .is-valid-sparse .ensures) (c .before .before .before .pre .1) (not-true _ (c .if1 .taken))
 
-sparse-count-requires : tie.Need-sparse-count-requires Inv-loop μ-loop
-sparse-count-requires c κs = search needs
+sparse-known-requires : tie.Need-sparse-known-requires
+sparse-known-requires c κs = (c .before .before .before .pre .0, c .before .before .before .pre .1, sym (c .before .is-valid-sparse .ensures) ∙ not-false _ (c .if1 .left))
 
-loop-holds : tie.Need-loop-holds Inv-loop μ-loop
-loop-holds c = (omega arith, λ j h. absurd (omega arith))
-
-sparse-position-requires : tie.Need-sparse-position-requires Inv-loop μ-loop
-sparse-position-requires c κs = search needs
-
-add-character : tie.Need-add-character Inv-loop μ-loop
-add-character c = omega (arith, position-small (c .before .before .before .before .before .before .before .args .bytes .now) (c .before .before .loop .i))
-
-shared-slice-read-character : tie.Need-shared-slice-read-character Inv-loop μ-loop
-shared-slice-read-character c = omega (arith, position-small (c .before .before .before .before .before .before .before .before .args .bytes .now) (c .before .before .before .loop .i))
-
-cast-if2 : tie.Need-cast-if2 Inv-loop μ-loop
-cast-if2 c = omega (arith, c .shared-slice-known2 .given (24 + c .before .sparse-position .result))
-
-mul-word-at : tie.Need-mul-word-at Inv-loop μ-loop
-mul-word-at c = omega (arith, position-small (c .before .before .before .before .before .before .before .before .before .args .bytes .now) (c .before .before .before .before .loop .i))
-
-word-at-requires : tie.Need-word-at-requires Inv-loop μ-loop
-word-at-requires c κs = omega (arith, position-small (c .before .before .before .before .before .before .before .before .before .args .bytes .now) (c .before .before .before .before .loop .i))
-
-returns-2 : tie.Need-returns-2 Inv-loop μ-loop
-returns-2 c = sparse-least-read _ (sym (c .before .before .before .before .before .before .before .before .is-valid-sparse .ensures) ∙ not-false _ (c .before .before .before .before .before .before .before .if1 .left)) _ _ _ (c .before .before .before .before .before .before .sparse-count .ensures) (c .before .before .before .before .loop-test .taken)
-    (c .before .before .before .before .before .loop .inv .1) _ (c .before .before .before .sparse-position .ensures) (c .before .if2 .taken) (omega (arith, c .before .before .shared-slice-known2 .given (24 + c .before .before .before .sparse-position .result))) _ (c .word-at .ensures)
-
-add-i : tie.Need-add-i Inv-loop μ-loop
-add-i c = search needs
-
-loop-less : tie.Need-loop-less Inv-loop μ-loop
-loop-less c = search needs
-
-loop-again : tie.Need-loop-again Inv-loop μ-loop
-loop-again c = (omega arith, sparse-passed _ _ _ (c .before .before .before .before .loop .inv .1) _ (c .before .before .sparse-position .ensures) (c .if2 .left))
-
-returns-3 : tie.Need-returns-3 Inv-loop μ-loop
-returns-3 c = sparse-least-past _ (sym (c .before .before .before .before .is-valid-sparse .ensures) ∙ not-false _ (c .before .before .before .if1 .left)) _ _ _ (c .before .before .sparse-count .ensures) (c .loop-test .left) (c .before .before .before .before .before .before .pre .1) (c .before .loop .inv .1)
+returns-2 : tie.Need-returns-2
+returns-2 c = c .sparse-known .ensures
 
 pub sparse-least-spec : {M : Type 1} → statement M
-sparse-least-spec =
-    tie.close
-    (tie.spec
-    Inv-loop
-    μ-loop
-    is-valid-sparse-requires
-    returns
-    sparse-count-requires
-    loop-holds
-    sparse-position-requires
-    add-character
-    shared-slice-read-character
-    cast-if2
-    mul-word-at
-    word-at-requires
-    returns-2
-    add-i
-    loop-less
-    loop-again
-    returns-3)
+sparse-least-spec = tie.close (tie.spec is-valid-sparse-requires returns sparse-known-requires returns-2)

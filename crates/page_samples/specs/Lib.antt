@@ -1,0 +1,4 @@
+pub mod Pinned
+pub mod Sizes
+pub mod Refusals
+pub mod Embedded

@@ -1,0 +1,1 @@
+// Values of pages, under one proof. No code.

@@ -1,0 +1,10 @@
+pub mod Records
+pub mod Fitting
+pub mod PageCall
+pub mod PageTold
+pub mod FixedPages
+pub mod Bounds
+pub mod Walking
+pub mod Writing
+pub mod Joining
+pub mod Proved
