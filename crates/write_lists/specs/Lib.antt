@@ -5,4 +5,6 @@ pub mod OnlyFree
 pub mod Answers
 pub mod Tables
 pub mod Computing
+pub mod Examples
+pub mod DrivenExamples
 pub mod Code
