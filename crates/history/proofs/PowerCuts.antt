@@ -1,16 +1,14 @@
 -- Demand 3 where power drops: a driver that is cut short leaves the block beside the same ledger, and one that makes its last store
 -- beside the ledger with the pair entered.
 use mathlib.Core.Path.{_≡_, refl, sym, ap, _∙_, subst}
-use mathlib.Core.Logic.{_≢_}
 use mathlib.Core.Bool.{Bool, true, false, _&&_, cond}
 use mathlib.Core.List.{List, [], _∷_, _++_}
-use Prim.Native.Nat.{ℕ, _≤_, _<_}
+use Prim.Native.Nat.{ℕ, _<_}
 use native.Mathlib.Omega.{arith}
 use lib.Dec.{leb, eqb}
-use borrow.Author.Tests.{eqb-true, eqb-false, leb-true, leb-false}
+use borrow.Author.Tests.{eqb-true, eqb-false, leb-false}
 use Rattle.cells.specs.Bytes.{IsBytes}
 use Rattle.blocks.specs.Trailer.{layoutOf, slots, inUse}
-use Rattle.blocks.specs.Refusal.{Counted}
 use Rattle.blocks.specs.Read.{shown}
 use Rattle.blocks.specs.After.{slotShown}
 use Rattle.store.specs.Insert.{insert}
@@ -22,9 +20,9 @@ use Rattle.history.specs.Demand3.{Agrees, ledgerBeside}
 use Rattle.history.proofs.Beside.{Beside, slot-holds, beside-after, beside-fresh}
 use Rattle.history.proofs.OneCall.{call-step, insert-step}
 use Rattle.history.proofs.Lists.{list-law}
-use Rattle.write_lists.specs.WriteList.{WriteList, writeList}
+use Rattle.write_lists.specs.WriteList.{writeList}
 use Rattle.write_lists.specs.Driven.{driven}
-use Rattle.history.specs.PowerCuts.{Event, calling, storing, finished, storedBlock, afterEvent, fedOf, answersTo, afterEvents, fedByEvents, answersToEvents, EventIsBytes, EventsAreBytes, AfterPowerCuts}
+use Rattle.history.specs.PowerCuts.{Event, calling, storing, afterEvent, fedOf, answersTo, afterEvents, fedByEvents, answersToEvents, EventIsBytes, EventsAreBytes, AfterPowerCuts}
 use Rattle.write_lists.proofs.WriteListCall.{list-refused, list-inserts}
 use Rattle.write_lists.proofs.Cuts.{cut-last, cut-short}
 

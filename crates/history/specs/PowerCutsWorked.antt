@@ -5,7 +5,7 @@ use mathlib.Core.List.{List, [], _∷_, _++_, map}
 use Prim.Native.Nat.{ℕ}
 use lib.ListN.{replicate, take}
 use Rattle.cells.specs.Bytes.{zeros}
-use Rattle.nodes.specs.Written.{words, eightWords, chainBytes}
+use Rattle.nodes.specs.Written.{eightWords, chainBytes}
 use Rattle.snapshots.specs.Computing.{snapshotsOpen}
 use Rattle.write_lists.specs.Computing.{listsOpen}
 use Rattle.history.specs.Calls.{Call, inserting, snapshotting, ours, outcome}

@@ -1,9 +1,7 @@
 -- A driver that is cut short: what it leaves after any first part of a list's stores, and after the last.
 use mathlib.Core.Path.{_≡_, refl, sym, ap, _∙_, subst}
-use mathlib.Core.Logic.{_≢_}
-use mathlib.Core.Option.{some}
-use mathlib.Core.List.{List, [], _∷_, _++_}
-use Prim.Native.Nat.{ℕ, zero, suc, _+_, _*_, _/_, _%_, _≤_, _<_}
+use mathlib.Core.List.{List, [], _∷_}
+use Prim.Native.Nat.{ℕ, zero, suc, _+_, _/_, _%_, _≤_, _<_}
 use native.Mathlib.Omega.{arith}
 use lib.ListN.{length, take}
 use lib.Seq.{take-append-le, take-length}
@@ -17,7 +15,7 @@ use Rattle.cells.proofs.Memory.{memory-written-other}
 use Rattle.cells.proofs.Pointers.{cell-kind}
 use Rattle.updates.specs.Commit.{buildWrites}
 use Rattle.updates.proofs.Commit.{numbers-taken}
-use Rattle.blocks.specs.Trailer.{rootAt, layoutOf, inUse}
+use Rattle.blocks.specs.Trailer.{layoutOf, inUse}
 use Rattle.blocks.specs.Refusal.{Counted}
 use Rattle.blocks.specs.Read.{shown}
 use Rattle.blocks.specs.After.{After, slotShown}

@@ -21,7 +21,7 @@ use Rattle.updates.proofs.Count.{Numbering}
 use Rattle.blocks.specs.Trailer.{rootAt}
 use Rattle.store.specs.Committed.{commitWrites}
 use Rattle.write_lists.specs.WriteList.{recordsFor}
-use Rattle.write_lists.proofs.Records.{Small, AllSmall, noWrite}
+use Rattle.write_lists.proofs.Records.{AllSmall, noWrite}
 
 -- eight writes for each cell, and one for the root word
 words-length : (c : ℕ) (bytes : List ℕ) (left i : ℕ) → length (wordWrites c bytes left i) ≡ left

@@ -1,5 +1,5 @@
 -- The table of answers leaves nothing free: whatever meets it is the call, in its answer, its records and every byte of the list.
-use mathlib.Core.Path.{_≡_, refl, sym, ap, _∙_, subst}
+use mathlib.Core.Path.{_≡_, refl, sym, _∙_}
 use mathlib.Core.Bool.{Bool, true, false}
 use mathlib.Core.List.{List}
 use Prim.Native.Nat.{ℕ, _+_, _*_, _/_, _%_, _≤_, _<_}
@@ -8,8 +8,6 @@ use native.Mathlib.Omega.{arith}
 use lib.ListN.{length, getD}
 use lib.Seq.{ext-getD}
 use Rattle.cells.specs.Bytes.{IsBytes}
-use Rattle.cells.specs.Word.{wordAt}
-use Rattle.cells.specs.Writes.{Write}
 use Rattle.blocks.specs.Trailer.{rootAt, layoutOf}
 use Rattle.blocks.specs.Refusal.{badNewKey, badValue}
 use Rattle.blocks.specs.Tables.{PassesKey}
@@ -17,7 +15,6 @@ use Rattle.blocks.proofs.Left.{word-told}
 use Rattle.blocks.proofs.Determined.{both, passes-key-or, beside-told}
 use Rattle.store.specs.Committed.{numbering}
 use Rattle.store.specs.Insert.{cellsFree, cellsToInsert, insert}
-use Rattle.write_lists.specs.Records.{recordAt}
 use Rattle.write_lists.specs.WriteList.{WriteList, recordsFor, writeList}
 use Rattle.write_lists.specs.Tables.{Stores, Lists, WriteListTable}
 use Rattle.write_lists.proofs.WriteListCall.{write-list-table}

@@ -1,7 +1,7 @@
 -- The call of a write list: its answer, what is beside it, and that it meets its table.
 use mathlib.Core.Path.{_≡_, refl, sym, ap, _∙_, subst}
 use mathlib.Core.Logic.{_≢_, inr}
-use mathlib.Core.Bool.{false, not}
+use mathlib.Core.Bool.{not}
 use mathlib.Core.Option.{some}
 use mathlib.Core.List.{List}
 use Prim.Native.Nat.{ℕ, _+_, _*_, _≤_, _<_}
@@ -17,16 +17,16 @@ use Rattle.cells.specs.Occurrences.{occurrences, all, distinct}
 use Rattle.cells.proofs.Memory.{memory-word}
 use Rattle.nodes.specs.Layout.{Layout}
 use Rattle.updates.specs.Built.{Built}
-use Rattle.blocks.specs.Trailer.{rootAt, badSize, layoutOf, rootWord}
-use Rattle.blocks.specs.Refusal.{firstRefusal, badValue, Counted}
+use Rattle.blocks.specs.Trailer.{rootAt, layoutOf, rootWord}
+use Rattle.blocks.specs.Refusal.{firstRefusal}
 use Rattle.blocks.proofs.Trailer.{sized}
 use Rattle.blocks.proofs.Refusals.{Answers, answers}
 use Rattle.blocks.proofs.ReadCalls.{asked, refusals-none, exactly, chosen-done, chosen-no}
-use Rattle.store.specs.Committed.{numbering, committed}
+use Rattle.store.specs.Committed.{numbering}
 use Rattle.store.specs.Insert.{cellsToInsert, blockBuild, insert}
 use Rattle.store.specs.Laid.{Laid, MayInsert, Finds}
 use Rattle.store.proofs.ChangeCall.{Change, change-word}
-use Rattle.store.proofs.InsertCall.{inserted-change, insert-done, insert-number, insert-zero, insert-after, insert-laid}
+use Rattle.store.proofs.InsertCall.{inserted-change, insert-zero, insert-after, insert-laid}
 use Rattle.store.proofs.InsertCode.{insert-needed}
 use Rattle.store.proofs.TakenZeros.{block-numbering, taken-stand, root-made}
 use Rattle.write_lists.specs.Records.{withRecords, recordAt}

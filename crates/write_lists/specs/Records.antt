@@ -1,6 +1,6 @@
 -- 02, 6: "Each record is a byte position, as a word, and a data word."
 use mathlib.Core.Path.{_≡_, refl}
-use mathlib.Core.List.{List, [], _∷_, _++_, map}
+use mathlib.Core.List.{List, [], _∷_, map}
 use Prim.Native.Nat.{ℕ, _+_, _*_}
 use lib.ListN.{replicate}
 use Rattle.cells.specs.Word.{wordAt, withWord}
