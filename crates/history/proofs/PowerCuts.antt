@@ -29,7 +29,7 @@ use Rattle.write_lists.proofs.Cuts.{cut-last, cut-short}
 -- a block beside a ledger, and an insertion into it by a driver
 module _ (count : ℕ) (b : List ℕ) (l : Ledger) (beside : Beside count b l) (key : List ℕ) (value : ℕ) (list : List ℕ) (is-bytes : IsBytes key) where
   -- cut short of the last store: beside the same ledger
-  pub cut-beside : writeList b key value list .answer ≡ 0 → (k : ℕ) → k < writeList b key value list .records
+  cut-beside : writeList b key value list .answer ≡ 0 → (k : ℕ) → k < writeList b key value list .records
       → Beside count (driven b (writeList b key value list .list) k) l
   cut-beside done k short =
       beside-after count b _ (beside .counts) (shown b) (inUse (layoutOf b) b) (slotShown b)

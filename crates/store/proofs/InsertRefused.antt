@@ -23,7 +23,7 @@ use Rattle.store.proofs.ChangeCode.{judged-sound, judged-changeable}
 use Rattle.store.proofs.InsertCall.{insert-number, insert-refused-as}
 
 -- the number given by the first of some refusals is that of all of them
-pub first-given : (rs more : List Refusal) (n : ℕ) → firstRefusal rs ≡ n → n ≢ 0 → firstRefusal (rs ++ more) ≡ n
+first-given : (rs more : List Refusal) (n : ℕ) → firstRefusal rs ≡ n → n ≢ 0 → firstRefusal (rs ++ more) ≡ n
 first-given rs more n e other = refused-earlier rs more (λ zero. other (sym e ∙ zero)) ∙ e
 
 module _ (b key : List ℕ) (value : ℕ) where

@@ -86,7 +86,7 @@ module _ (b key : List ℕ) (value : ℕ) (list : List ℕ) (bytes : IsBytes b) 
         ∙ into-others cells (take k (buildWrites (numbering b) (blockBuild b key value .cells))) (into-first cells k _ into) b c none
 
     -- only free cells were written
-    pub cut-free : OnlyFree b (driven b (writeList b key value list .list) k)
+    cut-free : OnlyFree b (driven b (writeList b key value list .list) k)
     cut-free =
         let cells = blockBuild b key value .cells in
         let enough = list-change b key value list bytes is-bytes done .enough in

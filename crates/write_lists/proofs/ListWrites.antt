@@ -99,7 +99,7 @@ module _ (layout : Layout) (number : ℕ → ℕ) (m : Memory) where
       ∙ word-write c newest 8 0 i near
       ∙ (λ j. record { at = c * 32 + 4 * (zero-add i j); word = wordAt (sym stands j) (4 * (zero-add i j)) })
 
-  pub build-write : (cells : List (List ℕ)) → CellsStand layout number m cells → (place i : ℕ) → place < length cells → i < 8
+  build-write : (cells : List (List ℕ)) → CellsStand layout number m cells → (place i : ℕ) → place < length cells → i < 8
       → getD (buildWrites number cells) (8 * place + i) noWrite ≡ wordOfCell place i
   unfolding buildWrites
   build-write [] standing place i inside near = absurd (omega arith)

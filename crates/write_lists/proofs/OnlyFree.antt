@@ -82,7 +82,7 @@ module _ (b b′ : List ℕ) (size : badSize b ≡ false) (valid : sound b ≡ t
       (λ slot is-slot on. slot-kept slot is-slot on .table)
       kept
 
-  pub only-free-root : rootWord (layoutOf b′) b′ ≡ rootWord (layoutOf b) b
+  only-free-root : rootWord (layoutOf b′) b′ ≡ rootWord (layoutOf b) b
   only-free-root = ap (λ (l : Layout). rootWord l b′) (says .layout) ∙ root-same
 
   -- the same cells are reached

@@ -50,7 +50,7 @@ module _ (b key : List ℕ) (value : ℕ) (list : List ℕ) where
   unfolding writeList
   list-not-done n = chosen-no _ (listed b key value list) (refusedList _ list) n
 
-  pub list-number : writeList b key value list .answer ≡ firstRefusal (writeListRefusals b key value list)
+  list-number : writeList b key value list .answer ≡ firstRefusal (writeListRefusals b key value list)
   list-number = elim (ℕ-discrete (firstRefusal (writeListRefusals b key value list)) 0) [
     | yes e ↦ ap (λ (r : WriteList). r .answer) (list-done e) ∙ sym e
     | no n ↦ ap (λ (r : WriteList). r .answer) (list-not-done n)
@@ -127,7 +127,7 @@ module _ (b key : List ℕ) (value : ℕ) (list : List ℕ) where
         sym (root-made b key (blockBuild b key value) _ _ laid same (change-word b key (blockBuild b key value) (some value) bytes list-change))
         ∙ ap (λ (l : Layout). wordAt (insert b key value .block) (rootAt l)) same
 
-    pub list-lists : Lists b key value list (writeList b key value list)
+    list-lists : Lists b key value list (writeList b key value list)
     list-lists =
         let x : Built = blockBuild b key value in
         let many : insert b key value .count ≡ length (x .cells) = laid .counted in
