@@ -1,10 +1,10 @@
 -- An insertion, and its list, asked for anew where only free cells were written since: the same again.
 use mathlib.Core.Path.{_≡_, refl, sym, ap, _∙_}
-use mathlib.Core.Bool.{Bool, true, false, not, cond}
-use mathlib.Core.List.{List, [], _∷_}
-use Prim.Native.Nat.{ℕ, _-_, _*_, _/_}
+use mathlib.Core.Bool.{Bool, true, false}
+use mathlib.Core.List.{List}
+use Prim.Native.Nat.{ℕ, _-_, _/_}
 use native.Mathlib.Omega.{arith}
-use lib.Dec.{leb, ltb, eqb}
+use lib.Dec.{leb}
 use lib.ListN.{length, take}
 use Rattle.cells.specs.Bytes.{IsBytes}
 use Rattle.cells.specs.Word.{withWord}
@@ -16,16 +16,15 @@ use Rattle.updates.specs.Commit.{memoryWith}
 use Rattle.updates.proofs.Commit.{memoryWith-alike, numbers-taken}
 use Rattle.blocks.specs.Trailer.{badSize, layoutOf}
 use Rattle.blocks.specs.Sound.{sound}
-use Rattle.blocks.specs.Refusal.{refusal, firstRefusal, badNewKey, badValue}
+use Rattle.blocks.specs.Refusal.{firstRefusal, badNewKey}
 use Rattle.store.specs.Free.{free}
-use Rattle.store.specs.Committed.{numbering, commitWrites}
+use Rattle.store.specs.Committed.{numbering}
 use Rattle.store.specs.Insert.{cellsToInsert, blockBuild, insert}
 use Rattle.store.specs.Laid.{rootReaches, Laid, Finds, MayInsert}
 use Rattle.store.proofs.InsertCall.{inserted-change, insert-zero, insert-after, insert-laid}
 use Rattle.store.proofs.Determined.{laid-told}
 use Rattle.write_lists.specs.OnlyFree.{OnlyFree}
-use Rattle.write_lists.specs.Records.{withRecords}
-use Rattle.write_lists.specs.WriteList.{WriteList, recordsFor, writeList}
+use Rattle.write_lists.specs.WriteList.{writeList}
 use Rattle.write_lists.proofs.OnlyFree.{only-free-last, only-free-after, only-free-free, only-free-build, only-free-needed}
 
 module _ (b b′ : List ℕ) (size : badSize b ≡ false) (valid : sound b ≡ true) (bytes : IsBytes b) (only : OnlyFree b b′) where
@@ -112,19 +111,8 @@ module _ (b b′ : List ℕ) (size : badSize b ≡ false) (valid : sound b ≡ t
       go : (bad : Bool) → badNewKey key ≡ bad → writeList b′ key value list ≡ writeList b key value list
       go true bad = rw (size, size′, valid, valid′, bad)
       go false good =
-          let sizes : badSize b′ ≡ badSize b = size′ ∙ sym size in
-          let sounds : sound b′ ≡ sound b = valid′ ∙ sym valid in
           let layout = only-free-after b b′ size valid bytes only .layout in
           let cells = only-free-free b b′ size valid bytes only in
           let needed = only-free-needed b b′ size valid bytes only key is-bytes good in
           let made = only-free-build b b′ size valid bytes only key value is-bytes good in
-          λ i.
-          let answer = firstRefusal (refusal 1 (sizes i) ∷ refusal 2 (not (sounds i)) ∷ refusal 3 (badNewKey key) ∷ refusal 4 (badValue value)
-          ∷ refusal 7 (ltb (length (cells i)) (needed i)) ∷ refusal 15 (ltb (length list) (8 * recordsFor (needed i))) ∷ []) in
-          let done : WriteList = record {
-            answer = 0;
-            records = recordsFor (length (made i .cells));
-            list = withRecords list 0 (commitWrites (layout i) (numberFrom (layout i) (cells i)) (made i));
-          } in
-          let refused : WriteList = record { answer = answer; records = 0; list = list } in
-          cond (eqb answer 0) done refused
+          rw (size, size′, valid, valid′, made, needed, cells, layout)

@@ -73,9 +73,9 @@ module _ (b key : List ℕ) (value : ℕ) (list : List ℕ) where
           size = c .0;
           valid = not-false _ (c .1 .0);
           may = record { good-key = c .1 .1 .0; good-value = c .1 .1 .1 .0 };
-          enough = ltb-false _ _ (c .1 .1 .1 .1 .0);
+          enough = omega (arith, ltb-false);
         },
-        ltb-false _ _ (c .1 .1 .1 .1 .1 .0),
+        omega (arith, ltb-false),
       )
 
   -- what is known of a list that was made
