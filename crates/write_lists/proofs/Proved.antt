@@ -1,20 +1,23 @@
 -- What is proved of a write list, on any bytes: it meets its table of answers and whatever meets the table is the call; a driver that
 -- is cut short leaves the old table, one that makes the last store leaves what inserting gives, and a retry after a cut is safe.
 use mathlib.Core.Path.{_≡_}
+use mathlib.Core.Logic.{_≢_}
 use mathlib.Core.Bool.{true, false}
 use mathlib.Core.List.{List}
-use Prim.Native.Nat.{ℕ, _<_}
+use Prim.Native.Nat.{ℕ, _≤_, _<_}
+use lib.ListN.{length}
 use Rattle.cells.specs.Bytes.{IsBytes}
 use Rattle.blocks.specs.Trailer.{badSize, layoutOf, inUse}
 use Rattle.blocks.specs.Sound.{sound}
 use Rattle.blocks.specs.Read.{shown}
 use Rattle.blocks.specs.After.{After, slotShown}
 use Rattle.store.specs.Insert.{insert}
-use Rattle.write_lists.specs.WriteList.{WriteList, writeList}
+use Rattle.write_lists.specs.WriteList.{WriteList, listRoom, writeList}
 use Rattle.write_lists.specs.Driven.{driven}
 use Rattle.write_lists.specs.OnlyFree.{OnlyFree}
 use Rattle.write_lists.specs.Tables.{WriteListTable}
 use Rattle.write_lists.proofs.WriteListCall.{write-list-table}
+use Rattle.write_lists.proofs.WriteListCall as call
 use Rattle.write_lists.proofs.Told as told
 use Rattle.write_lists.proofs.OnlyFree as only-free
 use Rattle.write_lists.proofs.Cuts as cuts
@@ -25,6 +28,10 @@ write-list-meets = write-list-table
 pub write-list-told : (b key : List ℕ) (value : ℕ) (list : List ℕ) (r : WriteList) → IsBytes b → IsBytes key → IsBytes list
     → WriteListTable b key value list r → r ≡ writeList b key value list
 write-list-told = told.write-list-told
+
+-- a buffer for the list of a longest key is never too short
+pub room-enough : (b key : List ℕ) (value : ℕ) (list : List ℕ) → listRoom ≤ length list → writeList b key value list .answer ≢ 15
+room-enough = call.room-enough
 
 -- a list that was made, of any insertion into any block; the stores are read from the bytes of that list, one record after the other
 module _ (b key : List ℕ) (value : ℕ) (list : List ℕ) (bytes : IsBytes b) (is-bytes : IsBytes key) (done : writeList b key value list .answer ≡ 0) where

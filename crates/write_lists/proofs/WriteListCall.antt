@@ -17,20 +17,22 @@ use Rattle.cells.specs.Occurrences.{occurrences, all, distinct}
 use Rattle.cells.proofs.Memory.{memory-word}
 use Rattle.nodes.specs.Layout.{Layout}
 use Rattle.updates.specs.Built.{Built}
+use Rattle.updates.specs.Build.{cellsNeeded}
+use Rattle.updates.proofs.Bound.{build-bound}
 use Rattle.blocks.specs.Trailer.{rootAt, layoutOf, rootWord}
-use Rattle.blocks.specs.Refusal.{firstRefusal}
+use Rattle.blocks.specs.Refusal.{firstRefusal, badNewKey}
 use Rattle.blocks.proofs.Trailer.{sized}
 use Rattle.blocks.proofs.Refusals.{Answers, answers}
 use Rattle.blocks.proofs.ReadCalls.{asked, refusals-none, exactly, chosen-done, chosen-no}
 use Rattle.store.specs.Committed.{numbering}
 use Rattle.store.specs.Insert.{cellsToInsert, blockBuild, insert}
 use Rattle.store.specs.Laid.{Laid, MayInsert, Finds}
-use Rattle.store.proofs.ChangeCall.{Change, change-word}
+use Rattle.store.proofs.ChangeCall.{key-fits, Change, change-word}
 use Rattle.store.proofs.InsertCall.{inserted-change, insert-zero, insert-after, insert-laid}
 use Rattle.store.proofs.InsertCode.{insert-needed}
 use Rattle.store.proofs.TakenZeros.{block-numbering, taken-stand, root-made}
 use Rattle.write_lists.specs.Records.{withRecords, recordAt}
-use Rattle.write_lists.specs.WriteList.{WriteList, insertWrites, recordsFor, writeListRefusals, listed, refusedList, writeList}
+use Rattle.write_lists.specs.WriteList.{WriteList, insertWrites, recordsFor, listRoom, writeListRefusals, listed, refusedList, writeList}
 use Rattle.write_lists.specs.Tables.{Stores, Lists, WriteListTable}
 use Rattle.write_lists.proofs.Records.{AllSmall, noWrite, records-length, records-bytes, records-other, record-read}
 use Rattle.write_lists.proofs.ListWrites.{commit-writes-length, commit-small, cell-write, root-write}
@@ -164,3 +166,16 @@ write-list-table b key value list =
       lists = list-lists b key value list;
       refused = list-refused b key value list;
     }
+
+-- an insertion takes at most as many cells as the room is for
+pub room-enough : (b key : List ℕ) (value : ℕ) (list : List ℕ) → listRoom ≤ length list → writeList b key value list .answer ≢ 15
+unfolding listRoom cellsNeeded badNewKey
+room-enough b key value list room short =
+    let c = write-list-table b key value list .short-list .only short in
+    omega (
+      arith,
+      room,
+      c .1 .1 .1,
+      key-fits key (c .0 .key),
+      build-bound (λ _. 1) (layoutOf b) (memoryOf b) (rootWord (layoutOf b) b) key 0,
+    )

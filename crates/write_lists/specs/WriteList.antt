@@ -5,6 +5,7 @@ use Prim.Native.Nat.{ℕ, _+_, _*_}
 use lib.Dec.{ltb, eqb}
 use lib.ListN.{length}
 use Rattle.cells.specs.Writes.{Write}
+use Rattle.nodes.specs.Layout.{keyLimit}
 use Rattle.blocks.specs.Trailer.{layoutOf}
 use Rattle.blocks.specs.Refusal.{Refusal, refusal, firstRefusal}
 use Rattle.store.specs.Committed.{numbering, commitWrites}
@@ -23,6 +24,10 @@ recordsFor cells = 8 * cells + 1
 -- 02, 6: "A list buffer shorter than 8 bytes for each record"
 abbrev pub shortList : List ℕ → List ℕ → List ℕ → Bool
 shortList block key list = ltb (length list) (8 * recordsFor (cellsToInsert block key))
+
+-- the bytes with which no list is short; 01: "for m label bytes at most 4m + 10"
+unfoldable pub listRoom : ℕ
+listRoom = 8 * recordsFor (4 * keyLimit + 10)
 
 -- 02, 6: "is answer 15, checked after 7"
 abbrev pub writeListRefusals : List ℕ → List ℕ → ℕ → List ℕ → List Refusal
