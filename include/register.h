@@ -7,7 +7,7 @@
  * 2,147,483,647. A cartridge is entered under its label, with its expiry day as value: year x 512 + month x 32 + day.
  *
  * Every call judges the whole block and all that it is told, whatever comes in, and answers with the lowest number below that
- * applies. On every answer but REGISTER_DONE the block stays byte for byte and the number beside the answer is zero.
+ * applies. On every answer but REGISTER_DONE the block and a list buffer stay byte for byte and the number beside the answer is zero.
  *
  * C cuts a number wider than a parameter before the call: the year 4,294,969,321 in 64 bits would arrive as 2025 and be taken for it.
  * Judge wider numbers yourself before you hand them over.
@@ -25,7 +25,7 @@
 extern "C" {
 #endif
 
-/* What a call answers. 5, 6 and 15 are answers of calls that firmware does not have. */
+/* What a call answers. 5 and 6 are answers of calls that firmware does not have. */
 enum {
     REGISTER_DONE = 0,
     REGISTER_BAD_SIZE = 1,     /* the size is no multiple of 32, or not 4 to 2,048 cells */
@@ -40,7 +40,8 @@ enum {
     REGISTER_MISSING = 11,     /* the register does not hold the key or label */
     REGISTER_HELD_NO_DATE = 12, /* the value held for the label is no date */
     REGISTER_EXPIRED = 13,     /* today is after the expiry day */
-    REGISTER_OUTSIDE_GATE = 14 /* the temperature is outside the gate */
+    REGISTER_OUTSIDE_GATE = 14, /* the temperature is outside the gate */
+    REGISTER_SHORT_LIST = 15   /* the list buffer has less than 8 bytes for each record; asked after no room */
 };
 
 /* The kinds of a temperature gate; its limits are in Celsius and count as inside. */
@@ -60,6 +61,22 @@ enum {
  * Answers: done, bad size, unsound, bad key, bad value, no room. */
 uint8_t register_insert(uint8_t *block, size_t block_size, const uint8_t *key, size_t key_size, uint32_t value,
                         uint32_t *count);
+
+/* The most bytes that the list of an insertion has: 8 records for each of 4 x 48 + 10 cells and one for the root word, 8 bytes each. */
+#define REGISTER_LIST_SIZE ((8 * (4 * 48 + 10) + 1) * 8)
+
+/* Gives the same entry as a list of stores for a memory driver, and tells in *records how many; the block is only read.
+ * The list holds one record of 8 bytes for each store: a byte position in the block, as a word, then the data word to be stored
+ * there, words highest byte first, positions multiples of 4. It begins with the cells that the entry takes, 8 records each,
+ * and the last record alone is the root word. The bytes of the list buffer past the records stay as they are.
+ * The driver makes the stores one after the other, in this order, and guarantees two things: the store of a word is whole, it is made
+ * or not made; and the last store begins only after all others have reached the memory. If power drops before the last store is
+ * made, the block is sound and shows the old entries, and the entry is simply made again: through a list or by register_insert,
+ * it then takes the same cells. After the last store the block is byte for byte what register_insert leaves.
+ * Nothing else alters the block between the asking for the list and its last store.
+ * Answers: done, bad size, unsound, bad key, bad value, no room, short list. */
+uint8_t register_write_list(const uint8_t *block, size_t block_size, const uint8_t *key, size_t key_size, uint32_t value,
+                            uint8_t *list, size_t list_size, uint32_t *records);
 
 /* Looks a key up and tells its value in *value.
  * Answers: done, bad size, unsound, bad key, missing. */

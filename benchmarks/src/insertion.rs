@@ -1,4 +1,4 @@
-//! Insertion in the plain program: the new cells are staged, and written only when there is room for all.
+//! Insertion in the plain program: the new cells are staged, and written or listed only when there is room for all.
 
 use crate::plain::{cell_of, is_leaf, kind_of, linked_word, may_embed, put_word, root_of, word_at};
 use crate::plain::{CELL, EMBEDDED, PREFIX, SPARSE, SPLIT, STANDALONE};
@@ -8,12 +8,46 @@ use crate::walk::{after_chain, child_of};
 /// The bytes of one cell.
 pub type Image = [u8; CELL];
 
+/// Bytes in one record of a list of stores: a byte position in the block and the word to be stored there.
+pub const STORE: usize = 8;
+
 /// Builds the tree with the key entered and writes it; nothing where it takes more cells than are free.
 pub fn insert(block: &mut [u8], reached: &Reached, key: &[u8], value: u32) -> Option<u32> {
+    let (cells, root) = staged(block, reached, key, value)?;
+    Some(write(block, &cells, root))
+}
+
+/// Builds the tree with the key entered and lists its stores: the answer number and the count of records.
+pub fn list(block: &[u8], reached: &Reached, key: &[u8], value: u32, list: &mut [u8]) -> (u8, u32) {
+    let Some((cells, root)) = staged(block, reached, key, value) else {
+        return (7, 0);
+    };
+    let records = cells.len() * (CELL / 4) + 1;
+    let Some(list) = list.get_mut(..records * STORE) else {
+        return (15, 0);
+    };
+    write_stores(list, &cells, block.len() - CELL, root);
+    (0, records as u32)
+}
+
+/// Writes a record for each word of the cells that were taken and, last, one for the new root.
+fn write_stores(list: &mut [u8], cells: &[(usize, Image)], trailer: usize, root: u32) {
+    let (of_cells, of_root) = list.split_at_mut(cells.len() * (CELL / 4) * STORE);
+    for ((cell, image), records) in cells.iter().zip(of_cells.chunks_exact_mut(CELL / 4 * STORE)) {
+        for (place, record) in records.chunks_exact_mut(STORE).enumerate() {
+            put_word(record, 0, (cell * CELL + 4 * place) as u32);
+            put_word(record, 4, word_at(image, 4 * place));
+        }
+    }
+    put_word(of_root, 0, trailer as u32);
+    put_word(of_root, 4, root);
+}
+
+/// The cells of the tree with the key entered, in the order taken, and its root; nothing where they are more than are free.
+fn staged(block: &[u8], reached: &Reached, key: &[u8], value: u32) -> Option<(Vec<(usize, Image)>, u32)> {
     let mut stage = Stage { block, reached, next: 1, cells: Vec::new() };
     let root = stage.entered(root_of(block), key, value)?;
-    let cells = stage.cells;
-    Some(write(block, &cells, root))
+    Some((stage.cells, root))
 }
 
 /// Writes the cells that were taken and the new root, and counts the cells.

@@ -12,6 +12,7 @@ mod room;
 mod timing;
 mod validation;
 mod walk;
+mod write_list;
 
 use labels::{Random, SEED};
 use plain::{edition_of, put_word, CELL};
@@ -106,13 +107,16 @@ impl Case {
         self.ask(&mut random, others)
     }
 
-    /// Enters a label with both programs, which must agree on the answer and every byte.
+    /// Enters a label with both programs, at once and through a list of stores; all must agree on the answer and every byte.
     fn enter(&mut self, label: Vec<u8>) -> u8 {
         let value = (self.entered.len() * 7919) as u32;
         let mut beside = self.full.clone();
+        let listed = write_list::entered(&self.full, &label, value);
         let answer = proved::insert(&mut self.full, &label, value);
         assert_eq!(answer, plain::insert(&mut beside, &label, value), "insertion of {label:?}");
         assert_eq!(self.full, beside, "the bytes after {label:?}");
+        let records = if answer.0 == 0 { 8 * answer.1 + 1 } else { 0 };
+        assert_eq!(listed, ((answer.0, records), beside), "the list of {label:?} and the bytes after its stores");
         assert!(matches!(answer.0, 0 | 7), "answer {} to a valid insertion", answer.0);
         if answer.0 == 0 {
             self.map.insert(label.clone(), value);
@@ -159,6 +163,7 @@ impl Case {
             assert_eq!(next, plain::next_key(&self.full, label), "next key after {label:?}");
         }
         pages::compare(&self.full, &self.map, &self.questions[..PAGES]);
+        write_list::compare_refusals(&self.full);
         self.compare_damaged();
     }
 
@@ -194,6 +199,9 @@ impl Case {
         self.report("next key", "plain", QUESTIONS, &ours, &|| self.each(|label| plain::next_key(full, label).size));
         let (ours, theirs) = (|| self.fill(fills, proved::insert), || self.fill(fills, plain::insert));
         self.report("insert", "plain", fills * self.entered.len(), &ours, &theirs);
+        let ours = || self.fill(fills, write_list::through(proved::write_list));
+        let theirs = || self.fill(fills, write_list::through(plain::write_list));
+        self.report("write list", "plain", fills * self.entered.len(), &ours, &theirs);
         let (ours, theirs) = (|| self.emptied(fills, proved::remove), || self.emptied(fills, plain::remove));
         self.report("remove", "plain", fills * self.removed.len(), &ours, &theirs);
         pages::report(&self.start(), full, &self.map);
@@ -232,7 +240,7 @@ impl Case {
     }
 
     /// Fills fresh blocks with all that was entered, so many times, and adds the counts up.
-    fn fill(&self, fills: usize, insert: impl Fn(&mut [u8], &[u8], u32) -> (u8, u32)) -> u64 {
+    fn fill(&self, fills: usize, mut insert: impl FnMut(&mut [u8], &[u8], u32) -> (u8, u32)) -> u64 {
         let mut taken = 0;
         for _ in 0..fills {
             let mut block = self.fresh.clone();

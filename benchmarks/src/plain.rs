@@ -172,23 +172,43 @@ pub fn page(block: &[u8], after: &[u8], buffer: &mut [u8]) -> Page {
 /// Enters a key with its value after validation: the answer number and the count of cells taken.
 #[inline(never)]
 pub fn insert(block: &mut [u8], key: &[u8], value: u32) -> (u8, u32) {
-    if !valid_length(block.len()) {
-        return (1, 0);
-    }
     let mut reached = [0; 2048];
-    if !validation::is_sound(block, &mut reached) {
-        return (2, 0);
-    }
-    if key.is_empty() || key.len() > LONGEST_KEY {
-        return (3, 0);
-    }
-    if is_leaf(value) {
-        return (4, 0);
+    let answer = judge_insertion(block, key, value, &mut reached);
+    if answer != 0 {
+        return (answer, 0);
     }
     match insertion::insert(block, &reached, key, value) {
         Some(count) => (0, count),
         None => (7, 0),
     }
+}
+
+/// Writes the same entry into a list of stores after validation: the answer number and the count of records.
+#[inline(never)]
+pub fn write_list(block: &[u8], key: &[u8], value: u32, list: &mut [u8]) -> (u8, u32) {
+    let mut reached = [0; 2048];
+    let answer = judge_insertion(block, key, value, &mut reached);
+    if answer != 0 {
+        return (answer, 0);
+    }
+    insertion::list(block, &reached, key, value, list)
+}
+
+/// Judges an entry before anything is built for it, as an answer number; the cells that a sound block's roots reach are flagged.
+fn judge_insertion(block: &[u8], key: &[u8], value: u32, reached: &mut validation::Reached) -> u8 {
+    if !valid_length(block.len()) {
+        return 1;
+    }
+    if !validation::is_sound(block, reached) {
+        return 2;
+    }
+    if key.is_empty() || key.len() > LONGEST_KEY {
+        return 3;
+    }
+    if is_leaf(value) {
+        return 4;
+    }
+    0
 }
 
 /// Removes a key after validation: the answer number and the count of cells taken.

@@ -13,6 +13,16 @@ extern "C" {
         value: u32,
         count: *mut u32,
     ) -> u8;
+    fn exports_write_list(
+        block: *const u8,
+        block_len: usize,
+        key: *const u8,
+        key_len: usize,
+        value: u32,
+        list: *mut u8,
+        list_len: usize,
+        records: *mut u32,
+    ) -> u8;
     fn exports_remove(block: *mut u8, block_len: usize, key: *const u8, key_len: usize, count: *mut u32) -> u8;
     fn exports_get(block: *const u8, block_len: usize, key: *const u8, key_len: usize, value: *mut u32) -> u8;
     fn exports_next_key(
@@ -100,6 +110,25 @@ pub fn insert(block: &mut [u8], key: &[u8], value: u32) -> (u8, u32) {
     // Each pointer comes with the length of its own slice, and no slice overlaps another.
     let answer = unsafe { exports_insert(block.as_mut_ptr(), block.len(), key.as_ptr(), key.len(), value, &mut count) };
     (answer, count)
+}
+
+/// Writes the insertion of a key with its value into a list of stores: the answer number and the count of records.
+pub fn write_list(block: &[u8], key: &[u8], value: u32, list: &mut [u8]) -> (u8, u32) {
+    let mut records = 0;
+    // Each pointer comes with the length of its own slice, and no slice overlaps another.
+    let answer = unsafe {
+        exports_write_list(
+            block.as_ptr(),
+            block.len(),
+            key.as_ptr(),
+            key.len(),
+            value,
+            list.as_mut_ptr(),
+            list.len(),
+            &mut records,
+        )
+    };
+    (answer, records)
 }
 
 /// Removes a key: the answer number and the count of cells taken.

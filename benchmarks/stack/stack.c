@@ -1,5 +1,6 @@
 // How much stack each call needs: it runs in a thread whose stack was painted before, and the bytes that lost their paint
-// are counted from the far end.
+// are counted from the far end. The calls that firmware has are firmware's.
+#include "register.h"
 #include <pthread.h>
 #include <stdint.h>
 #include <stdio.h>
@@ -14,7 +15,6 @@ uint8_t exports_format(uint8_t *block, size_t size, uint32_t edition);
 uint8_t exports_validate(const uint8_t *block, size_t size);
 uint8_t exports_insert(uint8_t *block, size_t size, const uint8_t *key, size_t length, uint32_t value, uint32_t *count);
 uint8_t exports_remove(uint8_t *block, size_t size, const uint8_t *key, size_t length, uint32_t *count);
-uint8_t exports_get(const uint8_t *block, size_t size, const uint8_t *key, size_t length, uint32_t *value);
 uint8_t exports_next_key(const uint8_t *block, size_t size, const uint8_t *key, size_t length, uint32_t *next, uint8_t *out);
 uint8_t exports_page(const uint8_t *block, size_t size, const uint8_t *key, size_t length, uint8_t *buffer, size_t room,
                      uint32_t *records, uint32_t *used, uint32_t *more);
@@ -37,7 +37,20 @@ static void *validate(void *unused) {
 
 static void *insert(void *unused) {
     uint32_t count;
+    answer = register_insert(block, block_size, key, key_length, 7, &count);
+    return unused;
+}
+
+// the same call in the other library, where the compiler puts its parts together in another way
+static void *insert_of_exports(void *unused) {
+    uint32_t count;
     answer = exports_insert(block, block_size, key, key_length, 7, &count);
+    return unused;
+}
+
+static void *write_list(void *unused) {
+    uint32_t records;
+    answer = register_write_list(block, block_size, key, key_length, 7, buffer, sizeof buffer, &records);
     return unused;
 }
 
@@ -49,7 +62,7 @@ static void *remove_key(void *unused) {
 
 static void *get(void *unused) {
     uint32_t value;
-    answer = exports_get(block, block_size, key, key_length, &value);
+    answer = register_get(block, block_size, key, key_length, &value);
     return unused;
 }
 
@@ -120,7 +133,9 @@ static void all_calls(const char *title) {
     measure("page", page, 0);
     measure("page after a key", page_after, 0);
     key_length = KEY_LIMIT;
+    measure("write list", write_list, 0);
     measure("insert", insert, 0);
+    measure("insert of exports", insert_of_exports, 0);
     measure("remove", remove_key, 0);
     put(KEY_LIMIT, 1);
 }
@@ -135,6 +150,8 @@ static void fresh(size_t cells) {
 int main(void) {
     fresh(16);
     printf("A key of %d bytes into an empty block of 16 cells\n\n| call | bytes of stack |\n|---|---|\n", KEY_LIMIT);
+    // the list before the insertion, since it leaves the block empty
+    measure("write list", write_list, 0);
     measure("insert", insert, 0);
 
     // every node of the path is a chain

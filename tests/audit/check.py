@@ -13,9 +13,10 @@ CALLS = {
     "crates/store/src/formatting.rt": ["format"],
     "crates/store/src/inserting.rt": ["insert"],
     "crates/store/src/removing.rt": ["remove"],
+    "crates/write_lists/src/write_list.rt": ["write_list"],
     "crates/snapshots/src/lib.rt": ["snapshot", "restore", "release"],
     "crates/dosing/src/verdict.rt": ["verdict"],
-    "crates/firmware/src/lib.rt": ["register_insert", "register_get", "register_verdict"],
+    "crates/firmware/src/lib.rt": ["register_insert", "register_write_list", "register_get", "register_verdict"],
 }
 DEFINITION = re.compile(r"(?:unfoldable|abbrev|pub record|pub data)\b(?! mutual)")
 IMPORT = re.compile(r"^(?:ghost )?use Rattle·\w+(?:·specs)?\.specs\.(?P<module>[\w.]+)\.\{(?P<names>[^}]*)\}", re.M)

@@ -21,10 +21,11 @@ uint8_t *bytes(struct block *block) { return block->room + MARGIN; }
 
 size_t trailer(const struct block *block) { return block->size - CELL; }
 
-uint32_t word(struct block *block, size_t at) {
-    const uint8_t *b = bytes(block) + at;
-    return (uint32_t)b[0] << 24 | (uint32_t)b[1] << 16 | (uint32_t)b[2] << 8 | b[3];
+uint32_t word_of(const uint8_t *four) {
+    return (uint32_t)four[0] << 24 | (uint32_t)four[1] << 16 | (uint32_t)four[2] << 8 | four[3];
 }
+
+uint32_t word(struct block *block, size_t at) { return word_of(bytes(block) + at); }
 
 void put_word(struct block *block, size_t at, uint32_t word) {
     for (size_t i = 0; i < 4; i++) bytes(block)[at + i] = (uint8_t)(word >> (24 - 8 * i));
@@ -32,12 +33,14 @@ void put_word(struct block *block, size_t at, uint32_t word) {
 
 uint32_t root(struct block *block) { return word(block, trailer(block)); }
 
-void fresh(struct block *block, size_t cells) {
+void fresh(struct block *block, size_t cells) { fresh_of(block, cells, 1); }
+
+void fresh_of(struct block *block, size_t cells, uint32_t edition) {
     memset(block->room, FILLER, sizeof block->room);
     block->size = cells * CELL;
     memset(bytes(block), 0, block->size);
     put_word(block, trailer(block) + 0x14, (uint32_t)cells);
-    put_word(block, trailer(block) + 0x1C, 1);
+    put_word(block, trailer(block) + 0x1C, edition);
 }
 
 /* The next of a row of numbers, by three shifts. */
@@ -70,4 +73,9 @@ bool kept(const struct block *block) { return memcmp(block->room, before.room, s
 bool kept_margins(const struct block *block) {
     size_t after = MARGIN + block->size;
     return memcmp(block->room, before.room, MARGIN) == 0 && memcmp(block->room + after, before.room + after, MARGIN) == 0;
+}
+
+bool untouched(const uint8_t *from, size_t count) {
+    while (count > 0 && from[count - 1] == FILLER) count--;
+    return count == 0;
 }

@@ -1,4 +1,4 @@
-/* What both hosts share: checks that are counted, and a block in margins that must stay. */
+/* What the hosts share: checks that are counted, and a block in margins that must stay. */
 #ifndef BLOCK_H
 #define BLOCK_H
 
@@ -21,6 +21,8 @@ unsigned long checks_passed(void);
 
 uint8_t *bytes(struct block *block);
 void fresh(struct block *block, size_t cells);
+void fresh_of(struct block *block, size_t cells, uint32_t edition);
+uint32_t word_of(const uint8_t *four);
 uint32_t word(struct block *block, size_t at);
 void put_word(struct block *block, size_t at, uint32_t word);
 size_t trailer(const struct block *block);
@@ -35,5 +37,8 @@ void draw(struct block *block, unsigned turn, uint32_t *state);
 void keep(const struct block *block);
 bool kept(const struct block *block);
 bool kept_margins(const struct block *block);
+
+/* Whether so many bytes from a place on are filler. */
+bool untouched(const uint8_t *from, size_t count);
 
 #endif

@@ -1,4 +1,4 @@
-/* The host: its calls on the three functions of firmware, and the run of its tests. */
+/* The host: its calls on the functions of firmware, and the run of its tests. */
 #include "host.h"
 #include "register.h"
 
@@ -43,6 +43,18 @@ uint8_t verdict(struct block *block, struct question q, float *dose) {
 uint8_t answer_of_insert(struct block *block, const void *key, size_t key_size, uint32_t value) {
     uint32_t count;
     return insert(block, key, key_size, value, &count);
+}
+
+uint8_t answer_of_list(struct block *block, const void *key, size_t key_size, uint32_t value) {
+    static uint8_t room[MARGIN + REGISTER_LIST_SIZE + MARGIN];
+    uint32_t records = 0xA5A5A5A5;
+    memset(room, FILLER, sizeof room);
+    keep(block);
+    uint8_t answer = register_write_list(bytes(block), block->size, key, key_size, value, room + MARGIN, REGISTER_LIST_SIZE, &records);
+    CHECK(kept(block) && (answer == REGISTER_DONE || records == 0));
+    size_t used = (size_t)records * 8;
+    CHECK(used <= REGISTER_LIST_SIZE && untouched(room, MARGIN) && untouched(room + MARGIN + used, sizeof room - MARGIN - used));
+    return answer;
 }
 
 uint8_t answer_of_get(struct block *block, const void *key, size_t key_size) {

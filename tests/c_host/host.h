@@ -1,4 +1,4 @@
-/* What the tests of firmware's three functions share: calls whose answers are held to what is expected. */
+/* What the tests of firmware's functions share: calls whose answers are held to what is expected. */
 #ifndef HOST_H
 #define HOST_H
 
@@ -22,6 +22,7 @@ uint8_t verdict(struct block *block, struct question question, float *dose);
 
 /* The answer alone. */
 uint8_t answer_of_insert(struct block *block, const void *key, size_t key_size, uint32_t value);
+uint8_t answer_of_list(struct block *block, const void *key, size_t key_size, uint32_t value);
 uint8_t answer_of_get(struct block *block, const void *key, size_t key_size);
 uint8_t answer_of_verdict(struct block *block, struct question question);
 

@@ -10,10 +10,11 @@ static const struct question question = {
     .kind = REGISTER_GATE_ANY, .section = 60, .length = 4000,
 };
 
-/* All three calls answer unsound. */
+/* All calls answer unsound. */
 static void check_unsound(void) {
     CHECK(answer_of_get(&block, "A", 1) == REGISTER_UNSOUND);
     CHECK(answer_of_verdict(&block, question) == REGISTER_UNSOUND);
+    CHECK(answer_of_list(&block, "A", 1, 1) == REGISTER_UNSOUND);
     CHECK(answer_of_insert(&block, "A", 1, 1) == REGISTER_UNSOUND);
 }
 
@@ -79,7 +80,9 @@ static void every_byte(void) {
             CHECK(answer == REGISTER_DONE || answer == REGISTER_UNSOUND || answer == REGISTER_MISSING);
             bool meant = at >= 96 || (at >= 32 + 27 && at < 64);
             CHECK(meant || answer == REGISTER_DONE);
+            uint8_t listed = answer_of_list(&block, "A", 1, 1);
             uint8_t inserted = answer_of_insert(&block, "A", 1, 1);
+            CHECK(listed == inserted);
             CHECK(answer == REGISTER_UNSOUND ? inserted == REGISTER_UNSOUND : inserted == REGISTER_DONE || inserted == REGISTER_NO_ROOM);
             block = sample;
         }
@@ -95,8 +98,9 @@ static void random_blocks(void) {
         CHECK(answer == REGISTER_DONE || answer == REGISTER_UNSOUND || answer == REGISTER_MISSING);
         uint8_t judged = answer_of_verdict(&block, question);
         CHECK((answer == REGISTER_UNSOUND) == (judged == REGISTER_UNSOUND));
+        uint8_t listed = answer_of_list(&block, "A", 1, 1);
         uint8_t inserted = answer_of_insert(&block, "A", 1, 1);
-        CHECK((answer == REGISTER_UNSOUND) == (inserted == REGISTER_UNSOUND));
+        CHECK(listed == inserted && (answer == REGISTER_UNSOUND) == (inserted == REGISTER_UNSOUND));
         if (inserted == REGISTER_DONE) CHECK(answer_of_get(&block, "A", 1) == REGISTER_DONE);
     }
 }

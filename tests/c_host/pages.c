@@ -1,20 +1,12 @@
 /* The second host: it prints registers in pages, by the library that has every call, and holds each byte of the buffer to what
  * is expected. */
-#include "block.h"
+#include "exports.h"
 #include "register.h"
 
 #include <stdio.h>
 #include <string.h>
 
-uint8_t exports_validate(const uint8_t *block, size_t block_size);
-uint8_t exports_insert(uint8_t *block, size_t block_size, const uint8_t *key, size_t key_size, uint32_t value, uint32_t *count);
-uint8_t exports_get(const uint8_t *block, size_t block_size, const uint8_t *key, size_t key_size, uint32_t *value);
-uint8_t exports_next_key(const uint8_t *block, size_t block_size, const uint8_t *key, size_t key_size, uint32_t *next_size,
-                         uint8_t *next);
-uint8_t exports_page(const uint8_t *block, size_t block_size, const uint8_t *key, size_t key_size, uint8_t *buffer,
-                     size_t buffer_size, uint32_t *records, uint32_t *used, uint32_t *more);
-
-/* The answer that firmware does not have, the least buffer that is taken, the longest key, and the most bytes lent here. */
+/* The answer to a short buffer, the least buffer that is taken, the longest key, and the most bytes lent here. */
 enum { SHORT_BUFFER = 15, LEAST = 53, LONGEST_KEY = 48, MOST = 4096 };
 
 static struct block block;
@@ -26,12 +18,6 @@ static struct {
 } page;
 
 static const uint8_t *buffer(void) { return page.room + MARGIN; }
-
-/* Whether so many bytes from a place on are filler. */
-static bool untouched(const uint8_t *from, size_t count) {
-    while (count > 0 && from[count - 1] == FILLER) count--;
-    return count == 0;
-}
 
 /* Makes a page of the block after a key: the block stays, and of the buffer all but the bytes used; beside a no stand zeros. */
 static uint8_t print_page(const void *key, size_t key_size, size_t size) {
@@ -53,19 +39,13 @@ static bool printed(const void *key, size_t key_size, size_t size, uint32_t reco
            memcmp(buffer(), expected, used) == 0;
 }
 
-/* Enters a key with its value. */
-static void enter(const void *key, size_t key_size, uint32_t value) {
-    uint32_t count;
-    CHECK(exports_insert(bytes(&block), block.size, key, key_size, value, &count) == REGISTER_DONE);
-}
-
 /* Sample G: three records in 20 bytes; after its keys two, one and none; 52 bytes are too few. */
 static void sample_g(void) {
     static const uint8_t records[] = {1, 0x35, 0, 0, 0, 2, 1, 0x41, 0, 0, 0, 1, 3, 0x43, 0x48, 0x41, 0, 0, 0, 0};
     fresh(&block, 8);
-    enter("CHA", 3, 0);
-    enter("A", 1, 1);
-    enter("5", 1, 2);
+    enter(&block, "CHA", 3, 0);
+    enter(&block, "A", 1, 1);
+    enter(&block, "5", 1, 2);
     for (size_t size = LEAST; size <= 120; size++) CHECK(printed("", 0, size, 3, records, 20, 0));
     CHECK(printed(NULL, 0, LEAST, 3, records, 20, 0));
     CHECK(printed("5", 1, LEAST, 2, records + 6, 14, 0));
@@ -89,11 +69,10 @@ static void sizes(void) {
     memcpy(records + 1, first, sizeof first);
     memcpy(records + 54, second, sizeof second);
     for (uint32_t edition = 1; edition <= 2; edition++) {
-        fresh(&block, 8);
-        put_word(&block, trailer(&block) + 0x1C, edition);
-        enter(first, 48, 7);
-        enter(second, 48, 8);
-        enter("Z", 1, 9);
+        fresh_of(&block, 8, edition);
+        enter(&block, first, 48, 7);
+        enter(&block, second, 48, 8);
+        enter(&block, "Z", 1, 9);
         CHECK(printed("", 0, 53, 1, records, 53, 1));
         CHECK(printed(first, 48, 53, 1, records + 53, 53, 1));
         CHECK(printed(second, 48, 53, 1, records + 106, 6, 0));
@@ -110,8 +89,7 @@ static void sizes(void) {
 /* A fresh register has nothing to print, which is no refusal. */
 static void empty_register(void) {
     for (uint32_t edition = 1; edition <= 2; edition++) {
-        fresh(&block, 4);
-        put_word(&block, trailer(&block) + 0x1C, edition);
+        fresh_of(&block, 4, edition);
         CHECK(printed("", 0, LEAST, 0, "", 0, 0));
         CHECK(printed("\xFF", 1, MOST, 0, "", 0, 0));
     }
@@ -161,7 +139,7 @@ static void joined_pages(void) {
     for (uint32_t i = 0; i < 60; i++) {
         uint8_t key[LONGEST_KEY];
         for (size_t at = 0; at < LONGEST_KEY; at++) key[at] = (uint8_t)(at < 2 ? i * 37 : at * (i % 3) * 85);
-        enter(key, 1 + i * 29 % LONGEST_KEY, i * 1000003);
+        enter(&block, key, 1 + i * 29 % LONGEST_KEY, i * 1000003);
     }
     size_t total = walk(walked);
     CHECK(printed("", 0, MOST, 60, walked, (uint32_t)total, 0));
@@ -209,8 +187,8 @@ static void check_judged(void) {
 /* Every byte of a small register in every other value. */
 static void every_byte(void) {
     fresh(&block, 5);
-    enter("A", 1, 1036903);
-    enter("CH", 2, 7);
+    enter(&block, "A", 1, 1036903);
+    enter(&block, "CH", 2, 7);
     struct block sample = block;
     for (size_t at = 0; at < block.size; at++) {
         for (unsigned other = 1; other < 256; other++) {

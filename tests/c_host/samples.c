@@ -1,4 +1,4 @@
-/* The bench samples, as far as they go through the three calls; a slot is set and a root put back by hand. */
+/* The bench samples, as far as they go through firmware's calls; a slot is set and a root put back by hand. */
 #include "host.h"
 #include "register.h"
 

@@ -1,4 +1,4 @@
-// Every call over numbers and bytes, for tests and tools, and a list of them; firmware has its own three.
+// Every call over numbers and bytes, for tests and tools, and a list of them; firmware has its own four.
 mod calls;
 mod lists;
 mod page;

@@ -1,10 +1,12 @@
 // The calls that firmware has too.
 ghost use mathlib.Core.Path.{_≡_};
+ghost use Rattle.write_lists.specs.WriteList.{writeList};
 ghost use Rattle.firmware.specs.Choices.{ours};
 ghost use Rattle.firmware.specs.NumberCalls.{getNumbers, insertNumbers, verdictNumbers};
 use firmware::register_get;
 use firmware::register_insert;
 use firmware::register_verdict;
+use firmware::register_write_list;
 
 // Inserts a key with its value into a block, and counts the cells allocated.
 #[no_mangle]
@@ -12,6 +14,20 @@ pub extern "C" fn exports_insert(block: &mut [u8], key: &[u8], value: u32, count
     ensures { λ r. ⌜ insertNumbers (now (block .entry)) (now (key .entry)) value ≡ record { answer = r; count = now (count .exit); block = now (block .exit) } ⌝ }
 {
     register_insert(block, key, value, count)
+}
+
+// Writes an insertion as records of stores into a list buffer, and counts them.
+#[no_mangle]
+pub extern "C" fn exports_write_list(
+    block: &[u8],
+    key: &[u8],
+    value: u32,
+    list: &mut [u8],
+    records: &mut u32,
+) -> u8
+    ensures { λ r. ⌜ writeList (now (block .entry)) (now (key .entry)) value (now (list .entry)) ≡ record { answer = r; records = now (records .exit); list = now (list .exit) } ⌝ }
+{
+    register_write_list(block, key, value, list, records)
 }
 
 // The value that a block holds for a key.

@@ -1,6 +1,7 @@
 pub mod Beside
 pub mod OneCall
 pub mod Lists
+pub mod PowerCuts
 pub mod Proved
 pub mod Determined
 pub mod Dummies

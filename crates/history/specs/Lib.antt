@@ -1,6 +1,8 @@
 pub mod Calls
 pub mod Ledger
 pub mod Demand3
+pub mod PowerCuts
+pub mod PowerCutsWorked
 pub mod Dummies
 pub mod Worked
 pub mod LedgerWorked

@@ -9,6 +9,8 @@ use Rattle.blocks.specs.Read.{Next, get, nextKey}
 use Rattle.store.specs.Insert.{insert}
 use Rattle.store.specs.Remove.{remove}
 use Rattle.store.specs.Computing.{callsOpen}
+use Rattle.write_lists.specs.WriteList.{listRoom, writeList}
+use Rattle.write_lists.specs.Computing.{listsOpen}
 use Rattle.dosing.specs.Verdict.{verdict}
 use Rattle.dosing.specs.Verdicts.{verdictOpen, warm, five, on}
 use Rattle.dosing.specs.declared.temperature.Reading.the-variants.{Celsius}
@@ -27,6 +29,14 @@ pub asked-labels :
     (0 ∷ 3 ∷ 3 ∷ 11 ∷ 0 ∷ 3 ∷ 3 ∷ 11 ∷ [])
 unfolding callsOpen verdictOpen freshIn fresh longest
 asked-labels = refl
+
+-- the same of a write list into a fresh block, in a buffer for the two cells of 48 bytes; then the bytes with which none is short
+pub listed-labels :
+    _≡_ {A = List ℕ}
+    (map (λ size. writeList (fresh 4) (label size) 1036903 (zeros 136) .answer) (48 ∷ 49 ∷ 0 ∷ []) ++ (listRoom ∷ []))
+    (0 ∷ 3 ∷ 3 ∷ 12936 ∷ [])
+unfolding listsOpen listRoom freshIn fresh
+listed-labels = refl
 
 -- the answer of a removal and the root that it leaves
 unfoldable pub answerAndRoot : Counted → List ℕ

@@ -84,9 +84,13 @@ module _ (b key : List ℕ) (x : Built) (given : Option ℕ) (bytes : IsBytes b)
         count = n .count;
       }
 
+  -- the new root word is one of four bytes
+  pub change-word : x .word < 4294967296
+  change-word = new-root .small
+
   trailer-says : TrailerSays b (committed b x) (x .word) (slotWord (layoutOf b) b) (inUse (layoutOf b) b)
   trailer-says =
-      committed-says b (sized b (change .size)) x (change .whole) (change .enough) (sound-parts (layoutOf b) b (change .valid) .trailer) (new-root .small)
+      committed-says b (sized b (change .size)) x (change .whole) (change .enough) (sound-parts (layoutOf b) b (change .valid) .trailer) change-word
 
   -- the block left is sound again, and shows what it did with the key's new assignment; every slot shows what it did
   pub change-after : After b (committed b x) (assign (shown b) key given) (inUse (layoutOf b) b) (slotShown b)

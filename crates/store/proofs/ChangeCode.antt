@@ -91,16 +91,18 @@ module _ (layout : Layout) (b numbers : List ℕ) (count : ℕ) (key : List ℕ)
       record { built = is; fitting = fits-same (made .count) (omega (arith, many, most)) }
 
   module _ (x : Built) (made : BuildState) (stage : List ℕ) (fits : Bool) (s : InStage layout b x made stage fits) where
-    made-count : made .count ≡ length (x .cells)
+    -- as many cells are counted as the build has
+    pub made-count : made .count ≡ length (x .cells)
     made-count = sym (staged-length stage (made .count)) ∙ ap (λ (y : Built). length (y .cells)) (s .built)
 
     -- whether as many cells are free as it has
-    fitting-is : leb (length (x .cells)) (cellsFree b) ≡ fits
+    pub fitting-is : leb (length (x .cells)) (cellsFree b) ≡ fits
     fitting-is =
         ap (λ (n : ℕ). leb n (cellsFree b)) (sym made-count) ∙ ap (λ (l : Layout). leb (made .count) (length (free l b))) (sym (p .stated)) ∙ sym (s .fitting)
 
     module _ (most : length (x .cells) ≤ stageCells) where
-      made-most : made .count ≤ stageCells
+      -- and no more than the stage has room for
+      pub made-most : made .count ≤ stageCells
       made-most = omega (arith, made-count, most)
 
       module _ (enough : fits ≡ true) where
@@ -117,7 +119,7 @@ module _ (layout : Layout) (b numbers : List ℕ) (count : ℕ) (key : List ℕ)
             omega (arith, here, u, f .whole)
 
         -- and what is committed is the build, at the numbering of the block
-        committed-as : commitWrites layout (λ i. getD numbers i 0) (builtOf made stage) ≡ commitWrites (layoutOf b) (numbering b) x
+        pub committed-as : commitWrites layout (λ i. getD numbers i 0) (builtOf made stage) ≡ commitWrites (layoutOf b) (numbering b) x
         unfolding commitWrites
         committed-as =
             ap (λ (l : Layout). buildWrites (λ i. getD numbers i 0) (staged stage (made .count)) ++ (record { at = trailerAt l; word = made .word } ∷ [])) (p .stated)

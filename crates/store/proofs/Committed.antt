@@ -5,7 +5,6 @@ use mathlib.Core.Logic.{_≢_}
 use mathlib.Core.Bool.{true}
 use mathlib.Core.List.{List, [], _∷_}
 use Prim.Native.Nat.{ℕ, _+_, _-_, _*_, _/_, _%_, _≤_, _<_}
-use native.Mathlib.Decide.{decLe}
 use native.Mathlib.Omega.{arith}
 use lib.ListN.{length, getD}
 use Rattle.cells.specs.Bytes.{IsBytes}
@@ -14,11 +13,10 @@ use Rattle.cells.specs.Memory.{memoryOf}
 use Rattle.cells.specs.Writes.{written}
 use Rattle.cells.specs.Occurrences.{occurrences}
 use Rattle.cells.proofs.Words.{word-same, byte-other}
-use Rattle.cells.proofs.Choice.{absurd-bool}
 use Rattle.cells.proofs.Memory.{memory-written-same, memory-written-other}
 use Rattle.cells.proofs.CellWrites.{written-length, written-bytes, written-append}
 use Rattle.nodes.specs.Layout.{isTrailer}
-use Rattle.nodes.proofs.Usable.{trailer-some, trailer-is, not-trailer, not-last}
+use Rattle.nodes.proofs.Usable.{trailer-some, trailer-is, not-last}
 use Rattle.updates.specs.Built.{Built}
 use Rattle.updates.specs.Commit.{buildWrites, memoryWith}
 use Rattle.updates.proofs.BuildBytes.{Whole}
@@ -29,7 +27,7 @@ use Rattle.blocks.proofs.Trailer.{Sized, trailer-fits, byte-in-cell, trailer-ce
 use Rattle.blocks.proofs.Roots.{SoundParts, reachable-usable}
 use Rattle.store.specs.Free.{free}
 use Rattle.store.specs.Committed.{numbering, commitWrites, committed}
-use Rattle.store.proofs.Free.{free-usable, free-reached}
+use Rattle.store.proofs.Free.{free-usable, free-reached, trailer-not-free}
 
 module _ (b : List ℕ) (s : Sized b) (x : Built) (whole : Whole (x .cells)) (enough : length (x .cells) ≤ length (free (layoutOf b) b)) where
   -- the block with the allocated cells, and then the root
@@ -53,13 +51,6 @@ module _ (b : List ℕ) (s : Sized b) (x : Built) (whole : Whole (x .cells)) (en
       memoryWith-other (numbering b) (memoryOf b) (x .cells) c
       (omega (arith, e, numbers-free (layoutOf b) (free (layoutOf b) b) (x .cells) enough c))
 
-  -- a trailer cell is not free
-  trailer-not-free : (c : ℕ) → isTrailer (layoutOf b) c ≡ true → occurrences c (free (layoutOf b) b) ≡ 0
-  trailer-not-free c is = elim (decLe 1 (occurrences c (free (layoutOf b) b))) [
-    | yes h ↦ absurd-bool (sym is ∙ not-trailer (layoutOf b) c (free-usable (layoutOf b) b c h))
-    | no h ↦ omega arith
-  ]
-
   last-trailer : isTrailer (layoutOf b) (layoutOf b .cells - 1) ≡ true
   last-trailer = trailer-is (layoutOf b) (layoutOf b .cells - 1) (omega (arith, trailer-some (layoutOf b))) (omega arith)
 
@@ -80,7 +71,7 @@ module _ (b : List ℕ) (s : Sized b) (x : Built) (whole : Whole (x .cells)) (en
       ∙ ap (λ (at : ℕ). memoryOf (withWord (written b (buildWrites (numbering b) (x .cells))) at (x .word)) (layoutOf b .cells - 1)) root-at
       ∙ memory-written-same (written b (buildWrites (numbering b) (x .cells))) (layoutOf b .cells - 1) 0 (x .word)
       (omega (arith, trailer-fits b s, written-length b (buildWrites (numbering b) (x .cells)))) (omega arith)
-      ∙ ap (λ (l : List ℕ). withWord l 0 (x .word)) (celled-cell (layoutOf b .cells - 1) ∙ not-taken (layoutOf b .cells - 1) (trailer-not-free (layoutOf b .cells - 1) last-trailer))
+      ∙ ap (λ (l : List ℕ). withWord l 0 (x .word)) (celled-cell (layoutOf b .cells - 1) ∙ not-taken (layoutOf b .cells - 1) (trailer-not-free (layoutOf b) b (layoutOf b .cells - 1) last-trailer))
 
   pub committed-kept : SoundParts (layoutOf b) b → (c : ℕ) → 1 ≤ occurrences c (reachable (layoutOf b) b) → memoryOf (committed b x) c ≡ memoryOf b c
   committed-kept p c h =
@@ -92,7 +83,7 @@ module _ (b : List ℕ) (s : Sized b) (x : Built) (whole : Whole (x .cells)) (en
       ∙ byte-other (written b (buildWrites (numbering b) (x .cells))) (rootAt (layoutOf b)) (x .word) i far
       ∙ byte-in-cell (written b (buildWrites (numbering b) (x .cells))) i
       ∙ ap (λ (l : List ℕ). getD l (i % 32) 0)
-      (celled-cell (i / 32) ∙ not-taken (i / 32) (trailer-not-free (i / 32) (trailer-cell (layoutOf b) i low high)))
+      (celled-cell (i / 32) ∙ not-taken (i / 32) (trailer-not-free (layoutOf b) b (i / 32) (trailer-cell (layoutOf b) i low high)))
       ∙ sym (byte-in-cell b i)
 
   committed-root : x .word < 4294967296 → rootWord (layoutOf b) (committed b x) ≡ x .word

@@ -1,5 +1,5 @@
 -- Laws of the free cells: the usable cells that neither the root nor a slot in use reaches, each once.
-use mathlib.Core.Path.{_≡_, _∙_}
+use mathlib.Core.Path.{_≡_, sym, _∙_}
 use mathlib.Core.Bool.{true}
 use mathlib.Core.List.{List}
 use Prim.Native.Nat.{ℕ, _+_, _-_, _≤_}
@@ -9,9 +9,11 @@ use lib.Dec.{eqb}
 use borrow.Author.Tests.{eq-eqb, ne-eqb}
 use Rattle.cells.specs.Memory.{memoryOf}
 use Rattle.cells.specs.Occurrences.{occurrences}
+use Rattle.cells.proofs.Choice.{absurd-bool}
 use Rattle.cells.proofs.Selected.{select-passed, select-failed, select-all, count-up-before, count-up-within, count-up-outside}
-use Rattle.nodes.specs.Layout.{Layout, trailerCells, usable}
+use Rattle.nodes.specs.Layout.{Layout, trailerCells, usable, isTrailer}
 use Rattle.nodes.proofs.Pointers.{usable-low, usable-high, usable-is}
+use Rattle.nodes.proofs.Usable.{not-trailer}
 use Rattle.trees.specs.Root.{rootCells}
 use Rattle.blocks.specs.Trailer.{rootWord, validSlot, slotWord, inUse}
 use Rattle.blocks.specs.Sound.{reachable}
@@ -78,6 +80,13 @@ module _ (layout : Layout) (b : List ℕ) (c : ℕ) where
   pub free-once : occurrences c (free layout b) ≤ 1
   free-once = elim (decLe 1 (occurrences c (free layout b))) [
     | yes h ↦ omega (arith, free-unreached (free-apart h), order-most layout (rootWord layout b) c)
+    | no h ↦ omega arith
+  ]
+
+  -- so a trailer cell is not
+  pub trailer-not-free : isTrailer layout c ≡ true → occurrences c (free layout b) ≡ 0
+  trailer-not-free is = elim (decLe 1 (occurrences c (free layout b))) [
+    | yes h ↦ absurd-bool (sym is ∙ not-trailer layout c (free-usable h))
     | no h ↦ omega arith
   ]
 

@@ -1,12 +1,12 @@
 -- The writes of a commit before its last, the root word, touch only cells that were free.
 use mathlib.Core.List.{List, [], _∷_, _++_}
-use Prim.Native.Nat.{ℕ, zero, suc, _+_, _*_, _/_, _≤_}
+use Prim.Native.Nat.{ℕ, zero, suc, _+_, _*_, _/_, _%_, _≤_}
 use native.Mathlib.Omega.{arith}
 use lib.ListN.{length}
 use Rattle.cells.specs.Occurrences.{occurrences}
 use Rattle.cells.specs.Writes.{Write, wordWrites}
 use Rattle.cells.proofs.Occurrences.{occurrences-here, occurrences-later}
-use Rattle.cells.proofs.Pointers.{cell-of-made}
+use Rattle.cells.proofs.Pointers.{kind-of-made, cell-of-made}
 use Rattle.updates.specs.Commit.{buildWrites}
 use Rattle.updates.proofs.Claims.{numbers}
 use Rattle.updates.proofs.Commit.{numbers-free}
@@ -14,20 +14,20 @@ use Rattle.blocks.specs.Trailer.{layoutOf}
 use Rattle.store.specs.Free.{free}
 use Rattle.store.specs.Committed.{numbering}
 
--- every write is into a cell of a list
+-- every write lies within a cell of a list
 abbrev pub WritesInto : List ℕ → List Write → Type 0
 WritesInto cells [] = Unit {0}
-WritesInto cells (w ∷ ws) = (1 ≤ occurrences (w .at / 32) cells) × WritesInto cells ws
+WritesInto cells (w ∷ ws) = (1 ≤ occurrences (w .at / 32) cells) × (w .at % 32 + 4 ≤ 32) × WritesInto cells ws
 
 into-append : (cells : List ℕ) (xs ys : List Write) → WritesInto cells xs → WritesInto cells ys → WritesInto cells (xs ++ ys)
 into-append cells [] ys x y = y
-into-append cells (w ∷ ws) ys x y = (x .0, into-append cells ws ys (x .1) y)
+into-append cells (w ∷ ws) ys x y = (x .0, x .1, into-append cells ws ys (x .2) y)
 
 into-words : (cells : List ℕ) (c : ℕ) (bytes : List ℕ) (left i : ℕ) → i + left ≤ 8 → 1 ≤ occurrences c cells → WritesInto cells (wordWrites c bytes left i)
 unfolding wordWrites
 into-words cells c bytes zero i fits here = tt
 into-words cells c bytes (suc left) i fits here =
-    (rw (cell-of-made c (4 * i) (omega arith)) here, into-words cells c bytes left (i + 1) (omega arith) here)
+    (rw (cell-of-made c (4 * i) (omega arith)) here, omega (arith, kind-of-made c (4 * i) (omega arith)), into-words cells c bytes left (i + 1) (omega arith) here)
 
 -- the cells of a build, where each of its numbers is in the list
 pub into-build : (cells : List ℕ) (number : ℕ → ℕ) (built : List (List ℕ))

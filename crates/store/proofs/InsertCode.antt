@@ -17,7 +17,7 @@ use Rattle.updates.proofs.Bound.{build-bound}
 use Rattle.updates.proofs.Count.{count-needed}
 use Rattle.updates.proofs.Taken.{build-first}
 use Rattle.blocks.specs.Code.Fits.{Fits}
-use Rattle.blocks.specs.Trailer.{layoutOf, rootWord}
+use Rattle.blocks.specs.Trailer.{badSize, layoutOf, rootWord}
 use Rattle.blocks.specs.Refusal.{badNewKey, badValue}
 use Rattle.store.specs.Free.{free}
 use Rattle.store.specs.Insert.{cellsToInsert, blockBuild, insert}
@@ -28,9 +28,15 @@ use Rattle.store.proofs.ChangeCode.{changeable-fits, build-staged, comm
 use Rattle.store.proofs.InsertCall.{value-fits, insert-number, insert-done, insert-refused-as, insert-zero, insert-seven}
 use Rattle.store.proofs.TakenZeros.{block-numbering}
 
+-- the build has as many cells as are needed
+pub insert-needed : (b key : List ℕ) (value : ℕ) → badSize b ≡ false → badValue value ≡ false → length (blockBuild b key value .cells) ≡ cellsToInsert b key
+unfolding blockBuild
+insert-needed b key value size good-value =
+    count-needed (layoutOf b) (numbering b) (block-numbering b size) (memoryOf b) (rootWord (layoutOf b) b) key value (value-fits value good-value)
+
 module _ (layout : Layout) (b numbers : List ℕ) (count : ℕ) (key : List ℕ) (p : Changeable layout b numbers count key) (value : ℕ) where
   -- the stage has room for the build
-  build-most : length (blockBuild b key value .cells) ≤ stageCells
+  pub build-most : length (blockBuild b key value .cells) ≤ stageCells
   unfolding blockBuild
   build-most = omega (arith, build-bound (numbering b) (layoutOf b) (memoryOf b) (rootWord (layoutOf b) b) key value, p .short)
 
@@ -57,21 +63,15 @@ module _ (layout : Layout) (b numbers : List ℕ) (count : ℕ) (key : List ℕ)
     pub insertion-ready : Fits layout (length b) × (made .count ≤ stageCells) × (fits ≡ true → Inside numbers (made .count) (length b))
     insertion-ready = commit-ready layout b numbers count key p (blockBuild b key value) made stage fits s build-most
 
-    module _ (good-key : badNewKey key ≡ false) (good-value : badValue value ≡ false) where
-      -- the build has as many cells as are needed
-      needed : length (blockBuild b key value .cells) ≡ cellsToInsert b key
-      unfolding blockBuild
-      needed =
-          count-needed (layoutOf b) (numbering b) (block-numbering b (p .size)) (memoryOf b) (rootWord (layoutOf b) b) key value (value-fits value good-value)
-
-      pub insert-outcome : insert b key value ≡ stagedOutcome layout b numbers made stage fits
-      insert-outcome =
-          staged-outcome layout b numbers count key p (blockBuild b key value) made stage fits s build-most (insert b key value)
-          (λ more.
-          insert-refused-as b key value 7
-          (insert-seven b key value .given
-          (record { size = p .size; valid = p .valid; may = record { good-key = good-key; good-value = good-value }; more = omega (arith, more, needed) }))
-          (λ e. omega arith))
-          (λ enough.
-          insert-done b key value (sym (insert-number b key value) ∙ insert-zero b key value .given
-          (record { size = p .size; valid = p .valid; may = record { good-key = good-key; good-value = good-value }; enough = omega (arith, enough, needed) })))
+    pub insert-outcome : badNewKey key ≡ false → badValue value ≡ false → insert b key value ≡ stagedOutcome layout b numbers made stage fits
+    insert-outcome good-key good-value =
+        let needed = insert-needed b key value (p .size) good-value in
+        staged-outcome layout b numbers count key p (blockBuild b key value) made stage fits s build-most (insert b key value)
+        (λ more.
+        insert-refused-as b key value 7
+        (insert-seven b key value .given
+        (record { size = p .size; valid = p .valid; may = record { good-key = good-key; good-value = good-value }; more = omega (arith, more, needed) }))
+        (λ e. omega arith))
+        (λ enough.
+        insert-done b key value (sym (insert-number b key value) ∙ insert-zero b key value .given
+        (record { size = p .size; valid = p .valid; may = record { good-key = good-key; good-value = good-value }; enough = omega (arith, enough, needed) })))

@@ -44,21 +44,24 @@ taken-are layout number after (newest ∷ older) standing =
 
 -- a build laid down in the block that is left
 module _ (b key : List ℕ) (x : Built) (count : ℕ) (after : List ℕ) (laid : Laid b key x count after) where
-  -- the cells taken are the build's
-  taken-made : length (x .cells) ≤ cellsFree b → takenBytes (numbering b) after count ≡ x .cells
-  taken-made enough =
+  -- the build's cells stand at the numbers taken
+  pub taken-stand : length (x .cells) ≤ cellsFree b → CellsStand (layoutOf b) (numbering b) (memoryOf after) (x .cells)
+  taken-stand enough =
       let most : (c : ℕ) → occurrences c (numbers (numbering b) (x .cells)) ≤ occurrences c (free (layoutOf b) b) =
       numbers-free (layoutOf b) (free (layoutOf b) b) (x .cells) enough in
       let usable-each : (c : ℕ) → 1 ≤ occurrences c (numbers (numbering b) (x .cells)) → usable (layoutOf b) c ≡ true =
       λ c h. free-usable (layoutOf b) b c (omega (arith, most c)) in
-      ap (takenBytes (numbering b) after) (laid .counted)
-      ∙ taken-are (layoutOf b) (numbering b) after (x .cells)
-      (cells-stand (numbering b) (memoryOf b) (layoutOf b) (memoryOf after) (x .cells) usable-each
+      cells-stand (numbering b) (memoryOf b) (layoutOf b) (memoryOf after) (x .cells) usable-each
       (λ c. omega (arith, most c, free-once (layoutOf b) b c))
-      (λ c h. laid .cells c (λ e. not-last (layoutOf b) c (usable-each c h) (omega (arith, e, layout-cells b)))))
+      (λ c h. laid .cells c (λ e. not-last (layoutOf b) c (usable-each c h) (omega (arith, e, layout-cells b))))
+
+  -- so the cells taken are the build's
+  taken-made : length (x .cells) ≤ cellsFree b → takenBytes (numbering b) after count ≡ x .cells
+  taken-made enough =
+      ap (takenBytes (numbering b) after) (laid .counted) ∙ taken-are (layoutOf b) (numbering b) after (x .cells) (taken-stand enough)
 
   -- and the root word is the build's
-  root-made : layoutOf after ≡ layoutOf b → x .word < 4294967296 → rootWord (layoutOf after) after ≡ x .word
+  pub root-made : layoutOf after ≡ layoutOf b → x .word < 4294967296 → rootWord (layoutOf after) after ≡ x .word
   unfolding rootWord
   root-made same small =
       let last : ℕ = length b / 32 - 1 in

@@ -1,3 +1,4 @@
 -- Definitions that only the code's contracts and proofs use; no call's meaning rests on them.
 pub mod Changeable
+pub mod Judged
 pub mod Unstamped

@@ -1,11 +1,10 @@
 // Insertion of a pair into a block.
 ghost use mathlib.Core.Path.{_≡_};
-ghost use mathlib.Core.Bool.{false};
 ghost use Rattle.blocks.specs.Answers.{countedOutcome};
-ghost use Rattle.blocks.specs.Refusal.{badNewKey, badValue};
 ghost use Rattle.blocks.specs.Trailer.{rootWord};
 ghost use Rattle.store.specs.Insert.{blockBuild, insert};
 ghost use Rattle.store.specs.Code.Changeable.{Changeable, InStage};
+ghost use Rattle.store.specs.Code.Judged.{Insertable, JudgedAs};
 use crate::committing::Staged;
 use crate::committing::commit_staged;
 use crate::free_cells::free_list;
@@ -20,8 +19,50 @@ use staging::stage::STAGE_CELLS;
 use staging::stage::STAGE_SIZE;
 use updates::build::build;
 
+// What an insertion that is not refused so far goes on with; the free cells are listed beside it.
+pub struct Ready {
+    pub layout: Layout,
+    pub free: usize,
+    pub root: u32,
+}
+
+// What judging an insertion tells.
+pub enum Judged {
+    Refused(Refusal),
+    Passed(Ready),
+}
+
+// Judges a block, a key and a value for an insertion and lists the free cells: the first of the answers 1 to 4, or what the
+// insertion goes on with.
+pub fn judge_insertion(
+    block: &[u8],
+    key: &[u8],
+    value: u32,
+    numbers: &mut [u16; STAGE_CELLS],
+) -> Judged
+    ensures { λ r. ⌜ JudgedAs (now (block .entry)) (now (numbers .exit)) (now (key .entry)) value r ⌝ }
+{
+    if is_bad_size(block) {
+        return Judged::Refused(Refusal::BadSize);
+    }
+    let layout = layout_of(block);
+    let list = free_list(layout, block, numbers);
+    if !list.sound {
+        return Judged::Refused(Refusal::Unsound);
+    }
+    if is_bad_key(key) {
+        return Judged::Refused(Refusal::BadKey);
+    }
+    if 2147483647 < value {
+        return Judged::Refused(Refusal::BadValue);
+    }
+    let free = list.count;
+    let root = root_word(layout, block);
+    Judged::Passed(Ready { layout, free, root })
+}
+
 // Builds an insertion in the stage; the block is only read.
-fn stage_insertion(
+pub fn stage_insertion(
     layout: Layout,
     block: &[u8],
     numbers: &[u16; STAGE_CELLS],
@@ -49,7 +90,7 @@ fn insert_valid(
     root: u32,
     value: u32,
 ) -> CountAnswer
-    requires { ⌜ Changeable layout (now block) (now numbers) free (now key) × (root ≡ rootWord layout (now block)) × (badNewKey (now key) ≡ false) × (badValue value ≡ false) ⌝ }
+    requires { ⌜ Insertable layout (now block) (now numbers) free (now key) value root ⌝ }
     ensures { λ r. ⌜ insert (now (block .entry)) (now (key .entry)) value ≡ countedOutcome r (now (block .exit)) ⌝ }
 {
     let mut stage = [0u8; STAGE_SIZE];
@@ -61,26 +102,18 @@ fn insert_valid(
 pub fn insert(block: &mut [u8], key: &[u8], value: u32) -> CountAnswer
     ensures { λ r. ⌜ insert (now (block .entry)) (now (key .entry)) value ≡ countedOutcome r (now (block .exit)) ⌝ }
 {
-    if is_bad_size(block) {
-        return CountAnswer::Refused(Refusal::BadSize);
-    }
-    let layout = layout_of(block);
     let mut numbers = [0u16; STAGE_CELLS];
-    let free = free_list(layout, block, &mut numbers);
-    if !free.sound {
-        return CountAnswer::Refused(Refusal::Unsound);
+    match judge_insertion(block, key, value, &mut numbers) {
+        Judged::Refused(refusal) => CountAnswer::Refused(refusal),
+        Judged::Passed(ready) => {
+            let layout = ready.layout;
+            let free = ready.free;
+            let root = ready.root;
+            // Called at two places, so that the compiler keeps the stage out of this frame, which lies below the validation.
+            if root == 0 {
+                return insert_valid(layout, block, &numbers, free, key, 0, value);
+            }
+            insert_valid(layout, block, &numbers, free, key, root, value)
+        }
     }
-    if is_bad_key(key) {
-        return CountAnswer::Refused(Refusal::BadKey);
-    }
-    if 2147483647 < value {
-        return CountAnswer::Refused(Refusal::BadValue);
-    }
-    let count = free.count;
-    let root = root_word(layout, block);
-    // Called at two places, so that the compiler keeps the stage out of this frame, which lies below the validation.
-    if root == 0 {
-        return insert_valid(layout, block, &numbers, count, key, 0, value);
-    }
-    insert_valid(layout, block, &numbers, count, key, root, value)
 }

@@ -12,7 +12,7 @@ use borrow.Author.Tests.{eq-eqb, ne-eqb}
 use Rattle.cells.specs.Memory.{Memory, memoryOf}
 use Rattle.cells.specs.Writes.{written, cellWrites}
 use Rattle.cells.specs.Occurrences.{occurrences}
-use Rattle.cells.proofs.Occurrences.{occurrences-append, occurrences-same, occurrences-here, occurrences-later}
+use Rattle.cells.proofs.Occurrences.{occurrences-none, occurrences-append, occurrences-same, occurrences-cons-other, occurrences-here, occurrences-later}
 use Rattle.cells.proofs.CellWrites.{written-length, written-append, cell-written-same, cell-written-other}
 use Rattle.nodes.specs.Layout.{Layout, usable, cellLimit}
 use Rattle.nodes.proofs.Pointers.{usable-low, usable-inside}
@@ -70,6 +70,19 @@ module _ (number : ℕ → ℕ) (m : Memory) where
               (λ d h. same d (omega (arith, numbers-later number newest rest d))
               ∙ memoryWith-next number m newest rest d (λ e. omega (arith, once d, numbers-same number newest rest d e))),
         )
+
+-- allocated cells put into memories that are alike at all other cells
+pub memoryWith-alike : (number : ℕ → ℕ) (m m′ : Memory) (cells : List (List ℕ)) (c : ℕ) → (occurrences c (numbers number cells) ≡ 0 → m′ c ≡ m c)
+    → memoryWith number m′ cells c ≡ memoryWith number m cells c
+unfolding numbers
+memoryWith-alike number m m′ [] c alike = unfold memoryWith in alike (occurrences-none c)
+memoryWith-alike number m m′ (newest ∷ rest) c alike = elim (ℕ-discrete c (number (length rest))) [
+  | yes here ↦ memoryWith-here number m′ newest rest c here ∙ sym (memoryWith-here number m newest rest c here)
+  | no other ↦
+      memoryWith-next number m′ newest rest c other
+      ∙ memoryWith-alike number m m′ rest c (λ none. alike (occurrences-cons-other c (number (length rest)) (numbers number rest) other ∙ none))
+      ∙ sym (memoryWith-next number m newest rest c other)
+]
 
 -- the writes of a build put its cells into the memory of the block
 pub written-memory : (number : ℕ → ℕ) (b : List ℕ) (cells : List (List ℕ)) → Whole cells

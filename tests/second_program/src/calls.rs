@@ -5,9 +5,10 @@ use crate::coverage::Coverage;
 use crate::encode::{entered, fresh_cells, Build, Layer};
 use crate::limits::{held_limits, limits_met};
 use crate::model::{put_word, word_at, Node, Store, CELL, EDITIONS, LONGEST_KEY};
-use crate::pages::{meet_refused, page, Page, Printed};
+use crate::pages::{self, page, Page, Printed};
 use crate::removal::without;
 use crate::verdict::{verdict, Question};
+use crate::write_list::{self, write_list, Asked};
 use std::ops::Bound;
 
 /// A call with its arguments.
@@ -24,9 +25,11 @@ pub enum Call {
     Verdict(Question),
     Remove { key: Vec<u8> },
     Page(Page),
+    WriteList(Asked),
 }
 
-/// An answer number with every value that goes beside it; the dose by its bits, the number of a page that of its records.
+/// An answer number with every value that goes beside it; the dose by its bits, the number of a page or of a write list that of its
+/// records; the buffer that was lent to either as the call left it, empty where none was lent.
 #[derive(Clone, Debug, PartialEq, Eq)]
 pub struct Outcome {
     pub answer: u8,
@@ -34,12 +37,14 @@ pub struct Outcome {
     pub key: [u8; LONGEST_KEY],
     pub dose: u32,
     pub page: Printed,
+    pub buffer: Vec<u8>,
 }
 
 impl Outcome {
     /// An answer with zeros beside it, which is how every refusal comes.
     pub fn bare(answer: u8) -> Outcome {
-        Outcome { answer, number: 0, key: [0; LONGEST_KEY], dose: 0, page: Printed::default() }
+        let (key, page) = ([0; LONGEST_KEY], Printed::default());
+        Outcome { answer, number: 0, key, dose: 0, page, buffer: Vec::new() }
     }
 
     /// Done, with a count, value or size.
@@ -63,16 +68,24 @@ impl Call {
             Call::Verdict(_) => 8,
             Call::Remove { .. } => 9,
             Call::Page(_) => 10,
+            Call::WriteList(_) => 11,
         }
     }
 }
 
-/// Makes a call on a block and counts what it met; a page that is refused leaves its buffer.
+/// Makes a call on a block and counts what it met; a page or write list that is refused leaves its buffer.
 pub fn perform(block: &mut [u8], call: &Call, coverage: &mut Coverage) -> Outcome {
     let mut outcome = answer(block, call, coverage);
-    if let (Call::Page(page), 1..) = (call, outcome.answer) {
-        outcome.page.buffer.clone_from(&page.buffer);
-        meet_refused(page, outcome.answer, coverage);
+    match (call, outcome.answer) {
+        (Call::Page(page), 1..) => {
+            outcome.buffer.clone_from(&page.buffer);
+            pages::meet_refused(page, outcome.answer, coverage);
+        }
+        (Call::WriteList(asked), 1..) => {
+            outcome.buffer.clone_from(&asked.buffer);
+            write_list::meet_refused(asked, outcome.answer, coverage);
+        }
+        _ => {}
     }
     coverage.call(call.number(), outcome.answer, block.len());
     limits_met(block.len(), call, outcome.answer).into_iter().for_each(|limit| coverage.limit(limit));
@@ -102,6 +115,7 @@ fn answer(block: &mut [u8], call: &Call, coverage: &mut Coverage) -> Outcome {
         Call::Get { key } => get(&store, key),
         Call::NextKey { key } => next_key(&store, key),
         Call::Page(asked) => page(&store.root.table(), asked, coverage),
+        Call::WriteList(asked) => write_list(block, store, asked, coverage),
         Call::Snapshot { slot } => snapshot(block, *slot),
         Call::Restore { slot } => restore(block, *slot),
         Call::Release { slot } => release(block, *slot),
@@ -139,16 +153,29 @@ fn format(block: &mut [u8], edition: u32) -> Outcome {
 
 /// Puts one pair into the root's table; the number is the count of cells taken.
 fn insert(block: &mut [u8], store: Store, key: &[u8], value: u32, coverage: &mut Coverage) -> Outcome {
+    let entered = enter(block, store, key, value, Change::Insertion, coverage);
+    counted(entered, Change::Insertion, coverage)
+}
+
+/// Puts one pair into the root's table, for an insertion or for its write list; gives what was laid down, or the refusal.
+pub fn enter(
+    block: &mut [u8],
+    store: Store,
+    key: &[u8],
+    value: u32,
+    change: Change,
+    coverage: &mut Coverage,
+) -> Result<Laid, u8> {
     if !valid_key(key) {
-        return Outcome::bare(3);
+        return Err(3);
     }
     if value > 0x7FFF_FFFF {
-        return Outcome::bare(4);
+        return Err(4);
     }
     let free = store.free_cells();
     let mut build = Build { edition: store.edition, cases: Vec::new() };
     let tree = entered(store.root.top, key, value, &mut build);
-    lay_down(block, free, Some(tree), (Change::Insertion, build), coverage)
+    lay_down(block, free, Some(tree), (change, build), coverage)
 }
 
 /// Takes one key out of the root's table; the number is the count of cells taken, which may be none.
@@ -162,31 +189,49 @@ fn remove(block: &mut [u8], store: Store, key: &[u8], coverage: &mut Coverage) -
     let free = store.free_cells();
     let mut build = Build { edition: store.edition, cases: Vec::new() };
     let tree = without(store.root.top.expect("the root shows a key"), key, &mut build);
-    lay_down(block, free, tree, (Change::Removal, build), coverage)
+    let left = lay_down(block, free, tree, (Change::Removal, build), coverage);
+    counted(left, Change::Removal, coverage)
 }
 
-/// Writes a new tree and its root word, where the free cells are enough; the number is the count of cells taken.
+/// What a change laid down: the cells that it took, in the order taken, and the cases that its build went through.
+pub struct Laid {
+    pub taken: Vec<usize>,
+    pub cases: Vec<BuildCase>,
+}
+
+/// Writes a new tree and its root word, where the free cells are enough.
 fn lay_down(
     block: &mut [u8],
     free: Vec<usize>,
     tree: Option<Node>,
     (change, mut build): (Change, Build),
     coverage: &mut Coverage,
-) -> Outcome {
+) -> Result<Laid, u8> {
     let count = tree.as_ref().map_or(0, fresh_cells);
     coverage.room(change, count, free.len());
     if count > free.len() {
-        return Outcome::bare(7);
+        return Err(7);
     }
     if count == 0 {
         build.push(BuildCase::NothingTaken);
     }
-    coverage.built(change, &build.cases);
     let trailer = block.len() - CELL;
-    let mut layer = Layer { block, free: free.into_iter() };
+    let mut layer = Layer::new(block, free);
     let root = tree.map_or(0, |tree| layer.lay(&tree));
+    let taken = layer.taken;
     put_word(block, trailer, root);
-    Outcome::done(count as u32)
+    Ok(Laid { taken, cases: build.cases })
+}
+
+/// The outcome of a change: the number is the count of cells taken.
+fn counted(laid: Result<Laid, u8>, change: Change, coverage: &mut Coverage) -> Outcome {
+    match laid {
+        Ok(laid) => {
+            coverage.built(change, &laid.cases);
+            Outcome::done(laid.taken.len() as u32)
+        }
+        Err(answer) => Outcome::bare(answer),
+    }
 }
 
 /// The value of a key that the root shows.

@@ -2,10 +2,12 @@
 
 use crate::calls::{perform, Call, Outcome};
 use crate::coverage::Coverage;
-use crate::display::{block_in_words, differing_bytes, differing_cells, hexadecimal, page_in_words};
+use crate::cuts::{cut, Make};
+use crate::display::{block_in_words, differing_bytes, differing_cells, hexadecimal, page_in_words, stores_in_words};
 use crate::ledger::Ledger;
 use crate::lists::{run, Ended, List, NOT_FRESH};
 use crate::model::Store;
+use crate::write_list::Asked;
 use std::fmt::Debug;
 
 /// The other program's way to make a call and a list of calls, and to judge an order word.
@@ -20,12 +22,19 @@ pub struct Other {
 /// The most differences that are kept to be printed at the end.
 const KEPT: usize = 4;
 
+/// One write list in so many is cut where there is no other program: by the model's own calls it takes long.
+#[cfg(alone)]
+const ALONE_LISTS: u64 = 16;
+
 /// The counts of a run, its differences, and the other program where there is one.
 pub struct Comparison {
     pub coverage: Coverage,
     /// What the lists and the calls in them met.
     pub listed: Coverage,
     pub differences: u64,
+    /// The write lists whose stores were cut, and at how many places in all.
+    pub cut_lists: u64,
+    pub cuts: u64,
     pub seed: u64,
     other: Option<Other>,
     traced: bool,
@@ -37,7 +46,8 @@ impl Comparison {
     /// Nothing compared yet; a traced run prints each call before it is made, to find one that never comes back.
     pub fn new(other: Option<Other>, traced: bool) -> Comparison {
         let (coverage, listed) = (Coverage::new(), Coverage::new());
-        Comparison { coverage, listed, differences: 0, seed: 0, other, traced, kept: Vec::new() }
+        let (cut_lists, cuts, kept) = (0, 0, Vec::new());
+        Comparison { coverage, listed, differences: 0, cut_lists, cuts, seed: 0, other, traced, kept }
     }
 
     /// Makes a call on the block, compares, and leaves the model's bytes in the block.
@@ -52,17 +62,49 @@ impl Comparison {
             let their = (other.call)(&mut their_block, call);
             if own != their || *block != their_block {
                 let cells = differing_cells(block, &their_block);
-                let bytes = differing_bytes(&own.page.buffer, &their.page.buffer);
+                let bytes = differing_bytes(&own.buffer, &their.buffer);
                 let (own, their) = (describe(call, &own), describe(call, &their));
                 let what = format!("the model answers   {own}\nthe library answers {their}{cells}{bytes}");
                 self.note(call, &before, &what);
             }
+            if let (Call::WriteList(asked), 0) = (call, their.answer) {
+                self.cut(&before, asked, &their, &mut |block, call| (other.call)(block, call));
+            }
+        }
+        #[cfg(alone)]
+        if let (Call::WriteList(asked), 0, 0) = (call, own.answer, self.coverage.calls % ALONE_LISTS) {
+            self.cut_alone(&before, asked, &own);
         }
         #[cfg(alone)]
         if let Err(fault) = crate::invariants::check(&before, block, call, &own) {
             self.note(call, &before, &fault);
         }
         own
+    }
+
+    /// Cuts a write list at every place, by the program that made it.
+    fn cut(&mut self, block: &[u8], asked: &Asked, listed: &Outcome, make: &mut Make) {
+        match cut(block, asked, listed, make) {
+            Ok(places) => {
+                self.cut_lists += 1;
+                self.cuts += places;
+            }
+            Err(fault) => self.note(&format_args!("write list {asked:?}"), block, &fault),
+        }
+    }
+
+    /// Cuts a write list at every place, by the model.
+    #[cfg(alone)]
+    pub fn cut_alone(&mut self, block: &[u8], asked: &Asked, listed: &Outcome) {
+        let mut coverage = Coverage::new();
+        self.cut(block, asked, listed, &mut |block, call| perform(block, call, &mut coverage));
+    }
+
+    /// Prints how often write lists were cut, and gives one where that falls short; without another program it cannot.
+    pub fn report_cuts(&self) -> usize {
+        let least = if self.other.is_some() && self.coverage.calls >= 1_000_000 { 1_000_000 } else { 0 };
+        println!("write lists cut: {}, at {} places, {least} asked for", self.cut_lists, self.cuts);
+        usize::from(self.cuts < least)
     }
 
     /// Makes a call of a history and holds its answer and the block against the ledger.
@@ -144,8 +186,13 @@ impl Comparison {
 
 /// An outcome in words.
 fn describe(call: &Call, outcome: &Outcome) -> String {
-    if let Call::Page(_) = call {
-        return format!("{}, {} records, {}", outcome.answer, outcome.number, page_in_words(&outcome.page));
+    let in_words = match call {
+        Call::Page(_) => Some(page_in_words(outcome)),
+        Call::WriteList(_) => Some(stores_in_words(outcome)),
+        _ => None,
+    };
+    if let Some(records) = in_words {
+        return format!("{}, {} records, {records}", outcome.answer, outcome.number);
     }
     let key = hexadecimal(&outcome.key);
     format!("{}, number {}, key {key}, dose {:08X}", outcome.answer, outcome.number, outcome.dose)

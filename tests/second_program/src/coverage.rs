@@ -1,13 +1,25 @@
 //! What the calls have met: answers by call, shapes of nodes, build cases, broken rules.
 
-use crate::counted::{BuildCase, Change, Flaw, ListCase, PageCase, Room, SeriesCase, Shape, Spoilt, BUILT};
+use crate::counted::{BuildCase, Change, Flaw, ListCase, PageCase, Room, SeriesCase, Shape, Spoilt, WriteCase, BUILT};
 use crate::limits::{all_limits, Limit};
 use crate::model::{FIRST_EMBEDDED, SPLIT};
 use std::collections::BTreeMap;
 
 /// The calls, in the order of `Call::number`.
-pub const CALLS: [&str; 11] =
-    ["format", "validate", "insert", "get", "next_key", "snapshot", "restore", "release", "verdict", "remove", "page"];
+pub const CALLS: [&str; 12] = [
+    "format",
+    "validate",
+    "insert",
+    "get",
+    "next_key",
+    "snapshot",
+    "restore",
+    "release",
+    "verdict",
+    "remove",
+    "page",
+    "write_list",
+];
 
 /// The answers that there are, from 0 on.
 const ANSWERS: usize = 16;
@@ -25,6 +37,7 @@ const REACHABLE: [&[usize]; CALLS.len()] = [
     &[0, 1, 2, 3, 8, 9, 10, 11, 12, 13, 14],
     &[0, 1, 2, 3, 7, 11],
     &[0, 1, 2, 3, 15],
+    &[0, 1, 2, 3, 4, 7, 15],
 ];
 
 /// The answers that the calls of a list can give: its block is fresh, so none of its own calls gets 1 or 2.
@@ -73,9 +86,9 @@ pub struct Coverage {
     pub large_calls: u64,
     answers: [[u64; ANSWERS]; CALLS.len()],
     shapes: [u64; Shape::NAMES.len()],
-    cases: [[u64; BuildCase::NAMES.len()]; 2],
+    cases: [[u64; BuildCase::NAMES.len()]; BUILT.len()],
     flaws: [u64; Flaw::NAMES.len()],
-    rooms: [[u64; Room::NAMES.len()]; 2],
+    rooms: [[u64; Room::NAMES.len()]; BUILT.len()],
     orders: BTreeMap<u16, u64>,
     places: [u64; PLACES],
     spoilt: [u64; Spoilt::NAMES.len()],
@@ -83,6 +96,7 @@ pub struct Coverage {
     lists: [u64; ListCase::NAMES.len()],
     pages: [u64; PageCase::NAMES.len()],
     series: [u64; SeriesCase::NAMES.len()],
+    write_lists: [u64; WriteCase::NAMES.len()],
 }
 
 impl Coverage {
@@ -93,9 +107,9 @@ impl Coverage {
             large_calls: 0,
             answers: [[0; ANSWERS]; CALLS.len()],
             shapes: [0; Shape::NAMES.len()],
-            cases: [[0; BuildCase::NAMES.len()]; 2],
+            cases: [[0; BuildCase::NAMES.len()]; BUILT.len()],
             flaws: [0; Flaw::NAMES.len()],
-            rooms: [[0; Room::NAMES.len()]; 2],
+            rooms: [[0; Room::NAMES.len()]; BUILT.len()],
             orders: BTreeMap::new(),
             places: [0; PLACES],
             spoilt: [0; Spoilt::NAMES.len()],
@@ -103,6 +117,7 @@ impl Coverage {
             lists: [0; ListCase::NAMES.len()],
             pages: [0; PageCase::NAMES.len()],
             series: [0; SeriesCase::NAMES.len()],
+            write_lists: [0; WriteCase::NAMES.len()],
         }
     }
 
@@ -182,6 +197,13 @@ impl Coverage {
         }
     }
 
+    /// Counts the cases of a write list that hold.
+    pub fn write_list(&mut self, cases: &[(WriteCase, bool)]) {
+        for (case, holds) in cases {
+            self.write_lists[*case as usize] += u64::from(*holds);
+        }
+    }
+
     /// How many lists were run.
     pub fn lists(&self) -> u64 {
         let ends = [ListCase::AtEnd, ListCase::NotFresh, ListCase::NoCall, ListCase::Full];
@@ -212,6 +234,7 @@ impl Coverage {
         short += print_counts("nodes of embedded prefixes", &places, &self.places, least);
         short += print_counts("pages", PageCase::NAMES, &self.pages, least);
         short += print_counts("series of pages", SeriesCase::NAMES, &self.series, self.demanded(50));
+        short += print_counts("write lists", WriteCase::NAMES, &self.write_lists, least);
         short += self.report_limits();
         let words = self.orders.len();
         println!("order words met: {words} of 436");

@@ -1,9 +1,14 @@
-//! A block in words, for a difference: its trailer and the cells that it leads into, whether it is sound or not; and a page.
+//! A block in words, for a difference: its trailer and the cells that it leads into, whether it is sound or not; a page and a write
+//! list.
 
-use crate::calls::valid_length;
+use crate::calls::{valid_length, Outcome};
 use crate::model::{embeds, pointer, word_at, CELL, PREFIX};
-use crate::pages::{pairs_in, Printed};
+use crate::pages::pairs_in;
+use crate::write_list::{stores_in, RECORD};
 use std::collections::{BTreeMap, BTreeSet};
+
+/// The most bytes of a buffer that are shown.
+const BYTES_SHOWN: usize = 256;
 
 /// What a word leads to; the words of a split name its parts by one kind.
 #[derive(Clone, Copy, Debug, PartialEq, Eq, PartialOrd, Ord)]
@@ -81,13 +86,26 @@ pub fn differing_cells(own: &[u8], their: &[u8]) -> String {
 }
 
 /// A page's numbers, and what the bytes that it says it used hold: each key with its value, where they are whole records.
-pub fn page_in_words(page: &Printed) -> String {
-    let used = page.buffer.get(..page.used as usize).unwrap_or(&page.buffer);
+pub fn page_in_words(printed: &Outcome) -> String {
+    let (page, buffer) = (printed.page, &printed.buffer);
+    let used = buffer.get(..page.used as usize).unwrap_or(buffer);
     let records = match pairs_in(used) {
         Some(pairs) => pairs.iter().map(|(key, value)| format!(" {}={value}", hexadecimal(key))).collect(),
         None => format!(" no whole records: {}", hexadecimal(used)),
     };
     format!("{} bytes used, more {}:{records}", page.used, page.more)
+}
+
+/// The stores of a write list, each a byte position and a data word.
+pub fn stores_in_words(listed: &Outcome) -> String {
+    let used = listed.buffer.get(..listed.number as usize * RECORD).unwrap_or(&listed.buffer);
+    stores_in(used).iter().map(|(position, word)| format!(" {position:08X} {word:08X}")).collect()
+}
+
+/// The size of a buffer and its first bytes.
+pub fn buffer_in_words(buffer: &[u8]) -> String {
+    let first = hexadecimal(&buffer[..buffer.len().min(BYTES_SHOWN)]);
+    format!("{} bytes that begin {first}", buffer.len())
 }
 
 /// How many bytes of two buffers of one size differ, and which is the first.

@@ -274,17 +274,24 @@ pub mod image {
     }
 }
 
-/// Writes a tree's new nodes into free cells, lowest number first.
+/// Writes a tree's new nodes into free cells, in the order in which these are given, and notes the cells that it takes.
 pub struct Layer<'a> {
-    pub block: &'a mut [u8],
-    pub free: std::vec::IntoIter<usize>,
+    block: &'a mut [u8],
+    free: std::vec::IntoIter<usize>,
+    pub taken: Vec<usize>,
 }
 
-impl Layer<'_> {
+impl<'a> Layer<'a> {
+    /// Nothing taken yet.
+    pub fn new(block: &'a mut [u8], free: Vec<usize>) -> Layer<'a> {
+        Layer { block, free: free.into_iter(), taken: Vec::new() }
+    }
+
     /// Takes the next free cell for an image.
     fn take(&mut self, image: [u8; CELL]) -> usize {
         let cell = self.free.next().expect("the cells were counted before");
         self.block[cell * CELL..][..CELL].copy_from_slice(&image);
+        self.taken.push(cell);
         cell
     }
 

@@ -5,23 +5,26 @@ use crate::model::{Table, EDITIONS};
 use crate::pages::drawn_page;
 use crate::random::Random;
 use crate::verdict::{celsius, days_in_month, Question, CELSIUS, FAHRENHEIT, GATE_ANY, GATE_AT_LEAST, GATE_BETWEEN};
+use crate::write_list::Asked;
 use std::collections::BTreeSet;
 
 /// How often each call comes, in the order of `Call::number`.
-pub type Weights = [usize; 11];
+pub type Weights = [usize; 12];
 
 /// Calls of a history from a formatted block, while its table grows.
-pub const HISTORY: Weights = [1, 3, 36, 10, 12, 9, 7, 5, 17, 10, 9];
+pub const HISTORY: Weights = [1, 3, 36, 10, 12, 9, 7, 5, 17, 10, 9, 4];
 /// Calls of a history while its table shrinks.
-pub const SHRINKING: Weights = [0, 2, 8, 5, 6, 4, 3, 4, 6, 40, 6];
+pub const SHRINKING: Weights = [0, 2, 8, 5, 6, 4, 3, 4, 6, 40, 6, 3];
 /// Calls on a sound block that no history made.
-pub const FOREIGN: Weights = [0, 6, 36, 11, 15, 6, 6, 4, 16, 30, 14];
+pub const FOREIGN: Weights = [0, 6, 36, 11, 15, 6, 6, 4, 16, 30, 14, 6];
 /// Calls on a block that may be unsound.
-pub const HOSTILE: Weights = [1, 20, 16, 10, 10, 9, 9, 9, 16, 12, 10];
+pub const HOSTILE: Weights = [1, 20, 16, 10, 10, 9, 9, 9, 16, 12, 10, 10];
 /// Calls of a list.
-pub const LISTED: Weights = [0, 0, 62, 0, 0, 14, 13, 11, 0, 34, 0];
+pub const LISTED: Weights = [0, 0, 62, 0, 0, 14, 13, 11, 0, 34, 0, 0];
 /// Calls on a block of a bad length.
-pub const BAD_LENGTH: Weights = [1, 1, 1, 1, 1, 1, 1, 1, 1, 1, 3];
+pub const BAD_LENGTH: Weights = [1, 1, 1, 1, 1, 1, 1, 1, 1, 1, 3, 2];
+/// Entries by their write lists, and calls on slots between them.
+pub const STORED: Weights = [0, 0, 0, 0, 0, 3, 1, 1, 0, 0, 0, 15];
 
 /// The most keys that a scene remembers.
 const REMEMBERED: usize = 64;
@@ -174,9 +177,8 @@ impl Scene {
             0 => Call::Format { edition: self.asked_edition(random) },
             1 => Call::Validate,
             2 => {
-                let value = if random.chance(4) { random.word() | 1 << 31 } else { self.value(random) };
-                let value = if random.chance(1) { random.pick(&[0x8000_0000, 0xFFFF_FFFF]) } else { value };
-                Call::Insert { key: self.key(random), value }
+                let (key, value) = self.pair(random);
+                Call::Insert { key, value }
             }
             3 => Call::Get { key: self.asked_key(random) },
             4 => Call::NextKey { key: self.start_key(random) },
@@ -185,8 +187,19 @@ impl Scene {
             7 => Call::Release { slot: slot(random) },
             8 => Call::Verdict(self.question(random)),
             9 => Call::Remove { key: self.key_to_remove(random) },
-            _ => Call::Page(drawn_page(self.start_key(random), &Table::new(), random)),
+            10 => Call::Page(drawn_page(self.start_key(random), &Table::new(), random)),
+            _ => {
+                let (key, value) = self.pair(random);
+                Call::WriteList(Asked { key, value, buffer: Vec::new() })
+            }
         }
+    }
+
+    /// A pair to enter, now and then with a value over the greatest.
+    fn pair(&mut self, random: &mut Random) -> (Vec<u8>, u32) {
+        let value = if random.chance(4) { random.word() | 1 << 31 } else { self.value(random) };
+        let value = if random.chance(1) { random.pick(&[0x8000_0000, 0xFFFF_FFFF]) } else { value };
+        (self.key(random), value)
     }
 
     /// An edition to ask for: mostly one that there is.

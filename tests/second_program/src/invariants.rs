@@ -6,6 +6,7 @@ use crate::encode::Layer;
 use crate::ledger::Ledger;
 use crate::model::{put_word, word_at, Node, Place, Seat, Store, CELL};
 use crate::pages::{pairs_in, Page, Printed};
+use crate::write_list::{stores_in, Asked, RECORD};
 
 /// The first promise that a call broke, in words.
 type Verdict = Result<(), String>;
@@ -33,17 +34,14 @@ pub fn check(before: &[u8], after: &[u8], call: &Call, outcome: &Outcome) -> Ver
         demand(*outcome == refused(call, outcome.answer), "a refusal gives zeros and leaves a buffer")?;
         return check_no_room(before, call, outcome);
     }
-    if let Call::Page(page) = call {
-        check_page(before, page, outcome)?;
-    }
     let store = Store::decode(after).map_err(|flaw| format!("broken: the block is sound after the call ({flaw:?})"))?;
     match call {
         Call::Format { edition } => {
             demand(is_fresh(after, *edition), "a fresh block is zero but for its size and edition")
         }
-        Call::Validate | Call::Get { .. } | Call::NextKey { .. } | Call::Verdict(_) | Call::Page(_) => {
-            demand(before == after, "a reading call leaves the block")
-        }
+        Call::Validate | Call::Get { .. } | Call::NextKey { .. } | Call::Verdict(_) => same(before, after),
+        Call::Page(page) => same(before, after).and(check_page(before, page, outcome)),
+        Call::WriteList(asked) => same(before, after).and(check_list(before, asked, outcome)),
         _ => {
             let old = Store::decode(before).expect("an accepted call had a sound block");
             let mut ledger = Ledger::of(&old);
@@ -52,6 +50,11 @@ pub fn check(before: &[u8], after: &[u8], call: &Call, outcome: &Outcome) -> Ver
             check_bytes(before, after, call, &old, &store, outcome)
         }
     }
+}
+
+/// A call that only reads leaves the block.
+fn same(before: &[u8], after: &[u8]) -> Verdict {
+    demand(before == after, "a reading call leaves the block")
 }
 
 /// Whether a block is a fresh one of an edition that there is.
@@ -73,11 +76,11 @@ fn check_next(block: &[u8], key: &[u8], outcome: &Outcome) -> Verdict {
     demand(outcome.key[size..].iter().all(|byte| *byte == 0), "the key is zero past its size")
 }
 
-/// A refusal of a call: zeros, and beside a page's its buffer as it was.
+/// A refusal of a call: zeros, and beside that of a page or write list its buffer as it was.
 fn refused(call: &Call, answer: u8) -> Outcome {
     let mut outcome = Outcome::bare(answer);
-    if let Call::Page(page) = call {
-        outcome.page.buffer.clone_from(&page.buffer);
+    if let Call::Page(Page { buffer, .. }) | Call::WriteList(Asked { buffer, .. }) = call {
+        outcome.buffer.clone_from(buffer);
     }
     outcome
 }
@@ -85,7 +88,7 @@ fn refused(call: &Call, answer: u8) -> Outcome {
 /// A page's used bytes are whole records, each of the least key past the one before with the value that the bytes show; the
 /// next would not fit, or there is none; the rest of the buffer is as it was.
 fn check_page(block: &[u8], asked: &Page, outcome: &Outcome) -> Verdict {
-    let Printed { used, more, buffer } = &outcome.page;
+    let Outcome { page: Printed { used, more }, buffer, .. } = outcome;
     let used = *used as usize;
     demand(buffer.len() == asked.buffer.len() && buffer[used..] == asked.buffer[used..], "a page leaves the rest")?;
     let pairs = pairs_in(&buffer[..used]).ok_or("broken: a page is of whole records")?;
@@ -99,6 +102,27 @@ fn check_page(block: &[u8], asked: &Page, outcome: &Outcome) -> Verdict {
     let next = left.next();
     demand(next.is_some() == (*more == 1) && *more < 2, "more is told exactly when a key is left")?;
     demand(next.is_none_or(|key| used + key.len() + 5 > buffer.len()), "a record that fits is written")
+}
+
+/// A list's stores are the eight words of each cell taken and then the root word, and give what the insertion gives.
+fn check_list(block: &[u8], asked: &Asked, outcome: &Outcome) -> Verdict {
+    let used = outcome.number as usize * RECORD;
+    let rest = outcome.buffer.len() == asked.buffer.len() && outcome.buffer[used..] == asked.buffer[used..];
+    demand(rest, "a list leaves the rest of its buffer")?;
+    let mut entered = block.to_vec();
+    let count = perform(&mut entered, &asked.entry(), &mut Coverage::new()).number as usize;
+    let mut stores = stores_in(&outcome.buffer[..used]);
+    demand(stores.len() == 8 * count + 1, "a list has 8 records for each cell taken, and 1")?;
+    let mut stored = block.to_vec();
+    stores.iter().for_each(|(position, word)| put_word(&mut stored, *position, *word));
+    demand(stored == entered, "the stores of a list give what the insertion gives")?;
+    demand(stores.pop().is_some_and(|(position, _)| position == block.len() - CELL), "the root word comes last")?;
+    let whole =
+        |cell: &[(usize, u32)]| (0..8).all(|word| cell[word].0 == cell[0].0 + 4 * word) && cell[0].0 % CELL == 0;
+    demand(stores.chunks(8).all(whole), "each cell comes whole, its words in rising position")?;
+    let free = Store::decode(block).expect("sound").free_cells();
+    let cells: Vec<usize> = stores.iter().step_by(8).map(|(position, _)| position / CELL).collect();
+    demand(cells == free[..count], "the cells come in the order in which they are taken")
 }
 
 /// Which bytes a mutating call may write.
@@ -122,7 +146,7 @@ fn check_bytes(before: &[u8], after: &[u8], call: &Call, old: &Store, new: &Stor
     }
     let top = Store::decode(after).expect("sound").root.top;
     demand(least == 0 || top.is_some(), "an insertion leaves a root")?;
-    let mut layer = Layer { block: &mut rebuilt, free: taken.clone().into_iter() };
+    let mut layer = Layer::new(&mut rebuilt, taken.clone());
     let root = top.map_or(0, |top| layer.lay(&as_new(top, &taken)));
     demand(root == word_at(after, trailer), "the decoded tree encodes to the same root")?;
     demand(rebuilt == after, "the decoded tree encodes to the same bytes, and no other byte moved")?;
@@ -155,7 +179,8 @@ fn check_no_room(before: &[u8], call: &Call, outcome: &Outcome) -> Verdict {
         return Ok(());
     };
     let free = Store::decode(before).expect("sound").free_cells().len();
-    let outcome = perform(&mut enlarged, call, &mut Coverage::new());
+    let change = if let Call::WriteList(asked) = call { &asked.entry() } else { call };
+    let outcome = perform(&mut enlarged, change, &mut Coverage::new());
     demand(outcome.answer == 0, "a larger block has room")?;
     demand(outcome.number as usize > free, "more cells are taken than were free")
 }

@@ -24,7 +24,8 @@ impl Ledger {
             Call::Snapshot { slot } => Some(self.snapshot(*slot)),
             Call::Restore { slot } => Some(self.restore(*slot)),
             Call::Release { slot } => Some(self.release(*slot)),
-            Call::Validate | Call::Get { .. } | Call::NextKey { .. } | Call::Verdict(_) | Call::Page(_) => None,
+            Call::Validate | Call::Get { .. } | Call::NextKey { .. } => None,
+            Call::Verdict(_) | Call::Page(_) | Call::WriteList(_) => None,
         }
     }
 

@@ -10,6 +10,7 @@ use crate::pages::{drawn_bytes, Page, LEAST_BUFFER};
 use crate::random::Random;
 use crate::sweeps::{block_of_value, insert, question};
 use crate::verdict::{celsius, day_number, Question, CELSIUS, FAHRENHEIT, GATE_AT_LEAST, GATE_BETWEEN};
+use crate::write_list::{drawn_write_list, Asked};
 
 /// A number of the sheet or the reading.
 #[derive(Clone, Copy, Debug, PartialEq, Eq, PartialOrd, Ord)]
@@ -30,7 +31,8 @@ pub enum Limit {
     Block(usize, usize),
     /// A call with a key of so many bytes.
     Key(usize, usize),
-    Value(u32),
+    /// A call with a value.
+    Value(usize, u32),
     /// A call on a slot.
     Slot(usize, u32),
     /// A number of the sheet or the reading, by its bits.
@@ -87,8 +89,8 @@ pub fn all_limits() -> Vec<Limit> {
     let mut limits = Vec::new();
     let blocks = CELLS.into_iter().flat_map(lengths);
     limits.extend(blocks.flat_map(|bytes| (0..CALLS.len()).map(move |call| Limit::Block(call, bytes))));
-    limits.extend(KEYS.into_iter().flat_map(|bytes| [2, 3, 4, 8, 9, 10].map(|call| Limit::Key(call, bytes))));
-    limits.extend(VALUES.map(Limit::Value));
+    limits.extend(KEYS.into_iter().flat_map(|bytes| [2, 3, 4, 8, 9, 10, 11].map(|call| Limit::Key(call, bytes))));
+    limits.extend(VALUES.into_iter().flat_map(|value| [2, 11].map(|call| Limit::Value(call, value))));
     limits.extend(SLOTS.into_iter().flat_map(|slot| [5, 6, 7].map(|call| Limit::Slot(call, slot))));
     for (number, low, high) in BOUNDS {
         limits.extend(about(low, high).map(|bound| Limit::Number(number, bound.to_bits())));
@@ -116,9 +118,9 @@ pub fn limits_met(block_length: usize, call: &Call, answer: u8) -> Vec<Limit> {
     }
     match call {
         Call::Format { .. } | Call::Validate => {}
-        Call::Insert { key, value } => {
+        Call::Insert { key, value } | Call::WriteList(Asked { key, value, .. }) => {
             limits.push(Limit::Key(number, key.len()));
-            limits.extend((answer != 3).then_some(Limit::Value(*value)));
+            limits.extend((answer != 3).then_some(Limit::Value(number, *value)));
         }
         Call::Get { key } | Call::NextKey { key } | Call::Remove { key } => {
             limits.push(Limit::Key(number, key.len()));
@@ -212,9 +214,10 @@ fn block_lengths(comparison: &mut Comparison, cells: usize, random: &mut Random)
         let (snapshot, restore, release) =
             (Call::Snapshot { slot: 3 }, Call::Restore { slot: 3 }, Call::Release { slot: 3 });
         let page = page_after(&key, LEAST_BUFFER, random);
+        let list = Call::WriteList(drawn_write_list(&block, key.clone(), packed([2025, 3, 7]), random));
         let (insert, remove) = (insert(&key, packed([2025, 3, 7])), Call::Remove { key });
         let format = Call::Format { edition: scene.edition };
-        let rest = [insert, get, next, page, snapshot, restore, release, asked, remove, format];
+        let rest = [list, insert, get, next, page, snapshot, restore, release, asked, remove, format];
         for call in [Call::Validate].iter().chain(&rest) {
             comparison.step(&mut block, call);
         }
@@ -229,6 +232,8 @@ fn arguments(comparison: &mut Comparison, cells: usize, random: &mut Random) {
     }
     for size in KEYS {
         let key = vec![random.pick(&[0x00, 0x41, 0xFF]); size];
+        let list = drawn_write_list(&block, key.clone(), packed([2025, 3, 7]), random);
+        comparison.step(&mut block, &Call::WriteList(list));
         comparison.step(&mut block, &insert(&key, packed([2025, 3, 7])));
         comparison.step(&mut block, &Call::Get { key: key.clone() });
         comparison.step(&mut block, &Call::NextKey { key: key.clone() });
@@ -238,7 +243,10 @@ fn arguments(comparison: &mut Comparison, cells: usize, random: &mut Random) {
         comparison.step(&mut block, &insert(&key, packed([2025, 3, 7])));
     }
     for value in VALUES {
-        comparison.step(&mut block, &insert(&[random.byte()], value));
+        let key = vec![random.byte()];
+        comparison.step(&mut block, &insert(&key, value));
+        let list = drawn_write_list(&block, key, value, random);
+        comparison.step(&mut block, &Call::WriteList(list));
     }
     for size in BUFFERS {
         comparison.step(&mut block, &page_after(&[], size, random));

@@ -6,6 +6,7 @@ mod compare;
 mod counted;
 mod coverage;
 mod crafted;
+mod cuts;
 mod display;
 #[cfg(alone)]
 mod embedded_test;
@@ -35,8 +36,12 @@ mod schedule;
 mod self_test;
 mod series;
 mod spoilt;
+mod stored;
 mod sweeps;
 mod verdict;
+mod write_list;
+#[cfg(alone)]
+mod write_list_test;
 
 use compare::{Comparison, Other};
 use std::process::ExitCode;
@@ -44,9 +49,10 @@ use std::process::ExitCode;
 /// The calls of a run that names no other number.
 const CALLS: u64 = 1_600_000;
 
-/// One list of calls, and one series of pages, for so many calls that are made one by one.
+/// One list of calls, one series of pages, and one block of write lists, for so many calls that are made one by one.
 const CALLS_FOR_A_LIST: u64 = 50;
 const CALLS_FOR_A_SERIES: u64 = 500;
+const CALLS_FOR_STORED: u64 = 100;
 
 /// The other program is the proved library.
 #[cfg(not(alone))]
@@ -71,15 +77,17 @@ fn main() -> ExitCode {
     schedule::run(&mut comparison, target);
     let series = target / CALLS_FOR_A_SERIES;
     series::run(&mut comparison, series);
+    stored::run(&mut comparison, target / CALLS_FOR_STORED);
     schedule::lists(&mut comparison, target / CALLS_FOR_A_LIST);
     let (calls, lists) = (comparison.coverage.calls, comparison.listed.lists());
     let least = if lists < 20_000 { 0 } else { 50 };
-    let short = comparison.coverage.report() + comparison.listed.report_lists(least);
+    let short = comparison.coverage.report() + comparison.report_cuts() + comparison.listed.report_lists(least);
     if short > 0 {
         println!("{short} counts fall short");
     }
     comparison.print_kept();
-    let counts = format!("{calls} calls, {series} series of pages and {lists} lists of calls");
+    let cuts = format!("{} write lists cut at {} places", comparison.cut_lists, comparison.cuts);
+    let counts = format!("{calls} calls, {series} series of pages, {cuts} and {lists} lists of calls");
     println!("{}: {counts}, {} differences", OTHER.1, comparison.differences);
     match short == 0 && comparison.differences == 0 {
         true => ExitCode::SUCCESS,

@@ -3,7 +3,7 @@
 use crate::calls::Outcome;
 use crate::counted::PageCase;
 use crate::coverage::Coverage;
-use crate::display::hexadecimal;
+use crate::display::{buffer_in_words, hexadecimal};
 use crate::model::{Table, LONGEST_KEY};
 use crate::random::Random;
 use std::fmt::{Debug, Formatter};
@@ -12,9 +12,6 @@ use std::ops::Bound;
 /// The least buffer that is taken: a length byte, the longest key and a word.
 pub const LEAST_BUFFER: usize = 1 + LONGEST_KEY + 4;
 
-/// The most bytes of a buffer that are shown with a difference.
-const BYTES_SHOWN: usize = 256;
-
 /// What a page is asked for with: the key after which it begins, and the buffer with whatever stands in it.
 #[derive(Clone)]
 pub struct Page {
@@ -22,21 +19,19 @@ pub struct Page {
     pub buffer: Vec<u8>,
 }
 
-/// What a page gives beside its answer and the number of its records; no other call gives any of it.
-#[derive(Clone, Debug, Default, PartialEq, Eq)]
+/// What a page gives beside its answer, the number of its records and its buffer; no other call gives any of it.
+#[derive(Clone, Copy, Debug, Default, PartialEq, Eq)]
 pub struct Printed {
     pub used: u32,
     /// 1 if records remain, 0 if not.
     pub more: u32,
-    pub buffer: Vec<u8>,
 }
 
 impl Debug for Page {
     /// The key and the size of the buffer, with its first bytes, for a difference.
     fn fmt(&self, formatter: &mut Formatter) -> std::fmt::Result {
-        let (key, size) = (hexadecimal(&self.key), self.buffer.len());
-        let first = hexadecimal(&self.buffer[..size.min(BYTES_SHOWN)]);
-        write!(formatter, "after key '{key}' into {size} bytes that begin {first}")
+        let (key, buffer) = (hexadecimal(&self.key), buffer_in_words(&self.buffer));
+        write!(formatter, "after key '{key}' into {buffer}")
     }
 }
 
@@ -90,7 +85,7 @@ pub fn page(table: &Table, asked: &Page, coverage: &mut Coverage) -> Outcome {
     let mut bytes = records[..count].concat();
     let (used, more) = (bytes.len() as u32, u32::from(count < records.len()));
     bytes.extend_from_slice(&buffer[bytes.len()..]);
-    Outcome { page: Printed { used, more, buffer: bytes }, ..Outcome::done(count as u32) }
+    Outcome { page: Printed { used, more }, buffer: bytes, ..Outcome::done(count as u32) }
 }
 
 /// Counts what a page met: how the first records, so many of all by their ends, meet the buffer, and the key among the others.

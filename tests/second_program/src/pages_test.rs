@@ -23,9 +23,9 @@ const FILLER: u8 = 0xEE;
 fn page(block: &[u8], key: &[u8], size: usize) -> ((u8, u32, u32, u32), Vec<u8>) {
     let call = Call::Page(Page { key: key.to_vec(), buffer: vec![FILLER; size] });
     let mut copy = block.to_vec();
-    let Outcome { answer, number, page, .. } = make(&mut copy, call);
+    let Outcome { answer, number, page, buffer, .. } = make(&mut copy, call);
     assert!(copy == block, "a page leaves the block");
-    ((answer, number, page.used, page.more), page.buffer)
+    ((answer, number, page.used, page.more), buffer)
 }
 
 /// A fresh block of an edition with some pairs.

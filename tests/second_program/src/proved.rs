@@ -3,8 +3,9 @@
 use crate::calls::{Call, Outcome};
 use crate::compare::Other;
 use crate::lists::{Ended, List};
-use crate::pages::{Page, Printed};
+use crate::pages::Page;
 use crate::verdict::Question;
+use crate::write_list::Asked;
 
 extern "C" {
     fn exports_format(block: *mut u8, block_len: usize, edition: u32) -> u8;
@@ -37,6 +38,16 @@ extern "C" {
         records: *mut u32,
         used: *mut u32,
         more: *mut u32,
+    ) -> u8;
+    fn exports_write_list(
+        block: *const u8,
+        block_len: usize,
+        key: *const u8,
+        key_len: usize,
+        value: u32,
+        list: *mut u8,
+        list_len: usize,
+        records: *mut u32,
     ) -> u8;
     fn exports_snapshot(block: *mut u8, block_len: usize, slot: u32) -> u8;
     fn exports_restore(block: *mut u8, block_len: usize, slot: u32) -> u8;
@@ -136,8 +147,7 @@ fn run_list(list: &mut List) -> Ended {
 /// Makes a call on the library; each value starts with a filler, so that a refusal must set it to zero.
 fn perform_lent(block: &mut [u8], call: &Call) -> Outcome {
     let (start, size) = (block.as_mut_ptr(), block.len());
-    let filler = u32::from_be_bytes([FILLER; 4]);
-    let mut outcome = Outcome { number: filler, ..Outcome::bare(0) };
+    let mut outcome = unanswered();
     let number = &mut outcome.number;
     // Each pointer comes with the length of its own slice, and no slice overlaps another.
     outcome.answer = unsafe {
@@ -150,6 +160,7 @@ fn perform_lent(block: &mut [u8], call: &Call) -> Outcome {
                 exports_next_key(start, size, key.as_ptr(), key.len(), number, outcome.key.as_mut_ptr())
             }
             Call::Page(asked) => return page(start, size, asked),
+            Call::WriteList(asked) => return write_list(start, size, asked),
             Call::Format { edition } => without_value(number, exports_format(start, size, *edition)),
             Call::Validate => without_value(number, exports_validate(start, size)),
             Call::Snapshot { slot } => without_value(number, exports_snapshot(start, size, *slot)),
@@ -165,27 +176,41 @@ fn perform_lent(block: &mut [u8], call: &Call) -> Outcome {
     outcome
 }
 
+/// An outcome whose number is still to be given.
+fn unanswered() -> Outcome {
+    Outcome { number: u32::from_be_bytes([FILLER; 4]), ..Outcome::bare(0) }
+}
+
 /// The library's page, on a copy of the buffer.
 unsafe fn page(start: *const u8, size: usize, asked: &Page) -> Outcome {
-    let filler = u32::from_be_bytes([FILLER; 4]);
-    let mut outcome = Outcome { number: filler, ..Outcome::bare(0) };
-    let Printed { used, more, buffer } = &mut outcome.page;
-    (*used, *more) = (filler, filler);
-    let mut lent = with_margins(&asked.buffer);
-    outcome.answer = exports_page(
-        start,
-        size,
-        asked.key.as_ptr(),
-        asked.key.len(),
-        lent[MARGIN..].as_mut_ptr(),
-        asked.buffer.len(),
-        &mut outcome.number,
-        used,
-        more,
-    );
-    buffer.clone_from(&asked.buffer);
-    take_back(buffer, &lent);
+    let Page { key, buffer } = asked;
+    let mut outcome = unanswered();
+    let (records, page) = (&mut outcome.number, &mut outcome.page);
+    (page.used, page.more) = (*records, *records);
+    (outcome.answer, outcome.buffer) = lend(buffer, |bytes, room| {
+        exports_page(start, size, key.as_ptr(), key.len(), bytes, room, records, &mut page.used, &mut page.more)
+    });
     outcome
+}
+
+/// The library's write list, on a copy of the buffer.
+unsafe fn write_list(start: *const u8, size: usize, asked: &Asked) -> Outcome {
+    let Asked { key, value, buffer } = asked;
+    let mut outcome = unanswered();
+    let records = &mut outcome.number;
+    (outcome.answer, outcome.buffer) = lend(buffer, |bytes, room| {
+        exports_write_list(start, size, key.as_ptr(), key.len(), *value, bytes, room, records)
+    });
+    outcome
+}
+
+/// Lends a copy of a buffer to a call; gives the answer and what then stands in the copy.
+fn lend(buffer: &[u8], call: impl FnOnce(*mut u8, usize) -> u8) -> (u8, Vec<u8>) {
+    let mut lent = with_margins(buffer);
+    let answer = call(lent[MARGIN..].as_mut_ptr(), buffer.len());
+    let mut taken = buffer.to_vec();
+    take_back(&mut taken, &lent);
+    (answer, taken)
 }
 
 /// The answer of a call that gives no number beside it.

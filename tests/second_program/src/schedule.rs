@@ -13,6 +13,7 @@ use crate::pages::drawn_page;
 use crate::random::Random;
 use crate::series::of_long_keys;
 use crate::spoilt::spoilt;
+use crate::write_list::drawn_write_list;
 
 /// Scenes of random calls until the target is reached; each scene has its own seed, so that it can be met again.
 pub fn run(comparison: &mut Comparison, target: u64) {
@@ -76,11 +77,12 @@ pub fn calls(
     }
 }
 
-/// A call as it was drawn, but that a removal is mostly one of a key that the block shows, and that a page is drawn by the keys
-/// that it shows.
-fn aimed(call: Call, block: &[u8], random: &mut Random) -> Call {
+/// A call as it was drawn, but that a removal is mostly one of a key that the block shows, that a page is drawn by the keys that it
+/// shows, and the buffer of a write list by the cells that its entry takes.
+pub fn aimed(call: Call, block: &[u8], random: &mut Random) -> Call {
     match call {
         Call::Page(page) => Call::Page(drawn_page(page.key, &shown(block), random)),
+        Call::WriteList(asked) => Call::WriteList(drawn_write_list(block, asked.key, asked.value, random)),
         Call::Remove { key } if random.chance(50) => {
             let shown = shown(block);
             let place = random.below(shown.len().max(1));

@@ -42,14 +42,14 @@ fn drawn_cells(random: &mut Random) -> usize {
 }
 
 /// A fresh block, whose table is empty.
-fn fresh(comparison: &mut Comparison, cells: usize, random: &mut Random) -> Vec<u8> {
+pub fn fresh(comparison: &mut Comparison, cells: usize, random: &mut Random) -> Vec<u8> {
     let mut block = junk(cells, random);
     comparison.step(&mut block, &Call::Format { edition: random.pick(&EDITIONS) });
     block
 }
 
 /// A block that calls of all kinds have made.
-fn after_history(comparison: &mut Comparison, cells: usize, random: &mut Random) -> Vec<u8> {
+pub fn after_history(comparison: &mut Comparison, cells: usize, random: &mut Random) -> Vec<u8> {
     let mut scene = Scene::drawn(random);
     let mut block = fresh(comparison, cells, random);
     let count = random.between(5, 60);
@@ -106,8 +106,8 @@ impl Series {
         let joined: Vec<u8> = pages.iter().flat_map(|(used, _)| used).copied().collect();
         let size = joined.len().max(LEAST_BUFFER) + random.pick(&[0, 0, 1, 400]);
         let one = Page { key: self.start.clone(), buffer: drawn_bytes(size, random) };
-        let printed = comparison.step(&mut self.block, &Call::Page(one.clone())).page;
-        if printed.more != 0 || printed.buffer[..printed.used as usize] != joined {
+        let printed = comparison.step(&mut self.block, &Call::Page(one.clone()));
+        if printed.page.more != 0 || printed.buffer[..printed.page.used as usize] != joined {
             comparison.note(&one, &self.block, "one page with room for all is not the pages joined");
         }
         if records_after(&self.table, &self.start).concat() != joined {
@@ -127,7 +127,7 @@ impl Series {
             let size = self.drawn_size(&key, random);
             let asked = Page { key, buffer: drawn_bytes(size, random) };
             let outcome = comparison.step(&mut self.block, &Call::Page(asked.clone()));
-            let used = outcome.page.buffer[..outcome.page.used as usize].to_vec();
+            let used = outcome.buffer[..outcome.page.used as usize].to_vec();
             let last = pairs_in(&used).and_then(|pairs| pairs.into_iter().last());
             pages.push((used, size));
             if outcome.answer == 0 && outcome.page.more == 0 {

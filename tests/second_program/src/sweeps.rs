@@ -9,6 +9,10 @@ use crate::model::{pointer, put_word, CELL, EDITIONS};
 use crate::random::Random;
 use crate::schedule::{calls, remember_shown};
 use crate::verdict::{Question, CELSIUS, FAHRENHEIT, GATE_ANY, GATE_BETWEEN};
+use crate::write_list::drawn_write_list;
+
+/// The most cells of a block whose insertions are asked for as write lists too: on a large one each cut takes long.
+const MOST_CELLS_CUT: usize = 64;
 
 /// All sweeps, one after the other.
 pub fn run(comparison: &mut Comparison) {
@@ -22,12 +26,16 @@ pub fn run(comparison: &mut Comparison) {
     fahrenheit(comparison);
 }
 
-/// Makes calls on a fresh block of an edition, with the ledger beside it.
+/// Makes calls on a fresh block of an edition, with the ledger beside it, and before each insertion asks for its write list.
 fn history(comparison: &mut Comparison, cells: usize, edition: u32, calls: &[Call]) {
     let mut block = vec![0xAA; cells * CELL];
-    let mut ledger = Ledger::default();
+    let (mut ledger, mut random) = (Ledger::default(), Random::seeded(cells as u64));
     comparison.step_with_ledger(&mut block, &Call::Format { edition }, &mut ledger);
     for call in calls {
+        if let (Call::Insert { key, value }, ..=MOST_CELLS_CUT) = (call, cells) {
+            let asked = drawn_write_list(&block, key.clone(), *value, &mut random);
+            comparison.step(&mut block, &Call::WriteList(asked));
+        }
         comparison.step_with_ledger(&mut block, call, &mut ledger);
     }
 }

@@ -30,6 +30,9 @@ A DATE is written 2025-03-07. A LABEL is text, or hex:43484131.
 Exit status: 0 done, 1 to 15 the number of the no, 64 the command was not understood, 74 trouble with a file.
 ";
 
+/// The stores of one cell in a write list; beside those of the cells it has the one of the root word.
+const STORES_OF_A_CELL: u32 = 8;
+
 /// What the commands that alter a slot have in common.
 type SlotCall = fn(&mut [u8], u32) -> Result<(), No>;
 
@@ -86,12 +89,12 @@ fn new(file: &Path, cells: &OsStr, edition: Option<&OsString>) -> Result<String,
     Ok(format!("fresh block of {cells} cells, edition {edition}\n"))
 }
 
-/// Enters a cartridge with its expiry day.
+/// Enters a cartridge with its expiry day, by the stores of its write list.
 fn enter(file: &Path, label: &OsStr, date: &OsStr) -> Result<String, Trouble> {
     let label = words::label(label)?;
     let date = dates::read_date(words::text(date)?)?;
-    let count = block_file::alter(file, |block| proved::insert(block, &label, dates::pack(date)))?;
-    Ok(format!("entered {} {date}, {}\n", words::show_label(&label), taken(count)))
+    let stores = block_file::store(file, |block| proved::write_list(block, &label, dates::pack(date)))?;
+    Ok(format!("entered {} {date}, {}\n", words::show_label(&label), taken(stores / STORES_OF_A_CELL)))
 }
 
 /// Removes a label, whatever its value.

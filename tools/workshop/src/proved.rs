@@ -6,13 +6,15 @@ use crate::trouble::No;
 extern "C" {
     fn exports_format(block: *mut u8, block_size: usize, edition: u32) -> u8;
     fn exports_validate(block: *const u8, block_size: usize) -> u8;
-    fn exports_insert(
-        block: *mut u8,
+    fn exports_write_list(
+        block: *const u8,
         block_size: usize,
         key: *const u8,
         key_size: usize,
         value: u32,
-        count: *mut u32,
+        list: *mut u8,
+        list_size: usize,
+        records: *mut u32,
     ) -> u8;
     fn exports_remove(block: *mut u8, block_size: usize, key: *const u8, key_size: usize, count: *mut u32) -> u8;
     fn exports_get(block: *const u8, block_size: usize, key: *const u8, key_size: usize, value: *mut u32) -> u8;
@@ -69,6 +71,22 @@ pub const USUAL_EDITION: u32 = 1;
 /// The bytes that the next label is written into.
 const LABEL_ROOM: usize = 48;
 
+/// The bytes of one record of a write list: a position and a word.
+const STORE_SIZE: usize = 8;
+
+/// A word of four bytes and the position in the block at which it is to be stored.
+pub struct Store {
+    pub position: u32,
+    pub word: [u8; 4],
+}
+
+impl Store {
+    /// Makes the store in a block.
+    pub fn make(&self, block: &mut [u8]) {
+        block[self.position as usize..][..4].copy_from_slice(&self.word);
+    }
+}
+
 /// What a page tells of itself: its records, the bytes that they use, and whether more remain.
 #[derive(Clone, Copy)]
 pub struct Told {
@@ -121,12 +139,31 @@ pub fn validate(block: &[u8]) -> Result<(), No> {
     result(unsafe { exports_validate(block.as_ptr(), block.len()) }, ())
 }
 
-/// Enters a label with its value and tells how many cells that took.
-pub fn insert(block: &mut [u8], label: &[u8], value: u32) -> Result<u32, No> {
-    let mut count = 0;
-    let answer =
-        unsafe { exports_insert(block.as_mut_ptr(), block.len(), label.as_ptr(), label.len(), value, &mut count) };
-    result(answer, count)
+/// Gives the stores that enter a label with its value, in order: eight for each cell that it takes, then the root word. There
+/// is room for a store of every word of the block, so it is never too little.
+pub fn write_list(block: &[u8], label: &[u8], value: u32) -> Result<Vec<Store>, No> {
+    let mut list = vec![0; block.len() / 4 * STORE_SIZE];
+    let mut records = 0;
+    let answer = unsafe {
+        exports_write_list(
+            block.as_ptr(),
+            block.len(),
+            label.as_ptr(),
+            label.len(),
+            value,
+            list.as_mut_ptr(),
+            list.len(),
+            &mut records,
+        )
+    };
+    list.truncate(records as usize * STORE_SIZE);
+    result(answer, list.chunks_exact(STORE_SIZE).map(read_store).collect())
+}
+
+/// The store of a record: its position highest byte first, and its word as it is to stand in the block.
+fn read_store(record: &[u8]) -> Store {
+    let word = |from: usize| [record[from], record[from + 1], record[from + 2], record[from + 3]];
+    Store { position: u32::from_be_bytes(word(0)), word: word(4) }
 }
 
 /// Removes a label and tells how many cells that took.

@@ -1,0 +1,10 @@
+pub mod Records
+pub mod ListWrites
+pub mod WriteListCall
+pub mod Told
+pub mod OnlyFree
+pub mod Again
+pub mod Cuts
+pub mod ListSteps
+pub mod ListCode
+pub mod Proved

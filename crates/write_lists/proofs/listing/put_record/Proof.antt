@@ -1,0 +1,38 @@
+-- The two words of a record, one after the other.
+use borrow.Author.Needs.{needs}
+use Rattle.write_lists.proofs.ListSteps.{record-put}
+use Rattle.write_lists.proofs.listing.put_record.Statement.{statement}
+use Rattle.write_lists.proofs.listing.put_record.Tie as tie
+
+mul-put-word : tie.Need-mul-put-word
+mul-put-word c = search needs
+
+put-word-requires : tie.Need-put-word-requires
+put-word-requires c κs = search needs
+
+mul-put-word-2 : tie.Need-mul-put-word-2
+mul-put-word-2 c = search needs
+
+add-put-word : tie.Need-add-put-word
+add-put-word c = search needs
+
+put-word-requires-2 : tie.Need-put-word-requires-2
+put-word-requires-2 c κs = search needs
+
+same-length : tie.Need-same-length
+same-length c = search needs
+
+returns : tie.Need-returns
+returns c = record-put _ _ _ _ _ (c .before .before .before .before .before .before .put-word .ensures) (c .before .before .put-word2 .ensures)
+
+pub put-record-spec : {M : Type 1} → statement M
+put-record-spec =
+    tie.close
+    (tie.spec
+    mul-put-word
+    put-word-requires
+    mul-put-word-2
+    add-put-word
+    put-word-requires-2
+    same-length
+    returns)

@@ -1,0 +1,10 @@
+pub mod Records
+pub mod WriteList
+pub mod Driven
+pub mod OnlyFree
+pub mod Answers
+pub mod Tables
+pub mod Computing
+pub mod Examples
+pub mod DrivenExamples
+pub mod Code
