@@ -3,7 +3,8 @@ use mathlib.Core.Path.{_≡_, refl, subst}
 use mathlib.Core.Bool.{Bool, true, false, _&&_, not, cond}
 use mathlib.Core.List.{List, [], _∷_}
 use mathlib.Core.Option.{Option, none, some, bind}
-use Prim.Native.Nat.{ℕ}
+use Prim.Native.Nat.{ℕ, _≤_, _<_}
+use native.Mathlib.Decide.{decLt}
 use native.Mathlib.Omega.{arith}
 use lib.Dec.{T}
 use Rattle.cells.specs.Occurrences.{all}
@@ -18,6 +19,13 @@ absurd-bool e = absurd (subst T e tt)
 
 pub absurd-false : {A : Type 0} → false ≡ true → A
 absurd-false e = absurd (subst (λ (t : Bool). T (not t)) e tt)
+
+-- a number is less than another, or at least that
+pub less-or : (m n : ℕ) {Goal : Type 0} → (m < n → Goal) → (n ≤ m → Goal) → Goal
+less-or m n below above = elim (decLt m n) [
+  | yes less ↦ below less
+  | no other ↦ above (omega arith)
+]
 
 -- two steps have a result just where the first has one, and the second on it
 pub bound : {A B : Type 0} (o : Option A) (f : A → Option B) {b : B} → bind o f ≡ some b → (a : A) × (o ≡ some a) × (f a ≡ some b)

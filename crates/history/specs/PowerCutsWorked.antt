@@ -20,8 +20,9 @@ fourCells one two root slot bits = zeros 32 ++ one ++ two ++ eightWords root slo
 abbrev lent : ℕ → List ℕ
 lent size = replicate size 0xEE
 
--- 41 with 0 by a driver: no store, all 9 but the last, and all; refused, since its list is a byte short; the present state held by slot 1; 41 with 1
--- cut after a word of its cell, then made, by a driver that would make more stores than there are; 41 with 2 lacks room, by a driver and as a call
+-- 41 with 0 by a driver: no store, then all 9 but the last, then refused, since its list is a byte short, then all; the present state held by slot 1;
+-- 41 with 1 cut before the last word of its cell, then made, by a driver that would make more stores than there are; 41 with 2 lacks room, by a
+-- driver and as a call
 abbrev history : List Event
 history =
     storing (0x41 ∷ []) 0 (lent 72) 0

@@ -4,13 +4,13 @@ use mathlib.Core.Path.{_≡_, refl, sym, ap, _∙_}
 use mathlib.Core.Logic.{_≢_, _⊎_}
 use mathlib.Core.Bool.{Bool, true, false}
 use mathlib.Core.List.{List}
-use Prim.Native.Nat.{ℕ, _-_, _/_, _%_, _≤_, _<_}
-use native.Mathlib.Decide.{decLt, ℕ-discrete}
-use native.Mathlib.Omega.{arith}
+use Prim.Native.Nat.{ℕ, _-_, _/_, _%_}
+use native.Mathlib.Decide.{ℕ-discrete}
 use lib.ListN.{length, getD}
 use lib.Seq.{ext-getD}
 use Rattle.cells.specs.Bytes.{IsBytes}
 use Rattle.cells.specs.Memory.{memoryOf}
+use Rattle.cells.proofs.Choice.{less-or}
 use Rattle.nodes.specs.Layout.{validEdition}
 use Rattle.updates.specs.Built.{Built}
 use Rattle.blocks.specs.Trailer.{cellsAt, editionAt}
@@ -70,13 +70,6 @@ format-told edition b r t =
     changed-told r f same
     (beside-told (r .answer) (f .answer) (r .block) (f .block) b same (λ e g. fresh-told edition b _ _ (t .left e) (u .left g)) (t .refused) (u .refused))
 
--- enough cells are free, or not
-room-or : (needed free : ℕ) {Goal : Type 0} → (free < needed → Goal) → (needed ≤ free → Goal) → Goal
-room-or needed free lacks fits = elim (decLt free needed) [
-  | yes more ↦ lacks more
-  | no enough ↦ fits (omega arith)
-]
-
 -- what a table says of a call that lays down a build, beside the answers
 record Outcome (b key : List ℕ) (x : Built) (r : Counted) : Type 0 where
   refused : r .answer ≢ 0 → (r .count ≡ 0) × (r .block ≡ b)
@@ -106,7 +99,7 @@ module _ (b key : List ℕ) (value : ℕ) where
         valued : PassesKey b (badNewKey key) → (s : Bool) → badValue value ≡ s → q .answer ≡ r .answer
         valued a true e = both (t .bad-value) (u .bad-value) (a, e)
         valued a false e =
-            room-or (cellsToInsert b key) (cellsFree b) (λ more. both (t .no-room) (u .no-room) (a, (e, more))) (λ fits. both (t .done) (u .done) (a, (e, fits)))
+            less-or (cellsFree b) (cellsToInsert b key) (λ more. both (t .no-room) (u .no-room) (a, (e, more))) (λ fits. both (t .done) (u .done) (a, (e, fits)))
 
   insert-outcome : (r : Counted) → IsBytes b → IsBytes key → InsertTable b key value r → Outcome b key (blockBuild b key value) r
   insert-outcome r bytes is-bytes t =
@@ -130,7 +123,7 @@ module _ (b key : List ℕ) where
         held a true e = both (t .absent) (u .absent) (a, missing-none (shown b key) e)
         held a false e =
             let there = is-there (shown b key) e in
-            room-or (cellsToRemove b key) (cellsFree b) (λ more. both (t .no-room) (u .no-room) (a, (there, more)))
+            less-or (cellsFree b) (cellsToRemove b key) (λ more. both (t .no-room) (u .no-room) (a, (there, more)))
             (λ fits. both (t .done) (u .done) (a, (there, fits)))
 
   remove-outcome : (r : Counted) → IsBytes b → IsBytes key → RemoveTable b key r → Outcome b key (blockRemoval b key) r

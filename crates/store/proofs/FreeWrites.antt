@@ -1,12 +1,16 @@
--- The writes of a commit before its last, the root word, touch only cells that were free.
+-- Writes into some cells: they touch no other; and those of a commit before its last, the root word, touch only cells that were free.
+use mathlib.Core.Path.{_≡_, refl, sym, ap, _∙_}
 use mathlib.Core.List.{List, [], _∷_, _++_}
 use Prim.Native.Nat.{ℕ, zero, suc, _+_, _*_, _/_, _%_, _≤_}
 use native.Mathlib.Omega.{arith}
-use lib.ListN.{length}
+use lib.ListN.{length, take}
+use Rattle.cells.specs.Word.{withWord}
+use Rattle.cells.specs.Memory.{memoryOf}
 use Rattle.cells.specs.Occurrences.{occurrences}
-use Rattle.cells.specs.Writes.{Write, wordWrites}
+use Rattle.cells.specs.Writes.{Write, written, wordWrites}
+use Rattle.cells.proofs.Memory.{memory-written-other}
 use Rattle.cells.proofs.Occurrences.{occurrences-here, occurrences-later}
-use Rattle.cells.proofs.Pointers.{kind-of-made, cell-of-made}
+use Rattle.cells.proofs.Pointers.{kind-of-made, cell-of-made, cell-kind}
 use Rattle.updates.specs.Commit.{buildWrites}
 use Rattle.updates.proofs.Claims.{numbers}
 use Rattle.updates.proofs.Commit.{numbers-free}
@@ -18,6 +22,26 @@ use Rattle.store.specs.Committed.{numbering}
 abbrev pub WritesInto : List ℕ → List Write → Type 0
 WritesInto cells [] = Unit {0}
 WritesInto cells (w ∷ ws) = (1 ≤ occurrences (w .at / 32) cells) × (w .at % 32 + 4 ≤ 32) × WritesInto cells ws
+
+-- a first part of writes into some cells is into these cells
+pub into-first : (cells : List ℕ) (k : ℕ) (ws : List Write) → WritesInto cells ws → WritesInto cells (take k ws)
+into-first cells zero ws into = tt
+into-first cells (suc k) [] into = tt
+into-first cells (suc k) (w ∷ ws) into = (into .0, into .1, into-first cells k ws (into .2))
+
+-- writes into some cells leave every other cell
+one-other : (b cells : List ℕ) (w : Write) → 1 ≤ occurrences (w .at / 32) cells → w .at % 32 + 4 ≤ 32 → (c : ℕ) → occurrences c cells ≡ 0
+    → memoryOf (withWord b (w .at) (w .word)) c ≡ memoryOf b c
+one-other b cells w here inside c none =
+    ap (λ (at : ℕ). memoryOf (withWord b at (w .word)) c) (sym (cell-kind (w .at)))
+    ∙ memory-written-other b (w .at / 32) c (w .at % 32) (w .word) (λ e. omega (arith, here, none, ap (λ (d : ℕ). occurrences d cells) e)) inside
+
+pub into-others : (cells : List ℕ) (ws : List Write) → WritesInto cells ws → (b : List ℕ) (c : ℕ) → occurrences c cells ≡ 0
+    → memoryOf (written b ws) c ≡ memoryOf b c
+unfolding written
+into-others cells [] into b c none = refl
+into-others cells (w ∷ ws) into b c none =
+    into-others cells ws (into .2) (withWord b (w .at) (w .word)) c none ∙ one-other b cells w (into .0) (into .1) c none
 
 into-append : (cells : List ℕ) (xs ys : List Write) → WritesInto cells xs → WritesInto cells ys → WritesInto cells (xs ++ ys)
 into-append cells [] ys x y = y

@@ -1,18 +1,15 @@
 -- A driver that is cut short: what it leaves after any first part of a list's stores, and after the last.
-use mathlib.Core.Path.{_≡_, refl, sym, ap, _∙_, subst}
-use mathlib.Core.List.{List, [], _∷_}
-use Prim.Native.Nat.{ℕ, zero, suc, _+_, _/_, _%_, _≤_, _<_}
+use mathlib.Core.Path.{_≡_, sym, ap, _∙_, subst}
+use mathlib.Core.List.{List}
+use Prim.Native.Nat.{ℕ, _≤_, _<_}
 use native.Mathlib.Omega.{arith}
 use lib.ListN.{length, take}
 use lib.Seq.{take-append-le, take-length}
 use Rattle.cells.specs.Bytes.{IsBytes}
-use Rattle.cells.specs.Word.{withWord}
 use Rattle.cells.specs.Memory.{memoryOf}
 use Rattle.cells.specs.Occurrences.{occurrences}
-use Rattle.cells.specs.Writes.{Write, written}
+use Rattle.cells.specs.Writes.{written}
 use Rattle.cells.proofs.CellWrites.{written-length, written-bytes}
-use Rattle.cells.proofs.Memory.{memory-written-other}
-use Rattle.cells.proofs.Pointers.{cell-kind}
 use Rattle.updates.specs.Commit.{buildWrites}
 use Rattle.updates.proofs.Commit.{numbers-taken}
 use Rattle.blocks.specs.Trailer.{layoutOf, inUse}
@@ -23,7 +20,7 @@ use Rattle.store.specs.Free.{free}
 use Rattle.store.specs.Committed.{numbering, commitWrites}
 use Rattle.store.specs.Insert.{blockBuild, insert}
 use Rattle.store.proofs.InsertCall.{insert-done, insert-number, insert-laid}
-use Rattle.store.proofs.FreeWrites.{WritesInto, into-build, writes-free}
+use Rattle.store.proofs.FreeWrites.{WritesInto, into-first, into-others, into-build, writes-free}
 use Rattle.write_lists.specs.WriteList.{insertWrites, writeList}
 use Rattle.write_lists.specs.Driven.{driven}
 use Rattle.write_lists.specs.OnlyFree.{OnlyFree}
@@ -32,26 +29,6 @@ use Rattle.write_lists.proofs.ListWrites.{build-writes-length}
 use Rattle.write_lists.proofs.WriteListCall.{list-zero, list-inserts, list-change, list-bytes, list-count, list-length, list-fits, list-small}
 use Rattle.write_lists.proofs.OnlyFree.{only-free-after}
 use Rattle.write_lists.proofs.Again.{insert-again, write-list-again}
-
--- a first part of writes into some cells is into these cells
-into-first : (cells : List ℕ) (k : ℕ) (ws : List Write) → WritesInto cells ws → WritesInto cells (take k ws)
-into-first cells zero ws into = tt
-into-first cells (suc k) [] into = tt
-into-first cells (suc k) (w ∷ ws) into = (into .0, into .1, into-first cells k ws (into .2))
-
--- writes into some cells leave every other cell
-one-other : (b cells : List ℕ) (w : Write) → 1 ≤ occurrences (w .at / 32) cells → w .at % 32 + 4 ≤ 32 → (c : ℕ) → occurrences c cells ≡ 0
-    → memoryOf (withWord b (w .at) (w .word)) c ≡ memoryOf b c
-one-other b cells w here inside c none =
-    ap (λ (at : ℕ). memoryOf (withWord b at (w .word)) c) (sym (cell-kind (w .at)))
-    ∙ memory-written-other b (w .at / 32) c (w .at % 32) (w .word) (λ e. omega (arith, here, none, ap (λ (d : ℕ). occurrences d cells) e)) inside
-
-into-others : (cells : List ℕ) (ws : List Write) → WritesInto cells ws → (b : List ℕ) (c : ℕ) → occurrences c cells ≡ 0
-    → memoryOf (written b ws) c ≡ memoryOf b c
-unfolding written
-into-others cells [] into b c none = refl
-into-others cells (w ∷ ws) into b c none =
-    into-others cells ws (into .2) (withWord b (w .at) (w .word)) c none ∙ one-other b cells w (into .0) (into .1) c none
 
 module _ (b key : List ℕ) (value : ℕ) (list : List ℕ) (bytes : IsBytes b) (is-bytes : IsBytes key) (done : writeList b key value list .answer ≡ 0) where
   -- the stores made are the first writes of the insertion

@@ -3,11 +3,12 @@ use mathlib.Core.Path.{_≡_, refl, sym, _∙_}
 use mathlib.Core.Bool.{Bool, true, false}
 use mathlib.Core.List.{List}
 use Prim.Native.Nat.{ℕ, _+_, _*_, _/_, _%_, _≤_, _<_}
-use native.Mathlib.Decide.{decLt, ℕ-discrete}
+use native.Mathlib.Decide.{ℕ-discrete}
 use native.Mathlib.Omega.{arith}
 use lib.ListN.{length, getD}
 use lib.Seq.{ext-getD}
 use Rattle.cells.specs.Bytes.{IsBytes}
+use Rattle.cells.proofs.Choice.{less-or}
 use Rattle.blocks.specs.Trailer.{rootAt, layoutOf}
 use Rattle.blocks.specs.Refusal.{badNewKey, badValue}
 use Rattle.blocks.specs.Tables.{PassesKey}
@@ -18,13 +19,6 @@ use Rattle.store.specs.Insert.{cellsFree, cellsToInsert, insert}
 use Rattle.write_lists.specs.WriteList.{WriteList, recordsFor, writeList}
 use Rattle.write_lists.specs.Tables.{Stores, Lists, WriteListTable}
 use Rattle.write_lists.proofs.WriteListCall.{write-list-table}
-
--- a number is less than another, or at least that
-less-or : (m n : ℕ) {Goal : Type 0} → (m < n → Goal) → (n ≤ m → Goal) → Goal
-less-or m n below above = elim (decLt m n) [
-  | yes less ↦ below less
-  | no other ↦ above (omega arith)
-]
 
 -- lists of bytes that store the same at a place have the same bytes there
 record-told : (inserted l m : List ℕ) (place at : ℕ) → IsBytes l → IsBytes m → Stores inserted l place at → Stores inserted m place at

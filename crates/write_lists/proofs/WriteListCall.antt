@@ -66,7 +66,7 @@ module _ (b key : List ℕ) (value : ℕ) (list : List ℕ) where
       let e = list-not-done (λ z. n (list-number ∙ z)) in
       (ap (λ (r : WriteList). r .records) e, ap (λ (r : WriteList). r .list) e)
 
-  -- 0 exactly where the insertion finds room and the list has it
+  -- where it is 0, the insertion finds room and the list has it
   pub list-zero : writeList b key value list .answer ≡ 0
       → Finds b (MayInsert key value) (cellsToInsert b key) × (8 * recordsFor (cellsToInsert b key) ≤ length list)
   list-zero e =

@@ -13,7 +13,7 @@ use Rattle.store.specs.Insert.{insert}
 use Rattle.write_lists.specs.WriteList.{WriteList, writeList}
 use Rattle.write_lists.specs.Driven.{driven}
 use Rattle.write_lists.specs.Computing.{listsOpen}
-use Rattle.write_lists.specs.Examples.{eightCells, blockE, listOf41}
+use Rattle.write_lists.specs.Examples.{eightCells, blockE, listOf41, cellRecords}
 
 -- E's block with other words in cell 2 and another root word
 abbrev after : ℕ → ℕ → ℕ → ℕ → ℕ → List ℕ
@@ -100,25 +100,9 @@ held = slotted (replicate 32 0xA5) (replicate 32 0xA5) 0x00000039
 -- the list of 43 with 5 for it: the cells 2 and 4, then the root word
 abbrev listOf43 : List ℕ
 listOf43 =
-    words
-    (0x00000040 ∷ 0x00000005
-    ∷ 0x00000044 ∷ 0xFF000000
-    ∷ 0x00000048 ∷ 0x00000000
-    ∷ 0x0000004C ∷ 0x00000000
-    ∷ 0x00000050 ∷ 0x00000000
-    ∷ 0x00000054 ∷ 0x00000000
-    ∷ 0x00000058 ∷ 0x00000000
-    ∷ 0x0000005C ∷ 0x0000003A
-    ∷ 0x00000080 ∷ 0x00000000
-    ∷ 0x00000084 ∷ 0x00000000
-    ∷ 0x00000088 ∷ 0x00000000
-    ∷ 0x0000008C ∷ 0x00000000
-    ∷ 0x00000090 ∷ 0x00000000
-    ∷ 0x00000094 ∷ 0x00000000
-    ∷ 0x00000098 ∷ 0x00000043
-    ∷ 0x0000009C ∷ 0x0000005F
-    ∷ 0x000000E0 ∷ 0x0000009B
-    ∷ [])
+    cellRecords 0x00000040 0x00000005 0xFF000000 0 0 0 0 0 0x0000003A
+    ++ cellRecords 0x00000080 0 0 0 0 0 0 0x00000043 0x0000005F
+    ++ words (0x000000E0 ∷ 0x0000009B ∷ [])
 
 -- 02, 6: "Cells come in the order taken": a cell that a slot holds is not among them
 pub list-around-slot :

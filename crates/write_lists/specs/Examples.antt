@@ -2,7 +2,7 @@
 -- `DrivenExamples`.
 use mathlib.Core.Path.{_≡_, refl}
 use mathlib.Core.List.{List, [], _∷_, _++_, map}
-use Prim.Native.Nat.{ℕ}
+use Prim.Native.Nat.{ℕ, _+_}
 use lib.ListN.{replicate}
 use Rattle.cells.specs.Bytes.{zeros}
 use Rattle.nodes.specs.Written.{words, eightWords, chainBytes}
@@ -62,30 +62,19 @@ pub list-of-41 :
 unfolding listsOpen
 list-of-41 = refl
 
+-- the records of a cell's eight words, the first at a byte position
+abbrev pub cellRecords : ℕ → ℕ → ℕ → ℕ → ℕ → ℕ → ℕ → ℕ → ℕ → List ℕ
+cellRecords at a b c d e f g h =
+    words (at ∷ a ∷ (at + 4) ∷ b ∷ (at + 8) ∷ c ∷ (at + 12) ∷ d ∷ (at + 16) ∷ e ∷ (at + 20) ∷ f ∷ (at + 24) ∷ g ∷ (at + 28) ∷ h ∷ [])
+
 -- 02, 6: "The answer counts the records: 8 for each cell taken, plus 1.": E, 43 with 5: the cells 2 and 3, then the root word; in 137 bytes and 135
 pub list-of-43 :
     _≡_ {A = List WriteList}
     (map (λ size. writeList blockE (0x43 ∷ []) 5 (lent size)) (137 ∷ 135 ∷ []))
     (done 17
-    (words
-    (0x00000040 ∷ 0x00000005
-    ∷ 0x00000044 ∷ 0xFF000000
-    ∷ 0x00000048 ∷ 0x00000000
-    ∷ 0x0000004C ∷ 0x00000000
-    ∷ 0x00000050 ∷ 0x00000000
-    ∷ 0x00000054 ∷ 0x00000000
-    ∷ 0x00000058 ∷ 0x00000000
-    ∷ 0x0000005C ∷ 0x0000003A
-    ∷ 0x00000060 ∷ 0x00000000
-    ∷ 0x00000064 ∷ 0x00000000
-    ∷ 0x00000068 ∷ 0x00000000
-    ∷ 0x0000006C ∷ 0x00000000
-    ∷ 0x00000070 ∷ 0x00000000
-    ∷ 0x00000074 ∷ 0x00000000
-    ∷ 0x00000078 ∷ 0x00000043
-    ∷ 0x0000007C ∷ 0x0000005F
-    ∷ 0x000000E0 ∷ 0x0000007B
-    ∷ [])
+    (cellRecords 0x00000040 0x00000005 0xFF000000 0 0 0 0 0 0x0000003A
+    ++ cellRecords 0x00000060 0 0 0 0 0 0 0x00000043 0x0000005F
+    ++ words (0x000000E0 ∷ 0x0000007B ∷ [])
     ++ (0xEE ∷ []))
     ∷ refusedWith 15 (lent 135)
     ∷ [])
@@ -125,18 +114,7 @@ refused = refl
 pub list-of-run :
     _≡_ {A = WriteList}
     (writeList (eightCells (zeros 32) (zeros 32) 0x00000000) (0x43 ∷ 0x48 ∷ 0x41 ∷ []) 0 (lent 72))
-    (done 9
-    (words
-    (0x00000020 ∷ 0x00000000
-    ∷ 0x00000024 ∷ 0x00000000
-    ∷ 0x00000028 ∷ 0x00000000
-    ∷ 0x0000002C ∷ 0x00000000
-    ∷ 0x00000030 ∷ 0x00000000
-    ∷ 0x00000034 ∷ 0x00000000
-    ∷ 0x00000038 ∷ 0x00434841
-    ∷ 0x0000003C ∷ 0xFFFFFFFF
-    ∷ 0x000000E0 ∷ 0x00000039
-    ∷ [])))
+    (done 9 (cellRecords 0x00000020 0 0 0 0 0 0 0x00434841 0xFFFFFFFF ++ words (0x000000E0 ∷ 0x00000039 ∷ [])))
 unfolding listsOpen
 list-of-run = refl
 
@@ -153,24 +131,8 @@ pub list-of-embedded :
     _≡_ {A = WriteList}
     (writeList editionTwo (0x43 ∷ 0x48 ∷ 0x41 ∷ []) 0 (lent 136))
     (done 17
-    (words
-    (0x00000040 ∷ 0x00000005
-    ∷ 0x00000044 ∷ 0x1A000000
-    ∷ 0x00000048 ∷ 0x00000000
-    ∷ 0x0000004C ∷ 0x00000000
-    ∷ 0x00000050 ∷ 0x00000000
-    ∷ 0x00000054 ∷ 0x00000000
-    ∷ 0x00000058 ∷ 0x00004841
-    ∷ 0x0000005C ∷ 0xFFFFFFFF
-    ∷ 0x00000060 ∷ 0x00000000
-    ∷ 0x00000064 ∷ 0x00000000
-    ∷ 0x00000068 ∷ 0x00000000
-    ∷ 0x0000006C ∷ 0x00000000
-    ∷ 0x00000070 ∷ 0x00000000
-    ∷ 0x00000074 ∷ 0x00000000
-    ∷ 0x00000078 ∷ 0x00000043
-    ∷ 0x0000007C ∷ 0x0000005F
-    ∷ 0x00000080 ∷ 0x0000007B
-    ∷ [])))
+    (cellRecords 0x00000040 0x00000005 0x1A000000 0 0 0 0 0x00004841 0xFFFFFFFF
+    ++ cellRecords 0x00000060 0 0 0 0 0 0 0x00000043 0x0000005F
+    ++ words (0x00000080 ∷ 0x0000007B ∷ [])))
 unfolding listsOpen
 list-of-embedded = refl

@@ -1,3 +1,3 @@
 // An insertion as a list of stores.
-pub mod listing;
+mod listing;
 pub mod write_list;
