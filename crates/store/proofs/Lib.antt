@@ -1,6 +1,7 @@
 pub mod Computed
 pub mod CallAnswers
 pub mod Free
+pub mod AsBefore
 pub mod Format
 pub mod Committed
 pub mod ChangeCall

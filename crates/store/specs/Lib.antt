@@ -1,4 +1,5 @@
 pub mod Free
+pub mod LowestFirst
 pub mod Format
 pub mod Insert
 pub mod Remove
