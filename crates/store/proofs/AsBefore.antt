@@ -1,8 +1,9 @@
 -- What the order of allocation leaves as it was: the cells that are free, how many they are, and so when an insertion or a removal lacks room.
-use mathlib.Core.Path.{_≡_, sym, ap, _∙_, subst}
-use mathlib.Core.Logic.{⊎-elim}
+use mathlib.Core.Path.{_≡_, refl, sym, ap, _∙_, subst}
+use mathlib.Core.Logic.{_≢_, ⊎-elim}
 use mathlib.Core.Bool.{Bool, true, false}
 use mathlib.Core.List.{List, _++_}
+use mathlib.Core.Option.{none}
 use Prim.Native.Nat.{ℕ, _+_, _-_, _%_, _≤_, _<_}
 use native.Mathlib.Nat.{mod-eq-of-lt, add-mod-right}
 use native.Mathlib.Omega.{arith}
@@ -12,13 +13,19 @@ use lib.Seq.{getD-append-add}
 use Rattle.cells.specs.Occurrences.{occurrences, select, countUp}
 use Rattle.cells.proofs.Choice.{less-or}
 use Rattle.cells.proofs.Occurrences.{occurrences-append}
-use Rattle.cells.proofs.Selected.{select-append, count-up-append, count-up-length, count-up-at}
+use Rattle.cells.proofs.Selected.{select-passed, select-failed, select-append, count-up-append, count-up-length, count-up-at}
 use Rattle.nodes.specs.Layout.{Layout, trailerCells}
 use Rattle.blocks.specs.Trailer.{layoutOf, rootWord}
 use Rattle.blocks.specs.Sound.{reachable}
+use Rattle.blocks.specs.Refusal.{badKey, badNewKey, badValue}
+use Rattle.blocks.specs.Read.{shown}
+use Rattle.blocks.specs.Tables.{Exactly, PassesKey}
 use Rattle.store.specs.Free.{firstTried, allocationOrder, free}
-use Rattle.store.specs.LowestFirst.{lowestFirst, freeBefore}
+use Rattle.store.specs.LowestFirst.{lowestFirst, freeBefore, cellsFreeBefore}
+use Rattle.store.specs.Insert.{cellsToInsert, insert}
+use Rattle.store.specs.Remove.{cellsToRemove, remove}
 use Rattle.store.proofs.Free.{first-least, first-inside}
+use Rattle.store.proofs.WriteCalls.{insert-table, remove-table}
 
 module _ (layout : Layout) (root : ℕ) where
   -- the cells before the start
@@ -83,3 +90,37 @@ module _ (layout : Layout) (b : List ℕ) where
   pub free-many : length (free layout b) ≡ length (freeBefore layout b)
   unfolding free freeBefore
   free-many = selected-many layout (rootWord layout b) (λ c. eqb (occurrences c (reachable layout b)) 0)
+
+  -- they are the same
+  pub free-same : (c : ℕ) → occurrences c (free layout b) ≡ occurrences c (freeBefore layout b)
+  unfolding free freeBefore
+  free-same c = go (eqb (occurrences c (reachable layout b)) 0) refl
+    where
+      test : ℕ → Bool
+      test d = eqb (occurrences d (reachable layout b)) 0
+
+      go : (t : Bool) → test c ≡ t
+          → occurrences c (select test (allocationOrder layout (rootWord layout b))) ≡ occurrences c (select test (lowestFirst layout))
+      go true passes =
+          select-passed test c passes (allocationOrder layout (rootWord layout b)) ∙ order-same layout (rootWord layout b) c
+          ∙ sym (select-passed test c passes (lowestFirst layout))
+      go false fails =
+          select-failed test c fails (allocationOrder layout (rootWord layout b)) ∙ sym (select-failed test c fails (lowestFirst layout))
+
+-- so an insertion and a removal lack room just where they did
+pub insert-no-room : (b key : List ℕ) (value : ℕ)
+    → Exactly (insert b key value .answer) 7
+    (PassesKey b (badNewKey key) × ((badValue value ≡ false) × (cellsFreeBefore b < cellsToInsert b key)))
+insert-no-room b key value =
+    subst
+    (λ (n : ℕ). Exactly (insert b key value .answer) 7 (PassesKey b (badNewKey key) × ((badValue value ≡ false) × (n < cellsToInsert b key))))
+    (free-many (layoutOf b) b)
+    (insert-table b key value .no-room)
+
+pub remove-no-room : (b key : List ℕ)
+    → Exactly (remove b key .answer) 7 (PassesKey b (badKey key) × ((shown b key ≢ none) × (cellsFreeBefore b < cellsToRemove b key)))
+remove-no-room b key =
+    subst
+    (λ (n : ℕ). Exactly (remove b key .answer) 7 (PassesKey b (badKey key) × ((shown b key ≢ none) × (n < cellsToRemove b key))))
+    (free-many (layoutOf b) b)
+    (remove-table b key .no-room)

@@ -29,7 +29,7 @@ module _ (layout : Layout) (root : ℕ) where
   first-least = go (usable layout (root / 32)) refl
     where
       go : (t : Bool) → usable layout (root / 32) ≡ t → 1 ≤ cond t (root / 32 + 1) 1
-      go true e = omega arith
+      go true e = omega (arith, usable-low layout (root / 32) e)
       go false e = omega arith
 
   pub first-inside : (firstTried layout root ≡ 1) ⊎ (firstTried layout root + trailerCells layout ≤ layout .cells)

@@ -1,7 +1,7 @@
 pub mod Computed
 pub mod CallAnswers
 pub mod Free
-pub mod AsBefore
+pub mod SearchStart
 pub mod Format
 pub mod Committed
 pub mod ChangeCall
@@ -20,6 +20,7 @@ pub mod RemoveCode
 pub mod FreeWrites
 pub mod WriteCalls
 pub mod Determined
+pub mod AsBefore
 pub mod MeantBlock
 pub mod InsertZeros
 pub mod RemoveZeros
