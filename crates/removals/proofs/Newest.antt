@@ -51,9 +51,9 @@ module _ (number : ℕ → ℕ) where
     -- a child changed: lost or set
     changeChild-newest : (p : Pointer) (x : ℕ) (b : Built) → 1 ≤ leastSet p → NoneOrNewest (changeChild layout number m p x b)
     unfolding changeChild loseChild
-    changeChild-newest p x b set =
+    changeChild-newest p x b least =
         cond-either (eqb (b .word) 0) (ofKept-newest _ _ (splitStays-newest (splitCell p) x (b .cells)) _ (b .cells))
-        (inr (setChild-newest number layout m p x b set))
+        (inr (setChild-newest number layout m p x b least))
 
     -- the root's node copied: it has no value, which over NONE would be a leaf and no cell
     step-newest : (word x : ℕ) (b : Built) (p : Pointer) → pointer layout word ≡ p → isRoot p ≡ true

@@ -55,16 +55,16 @@ module _ (number : ℕ → ℕ) where
     -- a child set, but for the pointers whose children are not set
     pub setChild-newest : (p : Pointer) (x : ℕ) (b : Built) → 1 ≤ leastSet p → Newest number (setChild layout number m p x b)
     unfolding setChild chainSet sparseSet splitOf splitCopied leastSet
-    setChild-newest nothing x b set = chainOver-newest x b
-    setChild-newest (leaf v) x b set = chainOver-newest x b
-    setChild-newest (chain c k) x b set =
+    setChild-newest nothing x b least = chainOver-newest x b
+    setChild-newest (leaf v) x b least = chainOver-newest x b
+    setChild-newest (chain c k) x b least =
         cond-newest (eqb x (chainCharacter (m c) k)) (chainOver-newest x b) (allocate-newest 30 _ (b .cells) (omega arith))
-    setChild-newest (split c) x b set = allocate-newest 28 _ _ (omega arith)
-    setChild-newest (sparse c) x b set =
+    setChild-newest (split c) x b least = allocate-newest 28 _ _ (omega arith)
+    setChild-newest (sparse c) x b least =
         cond-newest (ltb (positionOf (m c) (sparseCount (m c)) 0 x) (sparseCount (m c))) (allocate-newest 30 _ (b .cells) (omega arith))
         (cond-newest (ltb (sparseCount (m c)) 6) (allocate-newest 30 _ (b .cells) (omega arith)) (allocate-newest 28 _ _ (omega arith)))
-    setChild-newest (prefix c) x b set = absurd (omega arith)
-    setChild-newest invalid x b set = absurd (omega arith)
+    setChild-newest (prefix c) x b least = absurd (omega arith)
+    setChild-newest invalid x b least = absurd (omega arith)
 
     -- a value over any build: in a new cell, or in the newest
     before-newest : (v word : ℕ) (cells : List (List ℕ)) → Newest number (prefixBefore number v word cells)
