@@ -21,6 +21,7 @@ pub mod FreeWrites
 pub mod WriteCalls
 pub mod Determined
 pub mod AsBefore
+pub mod GoesOn
 pub mod MeantBlock
 pub mod InsertZeros
 pub mod RemoveZeros

@@ -48,7 +48,7 @@ module _ (layout : Layout) (word : ℕ) where
   named-usable invalid named root other = absurd-false root
 
   -- the search starts after it
-  first-after : usable layout (word / 32) ≡ true → firstTried layout word ≡ word / 32 + 1
+  pub first-after : usable layout (word / 32) ≡ true → firstTried layout word ≡ word / 32 + 1
   unfolding firstTried
   first-after u = rw u
 
@@ -58,7 +58,7 @@ unfolding firstTried
 first-none layout = ap (λ (t : Bool). cond t 1 1) (sym (unusable-low layout 0 (omega arith)))
 
 module _ (b : List ℕ) (valid : sound b ≡ true) where
-  root-of : RootParts (layoutOf b) (memoryOf b) (rootWord (layoutOf b) b)
+  pub root-of : RootParts (layoutOf b) (memoryOf b) (rootWord (layoutOf b) b)
   root-of = root-parts (layoutOf b) (memoryOf b) (rootWord (layoutOf b) b) (sound-parts (layoutOf b) b valid .root)
 
   pub empty-starts : IsBytes b → ((key : List ℕ) → shown b key ≡ none) → firstTried (layoutOf b) (rootWord (layoutOf b) b) ≡ 1
