@@ -5,9 +5,8 @@ use mathlib.Core.Logic.{_≢_, _⊎_, inl, inr, ⊎-elim}
 use mathlib.Core.Bool.{true}
 use mathlib.Core.List.{List}
 use mathlib.Core.Option.{Option, none, some}
-use Prim.Native.Nat.{ℕ, _+_, _-_, _/_, _≤_, _<_}
+use Prim.Native.Nat.{ℕ, _+_, _-_, _/_, _<_}
 use native.Mathlib.Omega.{arith}
-use lib.ListN.{getD}
 use lib.Seq.{take-length}
 use Rattle.cells.specs.Bytes.{IsBytes}
 use Rattle.cells.specs.Memory.{memoryOf}
@@ -23,7 +22,8 @@ use Rattle.updates.specs.Built.{Built}
 use Rattle.updates.proofs.Newest.{Newest, build-newest}
 use Rattle.removals.proofs.Newest.{removal-newest}
 use Rattle.blocks.specs.Trailer.{layoutOf, rootWord}
-use Rattle.store.specs.Free.{firstTried, free}
+use Rattle.store.specs.Free.{free}
+use Rattle.store.specs.GoesOn.{lastTaken, GoesOn}
 use Rattle.store.specs.Insert.{cellsFree, blockBuild, insert}
 use Rattle.store.specs.Remove.{blockRemoval, remove}
 use Rattle.store.specs.Committed.{numbering}
@@ -38,16 +38,6 @@ use Rattle.store.proofs.TakenZeros.{root-made}
 -- the root word of a block
 abbrev rootOf : List ℕ → ℕ
 rootOf b = rootWord (layoutOf b) b
-
--- the last of so many cells that a call takes of those free in a block
-abbrev lastTaken : List ℕ → ℕ → ℕ
-lastTaken b count = getD (free (layoutOf b) b) (count - 1) 0
-
--- after a call that took so many cells of a block, one at least, the root's own cell is the last of them, and the next search starts behind it
-record GoesOn (b : List ℕ) (count : ℕ) (after : List ℕ) : Type 0 where
-  some-taken : 1 ≤ count
-  own : rootOf after / 32 ≡ lastTaken b count
-  next : firstTried (layoutOf after) (rootOf after) ≡ lastTaken b count + 1
 
 -- a root is not invalid
 root-named : (p : Pointer) → isRoot p ≡ true → p ≢ invalid
@@ -73,48 +63,31 @@ module _ (b key : List ℕ) (x : Built) (given : Option ℕ) (bytes : IsBytes b)
       let good : usable (layoutOf after) (rootOf after / 32) ≡ true =
       ap (λ (l : Layout). usable l (rootOf after / 32)) same ∙ ap (usable (layoutOf b)) own
       ∙ free-usable (layoutOf b) b (lastTaken b count) (occurrences-at (free (layoutOf b) b) (count - 1) 0 inside) in
-      record { some-taken = omega (arith, newest .some, laid .counted); own = own; next = first-after (layoutOf after) (rootOf after) good ∙ ap (λ (c : ℕ). c + 1) own }
+      record {
+        some-taken = omega (arith, newest .some, laid .counted);
+        own-cell = own;
+        next-start = first-after (layoutOf after) (rootOf after) good ∙ ap (λ (c : ℕ). c + 1) own;
+      }
 
 -- an accepted insertion
-module _ (b key : List ℕ) (value : ℕ) (bytes : IsBytes b) (is-bytes : IsBytes key) (done : insert b key value .answer ≡ 0) where
-  inserted : GoesOn b (insert b key value .count) (insert b key value .block)
-  unfolding blockBuild
-  inserted =
-      let change = inserted-change b key value bytes is-bytes (insert-zero b key value .only done) in
-      newest-goes-on b key (blockBuild b key value) (some value) bytes change (insert b key value .count) (insert b key value .block)
-      (insert-laid b key value bytes is-bytes done) (insert-after b key value bytes is-bytes done .layout)
-      (build-newest (numbering b) (layoutOf b) (memoryOf b) (rootOf b) key value (change .some-key) (root-named _ (root-of b (change .valid) .root)))
-
-  pub insert-takes : 1 ≤ insert b key value .count
-  insert-takes = inserted .some-taken
-
-  pub insert-goes-on : rootOf (insert b key value .block) / 32 ≡ lastTaken b (insert b key value .count)
-  insert-goes-on = inserted .own
-
-  pub insert-next-start :
-      firstTried (layoutOf (insert b key value .block)) (rootOf (insert b key value .block)) ≡ lastTaken b (insert b key value .count) + 1
-  insert-next-start = inserted .next
+pub insert-goes-on : (b key : List ℕ) (value : ℕ) → IsBytes b → IsBytes key → insert b key value .answer ≡ 0
+    → GoesOn b (insert b key value .count) (insert b key value .block)
+unfolding blockBuild
+insert-goes-on b key value bytes is-bytes done =
+    let change = inserted-change b key value bytes is-bytes (insert-zero b key value .only done) in
+    newest-goes-on b key (blockBuild b key value) (some value) bytes change (insert b key value .count) (insert b key value .block)
+    (insert-laid b key value bytes is-bytes done) (insert-after b key value bytes is-bytes done .layout)
+    (build-newest (numbering b) (layoutOf b) (memoryOf b) (rootOf b) key value (change .some-key) (root-named _ (root-of b (change .valid) .root)))
 
 -- an accepted removal, which may leave no tree
-module _ (b key : List ℕ) (bytes : IsBytes b) (is-bytes : IsBytes key) (done : remove b key .answer ≡ 0) where
-  removed : (rootOf (remove b key .block) ≡ 0) ⊎ GoesOn b (remove b key .count) (remove b key .block)
-  unfolding blockRemoval
-  removed =
-      let change = removed-change b key bytes is-bytes (remove-zero b key .only done) in
-      let laid = remove-laid b key bytes is-bytes done in
-      let same = remove-after b key bytes is-bytes done .layout in
-      ⊎-elim
-      (λ nowhere. inl (root-is b key (blockRemoval b key) none bytes change (remove b key .count) (remove b key .block) laid same ∙ nowhere))
-      (λ newest. inr (newest-goes-on b key (blockRemoval b key) none bytes change (remove b key .count) (remove b key .block) laid same newest))
-      (removal-newest (numbering b) (layoutOf b) (memoryOf b) (rootOf b) key (change .some-key) (root-of b (change .valid) .root))
-
-  pub remove-takes : (rootOf (remove b key .block) ≡ 0) ⊎ (1 ≤ remove b key .count)
-  remove-takes = ⊎-elim (λ nowhere. inl nowhere) (λ goes. inr (goes .some-taken)) removed
-
-  pub remove-goes-on : (rootOf (remove b key .block) ≡ 0) ⊎ (rootOf (remove b key .block) / 32 ≡ lastTaken b (remove b key .count))
-  remove-goes-on = ⊎-elim (λ nowhere. inl nowhere) (λ goes. inr (goes .own)) removed
-
-  pub remove-next-start :
-      (rootOf (remove b key .block) ≡ 0)
-      ⊎ (firstTried (layoutOf (remove b key .block)) (rootOf (remove b key .block)) ≡ lastTaken b (remove b key .count) + 1)
-  remove-next-start = ⊎-elim (λ nowhere. inl nowhere) (λ goes. inr (goes .next)) removed
+pub remove-goes-on : (b key : List ℕ) → IsBytes b → IsBytes key → remove b key .answer ≡ 0
+    → (rootWord (layoutOf (remove b key .block)) (remove b key .block) ≡ 0) ⊎ GoesOn b (remove b key .count) (remove b key .block)
+unfolding blockRemoval
+remove-goes-on b key bytes is-bytes done =
+    let change = removed-change b key bytes is-bytes (remove-zero b key .only done) in
+    let laid = remove-laid b key bytes is-bytes done in
+    let same = remove-after b key bytes is-bytes done .layout in
+    ⊎-elim
+    (λ nowhere. inl (root-is b key (blockRemoval b key) none bytes change (remove b key .count) (remove b key .block) laid same ∙ nowhere))
+    (λ newest. inr (newest-goes-on b key (blockRemoval b key) none bytes change (remove b key .count) (remove b key .block) laid same newest))
+    (removal-newest (numbering b) (layoutOf b) (memoryOf b) (rootOf b) key (change .some-key) (root-of b (change .valid) .root))

@@ -1,7 +1,7 @@
 -- What is proved of making a fresh block, of an insertion and of a removal, on any bytes: each meets its table of answers, and whatever meets the
 -- table is the call, in its answer, its count and every byte of the block; and of the order in which cells are taken.
 use mathlib.Core.Path.{_≡_}
-use mathlib.Core.Logic.{_≢_}
+use mathlib.Core.Logic.{_≢_, _⊎_}
 use mathlib.Core.Bool.{true, false}
 use mathlib.Core.List.{List}
 use mathlib.Core.Option.{none}
@@ -18,6 +18,7 @@ use Rattle.blocks.specs.Read.{shown}
 use Rattle.blocks.specs.Tables.{Exactly, PassesKey}
 use Rattle.store.specs.Free.{firstTried, allocationOrder, free}
 use Rattle.store.specs.LowestFirst.{freeBefore, cellsFreeBefore}
+use Rattle.store.specs.GoesOn.{GoesOn}
 use Rattle.store.specs.Format.{format}
 use Rattle.store.specs.Committed.{numbering}
 use Rattle.store.specs.Insert.{cellsToInsert, insert}
@@ -27,6 +28,7 @@ use Rattle.store.specs.Tables.{FreshLeft, FormatTable, InsertTable, Remo
 use Rattle.store.proofs.WriteCalls.{format-table, insert-table, remove-table}
 use Rattle.store.proofs.Determined as determined
 use Rattle.store.proofs.SearchStart as search-start
+use Rattle.store.proofs.GoesOn as goes-on
 use Rattle.store.proofs.AsBefore as as-before
 use Rattle.store.proofs.FreeWrites.{WritesInto}
 use Rattle.store.proofs.FreeWrites as free-writes
@@ -90,6 +92,16 @@ root-starts = search-start.root-starts
 pub order-wraps : (layout : Layout) (root place : ℕ) → place < layout .cells - 1 - trailerCells layout
     → getD (allocationOrder layout root) place 0 ≡ 1 + (firstTried layout root - 1 + place) % (layout .cells - 1 - trailerCells layout)
 order-wraps = as-before.order-at
+
+-- what the order is for: the search of each call goes on behind the cell that the call before took last, so that the cells are taken in turn
+pub insert-goes-on : (b key : List ℕ) (value : ℕ) → IsBytes b → IsBytes key → insert b key value .answer ≡ 0
+    → GoesOn b (insert b key value .count) (insert b key value .block)
+insert-goes-on = goes-on.insert-goes-on
+
+-- the same of a removal, where it leaves a root
+pub remove-goes-on : (b key : List ℕ) → IsBytes b → IsBytes key → remove b key .answer ≡ 0
+    → (rootWord (layoutOf (remove b key .block)) (remove b key .block) ≡ 0) ⊎ GoesOn b (remove b key .count) (remove b key .block)
+remove-goes-on = goes-on.remove-goes-on
 
 -- the cells that are free, and how many, are those of the order before, lowest first
 pub free-as-before : (layout : Layout) (b : List ℕ)

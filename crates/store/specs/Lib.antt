@@ -1,5 +1,6 @@
 pub mod Free
 pub mod LowestFirst
+pub mod GoesOn
 pub mod Format
 pub mod Insert
 pub mod Remove
