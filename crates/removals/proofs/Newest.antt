@@ -18,8 +18,7 @@ use Rattle.nodes.specs.Value.{pointerValue}
 use Rattle.trees.specs.Root.{isRoot}
 use Rattle.updates.specs.Built.{Built}
 use Rattle.updates.specs.Build.{wordAside, pathCopy}
-use Rattle.updates.proofs.Bound.{leastSet}
-use Rattle.updates.proofs.Newest.{Newest, allocate-newest, setChild-newest}
+use Rattle.updates.proofs.Newest.{Newest, takesChild, allocate-newest, setChild-newest}
 use Rattle.removals.specs.SplitLeft.{splitLeft}
 use Rattle.removals.specs.LoseChild.{ofKept, splitStays, loseChild}
 use Rattle.removals.specs.Removal.{changeChild, putBackLeft, removal}
@@ -49,21 +48,21 @@ module _ (number : ℕ → ℕ) where
     splitStays-newest (some c) x cells = inr (allocate-newest number 28 _ _ (omega arith))
 
     -- a child changed: lost or set
-    changeChild-newest : (p : Pointer) (x : ℕ) (b : Built) → 1 ≤ leastSet p → NoneOrNewest (changeChild layout number m p x b)
+    changeChild-newest : (p : Pointer) (x : ℕ) (b : Built) → takesChild p ≡ true → NoneOrNewest (changeChild layout number m p x b)
     unfolding changeChild loseChild
-    changeChild-newest p x b least =
+    changeChild-newest p x b takes =
         cond-either (eqb (b .word) 0) (ofKept-newest _ _ (splitStays-newest (splitCell p) x (b .cells)) _ (b .cells))
-        (inr (setChild-newest number layout m p x b least))
+        (inr (setChild-newest number layout m p x b takes))
 
     -- the root's node copied: it has no value, which over NONE would be a leaf and no cell
     step-newest : (word x : ℕ) (b : Built) (p : Pointer) → pointer layout word ≡ p → isRoot p ≡ true
         → NoneOrNewest (putBackLeft layout number (pointerValue m p) (changeChild layout number m (pointer layout (wordAside layout m p word)) x b))
-    unfolding putBackLeft pointerValue wordAside isRoot leastSet
-    step-newest word x b nothing is root = rw is (changeChild-newest nothing x b (omega arith))
+    unfolding putBackLeft pointerValue wordAside isRoot takesChild
+    step-newest word x b nothing is root = rw is (changeChild-newest nothing x b refl)
     step-newest word x b (leaf v) is root = absurd-false root
-    step-newest word x b (chain c k) is root = rw is (changeChild-newest (chain c k) x b (omega arith))
-    step-newest word x b (split c) is root = rw is (changeChild-newest (split c) x b (omega arith))
-    step-newest word x b (sparse c) is root = rw is (changeChild-newest (sparse c) x b (omega arith))
+    step-newest word x b (chain c k) is root = rw is (changeChild-newest (chain c k) x b refl)
+    step-newest word x b (split c) is root = rw is (changeChild-newest (split c) x b refl)
+    step-newest word x b (sparse c) is root = rw is (changeChild-newest (sparse c) x b refl)
     step-newest word x b (prefix c) is root = absurd-false root
     step-newest word x b invalid is root = absurd-false root
 

@@ -9,6 +9,7 @@ use Prim.Native.Nat.{ℕ, zero, suc, _-_, _/_, _≤_, _<_}
 use lib.Dec.{eqb, ltb}
 use lib.ListN.{length, set}
 use Rattle.cells.specs.Memory.{Memory}
+use Rattle.cells.proofs.Choice.{absurd-false}
 use Rattle.cells.proofs.Pointers.{cell-of-made}
 use Rattle.nodes.specs.Layout.{Layout}
 use Rattle.nodes.specs.Pointer.{Pointer, pointer}
@@ -23,12 +24,21 @@ use Rattle.updates.specs.SetChild.{chainSet, sparseSet, setChild}
 use Rattle.updates.specs.PrefixOver.{embeds, prefixBefore, prefixOver}
 use Rattle.updates.specs.Build.{wordAside, putBack, pathCopy, build}
 use Rattle.updates.proofs.FreeBytes.{room-most}
-use Rattle.updates.proofs.Bound.{leastSet}
 
 -- some cell is allocated, and the word names the last one
 pub record Newest (number : ℕ → ℕ) (b : Built) : Type 0 where
   pub some : 1 ≤ length (b .cells)
   pub here : b .word / 32 ≡ number (length (b .cells) - 1)
+
+-- a child can be set at these pointers
+unfoldable pub takesChild : Pointer → Bool
+takesChild nothing = true
+takesChild (leaf v) = true
+takesChild (chain c k) = true
+takesChild (split c) = true
+takesChild (sparse c) = true
+takesChild (prefix c) = false
+takesChild invalid = false
 
 module _ (number : ℕ → ℕ) where
   cond-newest : (t : Bool) {a b : Built} → Newest number a → Newest number b → Newest number (cond t a b)
@@ -52,19 +62,19 @@ module _ (number : ℕ → ℕ) where
   chainOver-newest x b = with-newest x (b .word) (roomOf b) (b .cells) (omega (arith, room-most (b .own) (b .word)))
 
   module _ (layout : Layout) (m : Memory) where
-    -- a child set, but for the pointers whose children are not set
-    pub setChild-newest : (p : Pointer) (x : ℕ) (b : Built) → 1 ≤ leastSet p → Newest number (setChild layout number m p x b)
-    unfolding setChild chainSet sparseSet splitOf splitCopied leastSet
-    setChild-newest nothing x b least = chainOver-newest x b
-    setChild-newest (leaf v) x b least = chainOver-newest x b
-    setChild-newest (chain c k) x b least =
+    -- a child set
+    pub setChild-newest : (p : Pointer) (x : ℕ) (b : Built) → takesChild p ≡ true → Newest number (setChild layout number m p x b)
+    unfolding setChild chainSet sparseSet splitOf splitCopied takesChild
+    setChild-newest nothing x b takes = chainOver-newest x b
+    setChild-newest (leaf v) x b takes = chainOver-newest x b
+    setChild-newest (chain c k) x b takes =
         cond-newest (eqb x (chainCharacter (m c) k)) (chainOver-newest x b) (allocate-newest 30 _ (b .cells) (omega arith))
-    setChild-newest (split c) x b least = allocate-newest 28 _ _ (omega arith)
-    setChild-newest (sparse c) x b least =
+    setChild-newest (split c) x b takes = allocate-newest 28 _ _ (omega arith)
+    setChild-newest (sparse c) x b takes =
         cond-newest (ltb (positionOf (m c) (sparseCount (m c)) 0 x) (sparseCount (m c))) (allocate-newest 30 _ (b .cells) (omega arith))
         (cond-newest (ltb (sparseCount (m c)) 6) (allocate-newest 30 _ (b .cells) (omega arith)) (allocate-newest 28 _ _ (omega arith)))
-    setChild-newest (prefix c) x b least = absurd (omega arith)
-    setChild-newest invalid x b least = absurd (omega arith)
+    setChild-newest (prefix c) x b takes = absurd-false takes
+    setChild-newest invalid x b takes = absurd-false takes
 
     -- a value over any build: in a new cell, or in the newest
     before-newest : (v word : ℕ) (cells : List (List ℕ)) → Newest number (prefixBefore number v word cells)
@@ -80,12 +90,12 @@ module _ (number : ℕ → ℕ) where
     -- a node copied over any build
     step-newest : (word x : ℕ) (b : Built) (p : Pointer) → pointer layout word ≡ p → p ≢ invalid
         → Newest number (putBack layout number (pointerValue m p) (setChild layout number m (pointer layout (wordAside layout m p word)) x b))
-    unfolding putBack pointerValue wordAside leastSet
-    step-newest word x b nothing is named = rw is (setChild-newest nothing x b (omega arith))
+    unfolding putBack pointerValue wordAside takesChild
+    step-newest word x b nothing is named = rw is (setChild-newest nothing x b refl)
     step-newest word x b (leaf v) is named = prefixOver-newest v _
-    step-newest word x b (chain c k) is named = rw is (setChild-newest (chain c k) x b (omega arith))
-    step-newest word x b (split c) is named = rw is (setChild-newest (split c) x b (omega arith))
-    step-newest word x b (sparse c) is named = rw is (setChild-newest (sparse c) x b (omega arith))
+    step-newest word x b (chain c k) is named = rw is (setChild-newest (chain c k) x b refl)
+    step-newest word x b (split c) is named = rw is (setChild-newest (split c) x b refl)
+    step-newest word x b (sparse c) is named = rw is (setChild-newest (sparse c) x b refl)
     step-newest word x b (prefix c) is named = prefixOver-newest _ _
     step-newest word x b invalid is named = absurd (named refl)
 

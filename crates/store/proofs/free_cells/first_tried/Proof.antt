@@ -1,5 +1,4 @@
 -- The root's own cell is usable, or there is none.
-use mathlib.Core.Path.{sym, _∙_}
 use borrow.Author.Needs.{needs}
 use Rattle.store.specs.Free.{firstTried}
 use Rattle.store.proofs.free_cells.first_tried.Statement.{statement}

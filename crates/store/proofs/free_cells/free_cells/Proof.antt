@@ -1,18 +1,12 @@
 -- The search goes up from its start and then from cell 1 up to it; what is listed second stands behind what was listed first.
 use mathlib.Core.Path.{refl}
 use mathlib.Core.Logic.{⊎-elim}
-use Prim.Native.Nat.{_≤_}
 use native.Mathlib.Omega.{arith}
 use borrow.Author.Needs.{needs}
 use Rattle.store.proofs.Free.{first-inside}
 use Rattle.store.proofs.FreeSteps.{listed-most, listed-inside, around-listed}
 use Rattle.store.proofs.free_cells.free_cells.Statement.{statement}
 use Rattle.store.proofs.free_cells.free_cells.Tie as tie
-use Rattle.store.proofs.free_cells.free_cells.Reads as reads
-use Rattle.store.proofs.free_cells.free_cells.Lts as lts
-use Rattle.nodes.proofs.layout.trailer_cells.Reads as trailer-cells-reads
-use Rattle.store.proofs.free_cells.first_tried.Reads as first-tried-reads
-use Rattle.store.proofs.free_cells.list_from.Reads as list-from-reads
 
 trailer-cells-requires : tie.Need-trailer-cells-requires
 trailer-cells-requires c κs = search needs
