@@ -22,6 +22,9 @@ pub mod WriteCalls
 pub mod Determined
 pub mod AsBefore
 pub mod GoesOn
+pub mod Rising
+pub mod Turns
+pub mod InTurn
 pub mod MeantBlock
 pub mod InsertZeros
 pub mod RemoveZeros

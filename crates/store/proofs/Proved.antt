@@ -3,13 +3,14 @@
 use mathlib.Core.Path.{_≡_}
 use mathlib.Core.Logic.{_≢_, _⊎_}
 use mathlib.Core.Bool.{true, false}
-use mathlib.Core.List.{List}
+use mathlib.Core.List.{List, [], _∷_, _++_}
 use mathlib.Core.Option.{none}
 use Prim.Native.Nat.{ℕ, _+_, _-_, _/_, _%_, _≤_, _<_}
 use lib.ListN.{length, getD}
 use Rattle.cells.specs.Bytes.{IsBytes}
 use Rattle.cells.specs.Occurrences.{occurrences}
 use Rattle.nodes.specs.Layout.{Layout, trailerCells, usable}
+use Rattle.trees.specs.Entries.{Entry}
 use Rattle.updates.specs.Commit.{buildWrites}
 use Rattle.blocks.specs.Trailer.{layoutOf, rootWord}
 use Rattle.blocks.specs.Sound.{sound}
@@ -23,12 +24,14 @@ use Rattle.store.specs.Format.{format}
 use Rattle.store.specs.Committed.{numbering}
 use Rattle.store.specs.Insert.{cellsToInsert, insert}
 use Rattle.store.specs.Remove.{cellsToRemove, remove}
+use Rattle.store.specs.InTurn.{takenBy, afterAll, takenByAll, ReachedMeanwhile, KeysAreBytes}
 use Rattle.store.specs.TakenCells.{CleanTaken}
 use Rattle.store.specs.Tables.{FreshLeft, FormatTable, InsertTable, RemoveTable}
 use Rattle.store.proofs.WriteCalls.{format-table, insert-table, remove-table}
 use Rattle.store.proofs.Determined as determined
 use Rattle.store.proofs.SearchStart as search-start
 use Rattle.store.proofs.GoesOn as goes-on
+use Rattle.store.proofs.InTurn as turns
 use Rattle.store.proofs.AsBefore as as-before
 use Rattle.store.proofs.FreeWrites.{WritesInto}
 use Rattle.store.proofs.FreeWrites as free-writes
@@ -102,6 +105,13 @@ insert-goes-on = goes-on.insert-goes-on
 pub remove-goes-on : (b key : List ℕ) → IsBytes b → IsBytes key → remove b key .answer ≡ 0
     → (rootWord (layoutOf (remove b key .block)) (remove b key .block) ≡ 0) ⊎ GoesOn b (remove b key .count) (remove b key .block)
 remove-goes-on = goes-on.remove-goes-on
+
+-- so a cell is taken a second time only after every other usable cell has been taken since, or reached as a call began
+pub in-turn : (b : List ℕ) (first : Entry) (between : List Entry) (last : Entry) → IsBytes b → KeysAreBytes (first ∷ between)
+    → (c : ℕ) → 1 ≤ occurrences c (takenBy b first) → 1 ≤ occurrences c (takenBy (afterAll b (first ∷ between)) last)
+    → (d : ℕ) → usable (layoutOf b) d ≡ true
+    → (1 ≤ occurrences d (takenByAll b (first ∷ (between ++ (last ∷ []))))) ⊎ ReachedMeanwhile d b (first ∷ (between ++ (last ∷ [])))
+in-turn = turns.in-turn
 
 -- the cells that are free, and how many, are those of the order before, lowest first
 pub free-as-before : (layout : Layout) (b : List ℕ)

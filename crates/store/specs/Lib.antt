@@ -9,4 +9,5 @@ pub mod Tables
 pub mod Computing
 pub mod Committed
 pub mod TakenCells
+pub mod InTurn
 pub mod Code
