@@ -1,23 +1,27 @@
 -- 02, 7: "Spread the wear.": a cell is taken a second time only after every other usable cell has been taken or found reached since.
 use mathlib.Core.Path.{_≡_, sym, ap, _∙_, subst}
-use mathlib.Core.Logic.{_⊎_, inl, inr, ⊎-elim}
+use mathlib.Core.Logic.{_≢_, _⊎_, inl, inr, ⊎-elim}
 use mathlib.Core.Bool.{true}
 use mathlib.Core.List.{List, [], _∷_, _++_}
-use Prim.Native.Nat.{ℕ, suc, _+_, _-_, _≤_, _<_}
+use Prim.Native.Nat.{ℕ, suc, _+_, _-_, _/_, _≤_, _<_}
 use native.Mathlib.Decide.{decLe, ℕ-discrete}
 use native.Mathlib.Omega.{arith}
-use lib.ListN.{take, drop, take-append-drop}
+use lib.ListN.{length, take, drop, take-append-drop}
 use Rattle.cells.specs.Bytes.{IsBytes}
+use Rattle.cells.specs.Memory.{memoryOf}
 use Rattle.cells.specs.Occurrences.{occurrences}
 use Rattle.cells.proofs.Occurrences.{occurrences-none, occurrences-append}
 use Rattle.nodes.specs.Layout.{Layout, usable}
 use Rattle.nodes.proofs.Pointers.{usable-inside}
 use Rattle.trees.specs.Entries.{Entry}
+use Rattle.updates.proofs.Claims.{numbers}
+use Rattle.updates.proofs.Commit.{memoryWith-other, numbers-taken}
 use Rattle.blocks.specs.Trailer.{layoutOf, rootWord}
 use Rattle.blocks.specs.Sound.{reachable}
 use Rattle.store.specs.Free.{firstTried, free}
 use Rattle.store.specs.GoesOn.{lastTaken, GoesOn}
-use Rattle.store.specs.Insert.{cellsFree}
+use Rattle.store.specs.Insert.{cellsFree, blockBuild}
+use Rattle.store.specs.Committed.{numbering}
 use Rattle.store.specs.InTurn.{insertEntry, takenBy, afterAll, takenByAll, ReachedMeanwhile, KeysAreBytes}
 use Rattle.store.proofs.Free.{free-every, free-usable}
 use Rattle.store.proofs.InsertCall.{inserted-change, insert-zero, insert-refused, insert-refused-count, insert-after, insert-laid}
@@ -129,6 +133,23 @@ module _ (b : List ℕ) (entry : Entry) where
             c-usable = ap (λ (l : Layout). usable l c) same-layout ∙ c-usable;
             less = omega (arith, next-place d, next-place c, less);
           }
+
+    -- every other cell keeps its bytes
+    others-done : (c : ℕ) → occurrences c (takenBy b entry) ≡ 0 → c ≢ length b / 32 - 1 → memoryOf after c ≡ memoryOf b c
+    others-done c left other =
+        let laid = insert-laid b (entry .key) (entry .value) bytes is-bytes done in
+        let cells = blockBuild b (entry .key) (entry .value) .cells in
+        let none : occurrences c (numbers (numbering b) cells) ≡ 0 =
+        numbers-taken (layoutOf b) (free (layoutOf b) b) c cells (omega (arith, last-free, laid .counted))
+        ∙ ap (λ (n : ℕ). occurrences c (take n (free (layoutOf b) b))) (sym (laid .counted)) ∙ left in
+        laid .cells c other ∙ memoryWith-other (numbering b) (memoryOf b) cells c none
+
+  pub others-kept : IsBytes b → IsBytes (entry .key) → (c : ℕ) → occurrences c (takenBy b entry) ≡ 0 → c ≢ length b / 32 - 1
+      → memoryOf after c ≡ memoryOf b c
+  others-kept bytes is-bytes c left other = elim (ℕ-discrete (insertEntry b entry .answer) 0) [
+    | yes done ↦ others-done bytes is-bytes done c left other
+    | no refused ↦ ap (λ (block : List ℕ). memoryOf block c) (insert-refused b (entry .key) (entry .value) refused)
+  ]
 
   -- whatever the answer, what came later does so again
   sooner-kept : IsBytes (entry .key) → (d c : ℕ) → 1 ≤ occurrences d (free (layoutOf b) b) → occurrences d (takenBy b entry) ≡ 0

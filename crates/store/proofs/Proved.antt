@@ -8,6 +8,7 @@ use mathlib.Core.Option.{none}
 use Prim.Native.Nat.{ℕ, _+_, _-_, _/_, _%_, _≤_, _<_}
 use lib.ListN.{length, getD}
 use Rattle.cells.specs.Bytes.{IsBytes}
+use Rattle.cells.specs.Memory.{memoryOf}
 use Rattle.cells.specs.Occurrences.{occurrences}
 use Rattle.nodes.specs.Layout.{Layout, trailerCells, usable}
 use Rattle.trees.specs.Entries.{Entry}
@@ -24,7 +25,7 @@ use Rattle.store.specs.Format.{format}
 use Rattle.store.specs.Committed.{numbering}
 use Rattle.store.specs.Insert.{cellsToInsert, insert}
 use Rattle.store.specs.Remove.{cellsToRemove, remove}
-use Rattle.store.specs.InTurn.{takenBy, afterAll, takenByAll, ReachedMeanwhile, KeysAreBytes}
+use Rattle.store.specs.InTurn.{insertEntry, takenBy, afterAll, takenByAll, ReachedMeanwhile, KeysAreBytes}
 use Rattle.store.specs.TakenCells.{CleanTaken}
 use Rattle.store.specs.Tables.{FreshLeft, FormatTable, InsertTable, RemoveTable}
 use Rattle.store.proofs.WriteCalls.{format-table, insert-table, remove-table}
@@ -105,6 +106,11 @@ insert-goes-on = goes-on.insert-goes-on
 pub remove-goes-on : (b key : List ℕ) → IsBytes b → IsBytes key → remove b key .answer ≡ 0
     → (rootWord (layoutOf (remove b key .block)) (remove b key .block) ≡ 0) ⊎ GoesOn b (remove b key .count) (remove b key .block)
 remove-goes-on = goes-on.remove-goes-on
+
+-- an insertion writes no cell but those that it takes, and the trailer
+pub others-kept : (b : List ℕ) (entry : Entry) → IsBytes b → IsBytes (entry .key) → (c : ℕ) → occurrences c (takenBy b entry) ≡ 0
+    → c ≢ length b / 32 - 1 → memoryOf (insertEntry b entry .block) c ≡ memoryOf b c
+others-kept = turns.others-kept
 
 -- so a cell is taken a second time only after every other usable cell has been taken since, or reached as a call began
 pub in-turn : (b : List ℕ) (first : Entry) (between : List Entry) (last : Entry) → IsBytes b → KeysAreBytes (first ∷ between)
