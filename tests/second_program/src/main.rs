@@ -39,6 +39,10 @@ mod spoilt;
 mod stored;
 mod sweeps;
 mod verdict;
+#[cfg(alone)]
+mod wear_invariants;
+#[cfg(alone)]
+mod wear_test;
 mod write_list;
 #[cfg(alone)]
 mod write_list_test;
