@@ -2,6 +2,9 @@
 use mathlib.Core.Path.{_≡_, refl}
 use mathlib.Core.List.{List, [], _∷_}
 use Prim.Native.Nat.{ℕ}
+use Rattle.blocks.specs.Trailer.{layoutOf}
+use Rattle.store.specs.Free.{free}
+use Rattle.store.specs.LowestFirst.{lowestFirst, freeBefore}
 use Rattle.store.specs.Insert.{insert}
 use Rattle.store.specs.Remove.{remove}
 use Rattle.store.specs.Computing.{callsOpen}
@@ -11,6 +14,15 @@ use Rattle.samples.specs.Calls.{freshIn, fresh, rootOf, sampleE, sampleF
 use Rattle.samples.specs.Pinned.{splitBlock}
 use Rattle.samples.specs.Told.{told, cellsIn}
 
+-- the free cells of G, in the order before and now; cell 1 holds the run of 43 48 41, cell 3 the root: "gives root 0000009E, where the old rule gave
+-- 0000005E" is that the first of them is cell 4, and was cell 2
+pub before-and-now :
+    _≡_ {A = List (List ℕ)}
+    (freeBefore (layoutOf (sampleG .block)) (sampleG .block) ∷ free (layoutOf (sampleG .block)) (sampleG .block) ∷ [])
+    ((2 ∷ 4 ∷ 5 ∷ 6 ∷ []) ∷ (4 ∷ 5 ∷ 6 ∷ 2 ∷ []) ∷ [])
+unfolding callsOpen lowestFirst freeBefore freshIn fresh sampleE sampleF sampleG
+before-and-now = refl
+
 -- a character with each of these values in turn: the root word that each leaves
 unfoldable pub rootsAfter : List ℕ → ℕ → List ℕ → List ℕ
 rootsAfter block x [] = []
@@ -18,7 +30,7 @@ rootsAfter block x (value ∷ values) =
     let after = insert block (x ∷ []) value .block in
     rootOf after ∷ rootsAfter after x values
 
--- "G, enter 35 value 3 gives root 0000009E", then 35 with 4 to 7: "wrapping from the last usable cell to cell 1", which holds the run of 43 48 41
+-- "G, enter 35 value 3 gives root 0000009E", then 35 with 4 to 7: "wrapping from the last usable cell to cell 1", which is reached
 pub again-and-again :
     _≡_ {A = List ℕ}
     (rootsAfter (sampleG .block) 0x35 (3 ∷ 4 ∷ 5 ∷ 6 ∷ 7 ∷ []))
