@@ -8,7 +8,7 @@ use native.Mathlib.Numerals.{add-one}
 use native.Mathlib.Omega.{arith}
 use lib.Dec.{eqb}
 use lib.ListN.{length, getD, set, take, length-set, length-take}
-use lib.Seq.{take-suc-set, take-all, take-append-le, length-take-le}
+use lib.Seq.{take-suc-set, take-set-le, take-all, take-append-le, length-take-le}
 use borrow.Author.Tests.{eq-eqb, ne-eqb}
 use Rattle.cells.specs.Occurrences.{occurrences, select, countUp}
 use Rattle.cells.proofs.Choice.{absurd-bool}
@@ -25,8 +25,8 @@ use Rattle.store.specs.Code.Unstamped.{isUnstamped, unstampedFrom, unsta
 use Rattle.store.specs.Code.Changeable.{FreeAnswer}
 use Rattle.store.proofs.Free.{order-only}
 
--- one number more in an array that has room for it
-pub listed-more : (numbers after : List ℕ) (count next cell : ℕ) → after ≡ set numbers count cell → next ≡ count + 1 → count < length numbers
+-- one number more at most in an array that has room for it
+pub listed-more : (numbers after : List ℕ) (count next cell : ℕ) → after ≡ set numbers count cell → next ≤ count + 1 → count < length numbers
     → next ≤ length after
 listed-more numbers after count next cell is counted inside =
     omega (arith, counted, ap (λ (l : List ℕ). length l) is, length-set numbers count cell)
@@ -54,11 +54,13 @@ module _ (test : ℕ → Bool) (goal : List ℕ) where
       (sym (ap (select test) (count-up-more left more cell e) ∙ select-kept test cell (countUp more (cell + 1)) passes))
       ∙ so-far
 
+  -- what is written behind the list is no part of it
   pub walk-dropped : (numbers after : List ℕ) (count next left more cell : ℕ) → Walked numbers count left cell → test cell ≡ false
-      → after ≡ numbers → next ≡ count → left ≡ more + 1 → Walked after next more (cell + 1)
+      → after ≡ set numbers count cell → next ≡ count → left ≡ more + 1 → Walked after next more (cell + 1)
   walk-dropped numbers after count next left more cell so-far fails is counted e =
       ap (λ (n : ℕ). take n after ++ select test (countUp more (cell + 1))) counted
       ∙ ap (λ (l : List ℕ). take count l ++ select test (countUp more (cell + 1))) is
+      ∙ ap (λ (l : List ℕ). l ++ select test (countUp more (cell + 1))) (take-set-le count numbers count cell (omega arith))
       ∙ ap (λ (l : List ℕ). take count numbers ++ l)
       (sym (ap (select test) (count-up-more left more cell e) ∙ select-dropped test cell (countUp more (cell + 1)) fails))
       ∙ so-far

@@ -41,7 +41,8 @@ fn first_tried(layout: Layout, root: u32) -> usize
     1
 }
 
-// Lists the cells without a stamp from one up to another behind those listed already, as far as there is room, and counts all.
+// Lists the cells without a stamp from one up to another behind those listed already, as far as there is room, and counts all. Each cell is
+// written down and only then counted or not: which are free is hard to foretell, and a processor that guesses wrong has to wait.
 fn list_from(
     stamps: &[u8; CELL_LIMIT],
     numbers: &mut [u16; STAGE_CELLS],
@@ -58,8 +59,8 @@ fn list_from(
         if count == STAGE_CELLS {
             return count;
         }
+        put_number(numbers, count, cell as u16);
         if stamps[cell] == 0 {
-            put_number(numbers, count, cell as u16);
             count += 1;
         }
         cell += 1;

@@ -1,8 +1,8 @@
 -- The cells listed so far, and those left to look at, are all that are to be listed; the list ends where it is full.
-use mathlib.Core.Path.{refl, ap, _∙_}
+use mathlib.Core.Path.{refl}
 use mathlib.Core.Logic.{⊎-elim}
-use mathlib.Core.List.{List, _++_}
-use Prim.Native.Nat.{ℕ, _-_, _≤_}
+use mathlib.Core.List.{_++_}
+use Prim.Native.Nat.{_-_, _≤_}
 use native.Mathlib.Omega.{arith}
 use lib.ListN.{length, take}
 use borrow.Author.Needs.{needs}
@@ -31,14 +31,14 @@ returns c =
     let turn = c .before .before .loop in
     walk-full _ _ stageCells (turn .numbers) (turn .count) _ (turn .cell) (turn .inv .3) (omega arith) (omega arith)
 
-element-copy-out-if2 : tie.Need-element-copy-out-if2 Inv-loop μ-loop
-element-copy-out-if2 c = search needs
-
 cast-put-number : tie.Need-cast-put-number Inv-loop μ-loop
 cast-put-number c = search needs
 
 put-number-requires : tie.Need-put-number-requires Inv-loop μ-loop
 put-number-requires c κs = search needs
+
+element-copy-out-if2 : tie.Need-element-copy-out-if2 Inv-loop μ-loop
+element-copy-out-if2 c = search needs
 
 add-count : tie.Need-add-count Inv-loop μ-loop
 add-count c = search needs
@@ -51,20 +51,21 @@ loop-less c = search needs
 
 loop-again : tie.Need-loop-again Inv-loop μ-loop
 loop-again c =
-    let turn = c .before .before .before .before .loop in
+    let turn = c .before .before .before .before .before .before .loop in
+    let put = c .before .before .put-number .ensures in
     ⊎-elim
     (λ w. (
       omega arith,
-      omega (arith, w .4),
-      listed-more (turn .numbers) _ (turn .count) _ _ (w .3 ∙ w .2 .ensures) (w .4) (omega arith),
+      omega (arith, w .1),
+      listed-more (turn .numbers) _ (turn .count) _ _ put (omega (arith, w .1)) (omega arith),
       walk-kept _ _ (turn .numbers) _ (turn .count) _ _ _ _
-          (turn .inv .3) (eq-eqb _ 0 (w .0 .taken)) (w .3 ∙ w .2 .ensures) (w .4) (omega arith) (omega arith),
+          (turn .inv .3) (eq-eqb _ 0 (w .0 .taken)) put (w .1) (omega arith) (omega arith),
     ))
     (λ w. (
       omega arith,
-      omega (arith, w .2),
-      omega (arith, w .2, ap (λ (l : List ℕ). length l) (w .1)),
-      walk-dropped _ _ _ _ _ _ _ _ _ (turn .inv .3) (ne-eqb _ 0 (w .0 .left)) (w .1) (w .2) (omega arith),
+      omega (arith, w .1),
+      listed-more (turn .numbers) _ (turn .count) _ _ put (omega (arith, w .1)) (omega arith),
+      walk-dropped _ _ (turn .numbers) _ (turn .count) _ _ _ _ (turn .inv .3) (ne-eqb _ 0 (w .0 .left)) put (w .1) (omega arith),
     ))
     (c .if2 .came)
 
@@ -82,9 +83,9 @@ list-from-spec =
     μ-loop
     loop-holds
     returns
-    element-copy-out-if2
     cast-put-number
     put-number-requires
+    element-copy-out-if2
     add-count
     add-cell
     loop-less
