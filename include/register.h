@@ -9,6 +9,9 @@
  * Every call judges the whole block and all that it is told, whatever comes in, and answers with the lowest number below that
  * applies. On every answer but REGISTER_DONE the block and a list buffer stay byte for byte and the number beside the answer is zero.
  *
+ * Insertions take their cells in turn, each behind those of the one before and round the block, so that the free cells are written alike.
+ * The first word of the last cell leads to the newest and is written by every insertion: of all words it wears most.
+ *
  * C cuts a number wider than a parameter before the call: the year 4,294,969,321 in 64 bits would arrive as 2025 and be taken for it.
  * Judge wider numbers yourself before you hand them over.
  *

@@ -4,6 +4,8 @@ use crate::plain::{cell_of, is_leaf, kind_of, linked_word, may_embed, put_word, 
 use crate::plain::{CELL, EMBEDDED, PREFIX, SPARSE, SPLIT, STANDALONE};
 use crate::validation::Reached;
 use crate::walk::{after_chain, child_of};
+use std::iter::Chain;
+use std::ops::Range;
 
 /// The bytes of one cell.
 pub type Image = [u8; CELL];
@@ -13,13 +15,14 @@ pub const STORE: usize = 8;
 
 /// Builds the tree with the key entered and writes it; nothing where it takes more cells than are free.
 pub fn insert(block: &mut [u8], reached: &Reached, key: &[u8], value: u32) -> Option<u32> {
-    let (cells, root) = staged(block, reached, key, value)?;
+    let (cells, root) = staged(Stage::new(block, reached, after_root(block)), key, value)?;
     Some(write(block, &cells, root))
 }
 
-/// Builds the tree with the key entered and lists its stores: the answer number and the count of records.
-pub fn list(block: &[u8], reached: &Reached, key: &[u8], value: u32, list: &mut [u8]) -> (u8, u32) {
-    let Some((cells, root)) = staged(block, reached, key, value) else {
+/// Builds the tree with the key entered and lists its stores: the answer number and the count of records. The first cell tried is
+/// given, so that the wear under another rule can be counted.
+pub fn list(block: &[u8], reached: &Reached, first: usize, key: &[u8], value: u32, list: &mut [u8]) -> (u8, u32) {
+    let Some((cells, root)) = staged(Stage::new(block, reached, first), key, value) else {
         return (7, 0);
     };
     let records = cells.len() * (CELL / 4) + 1;
@@ -44,10 +47,14 @@ fn write_stores(list: &mut [u8], cells: &[(usize, Image)], trailer: usize, root:
 }
 
 /// The cells of the tree with the key entered, in the order taken, and its root; nothing where they are more than are free.
-fn staged(block: &[u8], reached: &Reached, key: &[u8], value: u32) -> Option<(Vec<(usize, Image)>, u32)> {
-    let mut stage = Stage { block, reached, next: 1, cells: Vec::new() };
-    let root = stage.entered(root_of(block), key, value)?;
+fn staged(mut stage: Stage<'_>, key: &[u8], value: u32) -> Option<(Vec<(usize, Image)>, u32)> {
+    let root = stage.entered(root_of(stage.block), key, value)?;
     Some((stage.cells, root))
+}
+
+/// The first cell tried for a new node: the one after the root's own, which is cell 1 where the root is NONE.
+pub fn after_root(block: &[u8]) -> usize {
+    cell_of(root_of(block)) + 1
 }
 
 /// Writes the cells that were taken and the new root, and counts the cells.
@@ -60,20 +67,24 @@ pub fn write(block: &mut [u8], cells: &[(usize, Image)], root: u32) -> u32 {
     cells.len() as u32
 }
 
-/// The cells that a call has taken so far, in the order taken; the block stays as it is.
+/// The cells that a call has taken so far, in the order taken, and those not tried yet; the block stays as it is.
 pub struct Stage<'a> {
     pub block: &'a [u8],
-    pub reached: &'a Reached,
-    pub next: usize,
+    reached: &'a Reached,
+    untried: Chain<Range<usize>, Range<usize>>,
     pub cells: Vec<(usize, Image)>,
 }
 
-impl Stage<'_> {
-    /// Takes the lowest free cell for an image and gives the pointer to it at a kind.
+impl<'a> Stage<'a> {
+    /// A stage that tries the usable cells from a first one upward, then from cell 1 up to that one.
+    pub fn new(block: &'a [u8], reached: &'a Reached, first: usize) -> Stage<'a> {
+        let trailer = block.len() / CELL - 1;
+        Stage { block, reached, untried: (first..trailer).chain(1..first), cells: Vec::new() }
+    }
+
+    /// Takes the next free cell for an image and gives the pointer to it at a kind.
     pub fn take(&mut self, image: Image, kind: usize) -> Option<u32> {
-        let trailer = self.block.len() / CELL - 1;
-        let cell = (self.next..trailer).find(|cell| self.reached[*cell] == 0)?;
-        self.next = cell + 1;
+        let cell = self.untried.find(|cell| self.reached[*cell] == 0)?;
         self.cells.push((cell, image));
         Some((cell * CELL + kind) as u32)
     }

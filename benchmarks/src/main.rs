@@ -12,6 +12,7 @@ mod room;
 mod timing;
 mod validation;
 mod walk;
+mod wear;
 mod write_list;
 
 use labels::{Random, SEED};
@@ -47,8 +48,17 @@ struct Case {
     left: Vec<u8>,
 }
 
-/// Checks and measures every case, and prints a table of times and one of the room that values over inner nodes take.
+/// Prints everything, or the wear of the cells alone where that is asked for.
 fn main() {
+    match std::env::args().nth(1).as_deref() {
+        None => report_all(),
+        Some("wear") => wear::report(),
+        Some(other) => panic!("nothing, or wear, can be asked for, not {other}"),
+    }
+}
+
+/// Checks and measures every case, and prints a table of times, one of the room that values over inner nodes take, one of wear.
+fn report_all() {
     for cells in [16, 256, 2048] {
         Case::drawn(cells, 2).compare();
     }
@@ -66,6 +76,7 @@ fn main() {
     }
     orders::compare_and_report();
     room::report(&lots);
+    wear::report();
 }
 
 impl Case {

@@ -191,7 +191,7 @@ pub fn write_list(block: &[u8], key: &[u8], value: u32, list: &mut [u8]) -> (u8,
     if answer != 0 {
         return (answer, 0);
     }
-    insertion::list(block, &reached, key, value, list)
+    insertion::list(block, &reached, insertion::after_root(block), key, value, list)
 }
 
 /// Judges an entry before anything is built for it, as an answer number; the cells that a sound block's roots reach are flagged.

@@ -44,6 +44,7 @@ extern "C" {
         used: *mut u32,
         more: *mut u32,
     ) -> u8;
+    fn exports_snapshot(block: *mut u8, block_len: usize, slot: u32) -> u8;
     fn exports_is_valid_order(word: u16) -> u8;
 }
 
@@ -137,4 +138,10 @@ pub fn remove(block: &mut [u8], key: &[u8]) -> (u8, u32) {
     // Each pointer comes with the length of its own slice, and no slice overlaps another.
     let answer = unsafe { exports_remove(block.as_mut_ptr(), block.len(), key.as_ptr(), key.len(), &mut count) };
     (answer, count)
+}
+
+/// Sets a snapshot's slot to the present root: the answer number.
+pub fn snapshot(block: &mut [u8], slot: u32) -> u8 {
+    // The pointer comes with the length of its own slice.
+    unsafe { exports_snapshot(block.as_mut_ptr(), block.len(), slot) }
 }

@@ -1,13 +1,13 @@
 //! Removal in the plain program: the path to the key is staged anew as in an insertion, each node by what it keeps.
 
-use crate::insertion::{sparse_image, write, Image, Stage};
+use crate::insertion::{after_root, sparse_image, write, Image, Stage};
 use crate::plain::{kind_of, put_word, root_of, word_at, CELL, SPARSE, SPLIT};
 use crate::validation::Reached;
 use crate::walk::{child_of, children};
 
 /// Builds the tree without a key that is there and writes it; nothing where it takes more cells than are free.
 pub fn remove(block: &mut [u8], reached: &Reached, key: &[u8]) -> Option<u32> {
-    let mut stage = Stage { block, reached, next: 1, cells: Vec::new() };
+    let mut stage = Stage::new(block, reached, after_root(block));
     let root = stage.without_key(root_of(block), key)?;
     let cells = stage.cells;
     Some(write(block, &cells, root))

@@ -44,7 +44,7 @@ pub fn compare_refusals(block: &[u8]) {
 }
 
 /// The answer number, the records and the buffer of a list, on which both programs must agree to the last byte.
-fn listed(block: &[u8], label: &[u8], value: u32, size: usize) -> ((u8, u32), Vec<u8>) {
+pub fn listed(block: &[u8], label: &[u8], value: u32, size: usize) -> ((u8, u32), Vec<u8>) {
     let (mut ours, mut theirs) = (vec![UNTOUCHED; size], vec![UNTOUCHED; size]);
     let answer = proved::write_list(block, label, value, &mut ours);
     assert_eq!(answer, plain::write_list(block, label, value, &mut theirs), "the list of {label:?} in {size} bytes");
@@ -66,7 +66,7 @@ pub fn through(
 
 /// The memory driver of both programs: it makes the stores of a list one after the other.
 #[inline(never)]
-fn store(block: &mut [u8], list: &[u8]) {
+pub fn store(block: &mut [u8], list: &[u8]) {
     for record in list.chunks_exact(STORE) {
         put_word(block, word_at(record, 0) as usize, word_at(record, 4));
     }

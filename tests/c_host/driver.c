@@ -70,6 +70,18 @@ static void samples(void) {
     CHECK(is_cell(0, 2, prefix) && is_cell(8, 3, chain) && is_store(16, 0xE0, 0x7B));
 }
 
+/* Cells come in the order taken: 43 with 5 into the same run in cell 5 of 8 takes cell 6, the last usable one, and then cell 1. */
+static void round_the_block(void) {
+    static const uint32_t prefix[8] = {5, 0xFF000000, [7] = 0xBA};
+    static const uint32_t chain[8] = {[6] = 0x43, 0xDF};
+    fresh(&block, 8);
+    put_word(&block, 5 * CELL + 24, 0x00434841);
+    put_word(&block, 5 * CELL + 28, 0xFFFFFFFF);
+    put_word(&block, trailer(&block), 0xB9);
+    CHECK(ask(&block, key_43, 136) == REGISTER_DONE && list.records == 17);
+    CHECK(is_cell(0, 6, prefix) && is_cell(8, 1, chain) && is_store(16, 0xE0, 0x3B));
+}
+
 /* Nine records fit into 72 bytes and into more, of which the others stay; fewer are too few, even none at all. */
 static void sizes(void) {
     sample_e();
@@ -114,6 +126,7 @@ static void order(void) {
 int main(int count, char **arguments) {
     CHECK(count == 2);
     samples();
+    round_the_block();
     sizes();
     order();
     test_cuts(arguments[1]);

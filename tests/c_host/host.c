@@ -72,6 +72,7 @@ int main(void) {
     test_insert_and_get();
     test_verdict();
     test_hostile_bytes();
+    test_wear();
     printf("c_host: %lu checks passed\n", checks_passed());
     return 0;
 }

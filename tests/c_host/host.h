@@ -30,5 +30,6 @@ void test_samples(void);
 void test_insert_and_get(void);
 void test_verdict(void);
 void test_hostile_bytes(void);
+void test_wear(void);
 
 #endif

@@ -34,7 +34,7 @@ static void samples_a_to_d(void) {
     CHECK(root(&block) == 0x5B && word(&block, 64 + 28) == 0xFFFFFFFD);
 }
 
-/* Samples E to H: a chain, a sparse cell of two and of three, and a prefix. */
+/* Samples E to H and M: a chain, a sparse cell of two and of three, that one written again, and a prefix. */
 static void samples_e_to_h(void) {
     static const uint8_t cell_of_f[CELL] = {0xFF, 0xFF, 0xFF, 0xFE, 0, 0, 0, 0x3A, [24] = 0x41, 0x43, [30] = 0, 6};
     uint32_t count;
@@ -53,6 +53,10 @@ static void samples_e_to_h(void) {
     CHECK(get(&block, "\x43\x48\x41", 3, &value) == REGISTER_DONE && value == 0);
     CHECK(get(&block, "\x41", 1, &value) == REGISTER_DONE && value == 1);
     CHECK(get(&block, "\x35", 1, &value) == REGISTER_DONE && value == 2);
+
+    CHECK(insert(&block, "\x35", 1, 3, &count) == REGISTER_DONE && count == 1);
+    CHECK(root(&block) == 0x9E && word(&block, 128 + 28) % 65536 == 0x0026);
+    CHECK(get(&block, "\x35", 1, &value) == REGISTER_DONE && value == 3);
 
     block = sample_e;
     CHECK(insert(&block, "\x43", 1, 5, &count) == REGISTER_DONE && count == 2);

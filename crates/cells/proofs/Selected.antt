@@ -1,13 +1,15 @@
 -- Laws of the elements that pass a test, and of so many numbers from one on.
 use mathlib.Core.Path.{_≡_, refl, sym, ap, _∙_}
 use mathlib.Core.Bool.{Bool, true, false}
-use mathlib.Core.List.{List, [], _∷_}
+use mathlib.Core.List.{List, [], _∷_, _++_}
 use Prim.Native.Nat.{ℕ, zero, suc, _+_, _≤_, _<_}
 use native.Mathlib.Decide.{ℕ-discrete}
+use native.Mathlib.Nat.{zero-add, add-zero, suc-add}
 use native.Mathlib.Omega.{arith}
+use lib.ListN.{length, getD}
 use Rattle.cells.specs.Occurrences.{occurrences, select, countUp}
 use Rattle.cells.proofs.Choice.{absurd-bool}
-use Rattle.cells.proofs.Occurrences.{occurrences-none, occurrences-same, occurrences-cons-other}
+use Rattle.cells.proofs.Occurrences.{occurrences-none, occurrences-same, occurrences-cons-other, occurrences-here, occurrences-later}
 
 -- a number passes a test as often as it stands there, or never
 module _ (test : ℕ → Bool) where
@@ -48,6 +50,49 @@ module _ (test : ℕ → Bool) where
   pub select-all : (xs : List ℕ) → ((c : ℕ) → test c ≡ true) → select test xs ≡ xs
   select-all [] each = unfold select in refl
   select-all (x ∷ xs) each = select-kept x xs (each x) ∙ ap (λ (l : List ℕ). x ∷ l) (select-all xs each)
+
+  -- of two lists, one behind the other
+  pub select-append : (xs ys : List ℕ) → select test (xs ++ ys) ≡ select test xs ++ select test ys
+  select-append [] ys = unfold select in refl
+  select-append (x ∷ xs) ys = go (test x) refl (select-append xs ys)
+    where
+      go : (t : Bool) → test x ≡ t → select test (xs ++ ys) ≡ select test xs ++ select test ys
+          → select test (x ∷ (xs ++ ys)) ≡ select test (x ∷ xs) ++ select test ys
+      go true e later =
+          select-kept x (xs ++ ys) e ∙ ap (λ (l : List ℕ). x ∷ l) later ∙ ap (λ (l : List ℕ). l ++ select test ys) (sym (select-kept x xs e))
+      go false e later =
+          select-dropped x (xs ++ ys) e ∙ later ∙ ap (λ (l : List ℕ). l ++ select test ys) (sym (select-dropped x xs e))
+
+-- tests that agree on the numbers of a list select the same
+pub select-alike : (test test′ : ℕ → Bool) (xs : List ℕ) → ((c : ℕ) → 1 ≤ occurrences c xs → test c ≡ test′ c) → select test xs ≡ select test′ xs
+unfolding select
+select-alike test test′ [] same = refl
+select-alike test test′ (x ∷ xs) same =
+    rw (same x (occurrences-here x xs), select-alike test test′ xs (λ c h. same c (omega (arith, h, occurrences-later c x xs))))
+
+-- so many numbers from one on, and so many more
+pub count-up-append : (count more from : ℕ) → countUp (count + more) from ≡ countUp count from ++ countUp more (from + count)
+unfolding countUp
+count-up-append zero more from = rw (zero-add more, add-zero from)
+count-up-append (suc count) more from =
+    let later : countUp (count + more) (from + 1) ≡ countUp count (from + 1) ++ countUp more (from + 1 + count) =
+    count-up-append count more (from + 1) in
+    let same : from + 1 + count ≡ from + suc count = omega arith in
+    ap (λ (n : ℕ). countUp n from) (suc-add count more)
+    ∙ ap (λ (l : List ℕ). from ∷ l) (later ∙ ap (λ (at : ℕ). countUp count (from + 1) ++ countUp more at) same)
+
+-- how many they are
+pub count-up-length : (count from : ℕ) → length (countUp count from) ≡ count
+unfolding countUp
+count-up-length zero from = refl
+count-up-length (suc count) from = omega (arith, count-up-length count (from + 1))
+
+-- the one at a place
+pub count-up-at : (count from place : ℕ) → place < count → getD (countUp count from) place 0 ≡ from + place
+unfolding countUp
+count-up-at zero from place h = absurd (omega arith)
+count-up-at (suc count) from zero h = omega arith
+count-up-at (suc count) from (suc place) h = omega (arith, count-up-at count (from + 1) place (omega arith))
 
 -- so many numbers from one on: each of them once
 pub count-up-before : (count from c : ℕ) → c < from → occurrences c (countUp count from) ≡ 0

@@ -23,21 +23,21 @@ use Rattle.page_samples.specs.Pinned.{lent}
 unfoldable pub longLabels : Counted
 longLabels = insert (insert (insert (fresh 8) (label 48) 7 .block) (label 47 ++ (0x42 ∷ [])) 8 .block) (0x5A ∷ []) 9
 
--- the block that this leaves: the sparse cell of 41 and 5A (1), a run that the second insertion let go (2), the sparse cell of 41 and 42 (3), the
--- characters above it (4, 5)
+-- the block that this leaves: the run that the second insertion let go (1, 2), the sparse cell of 41 and 42 (3), the characters above it (4, 5), the
+-- sparse cell of 41 and 5A (6)
 unfoldable pub longBlock : List ℕ
 longBlock =
     zeros 32
-    ++ sparseBytes 0x000000AA 0xFFFFFFF6 0 0x415A0000 0x00000006
+    ++ eightWords 0x41414141 0x41414141 0x41414141 0x41414141 0x41414141 0x41414141 0x41414141 0xFFFFFFF8
     ++ eightWords 0 0 0x41414141 0x41414141 0x41414141 0x41414141 0x41414141 0x00000020
     ++ sparseBytes 0xFFFFFFF8 0xFFFFFFF7 0 0x41420000 0x00000006
     ++ eightWords 0x41414141 0x41414141 0x41414141 0x41414141 0x41414141 0x41414141 0x41414141 0x0000007E
     ++ eightWords 0 0 0x00414141 0x41414141 0x41414141 0x41414141 0x41414141 0x00000080
-    ++ zeros 32
-    ++ eightWords 0x0000003E 0 0 0 0x00000000 0x00000008 0x00000000 0x00000001
+    ++ sparseBytes 0x000000AA 0xFFFFFFF6 0 0x415A0000 0x00000006
+    ++ eightWords 0x000000DE 0 0 0 0x00000000 0x00000008 0x00000000 0x00000001
 
 -- what the third gives, and every byte of the block
-pub long-labels : _≡_ {A = List (List ℕ)} (whole longLabels) ((0 ∷ 1 ∷ 0x0000003E ∷ []) ∷ longBlock ∷ [])
+pub long-labels : _≡_ {A = List (List ℕ)} (whole longLabels) ((0 ∷ 1 ∷ 0x000000DE ∷ []) ∷ longBlock ∷ [])
 unfolding callsOpen words freshIn fresh longLabels longBlock whole
 long-labels = refl
 

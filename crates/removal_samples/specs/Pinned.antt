@@ -23,7 +23,7 @@ unfolding callsOpen told cellsIn freshIn fresh sampleA
 only-key-removed = refl
 
 -- "two to six make a sparse written in rising order": 41 removed from G, whose sparse cell has 35 behind 41 and 43
-pub rewritten-rising : _≡_ {A = List (List ℕ)} (told (remove (sampleG .block) (0x41 ∷ [])) (2 ∷ [])) ((0 ∷ 1 ∷ 0x0000005E ∷ []) ∷ sparseBytes 0xFFFFFFFD 0x0000003A 0 0x35430000 0x00000006 ∷ [])
+pub rewritten-rising : _≡_ {A = List (List ℕ)} (told (remove (sampleG .block) (0x41 ∷ [])) (4 ∷ [])) ((0 ∷ 1 ∷ 0x0000009E ∷ []) ∷ sparseBytes 0xFFFFFFFD 0x0000003A 0 0x35430000 0x00000006 ∷ [])
 unfolding callsOpen told cellsIn freshIn fresh sampleE sampleF sampleG
 rewritten-rising = refl
 
@@ -38,19 +38,19 @@ prefix-removed = refl
 -- the split of 33 35 41 42 43 50 51, as `split-of-seven` of the samples computes it, 42 removed: six in a sparse cell, in rising order
 pub six-left :
     _≡_ {A = List (List ℕ)}
-    (told (remove splitBlock (0x42 ∷ [])) (2 ∷ []))
-    ((0 ∷ 1 ∷ 0x0000005E ∷ []) ∷ eightWords 0xFFFFFFFF 0xFFFFFFFE 0xFFFFFFFD 0xFFFFFFFB 0xFFFFFFFA 0xFFFFFFF9 0x33354143 0x5051AEF6 ∷ [])
+    (told (remove splitBlock (0x42 ∷ [])) (13 ∷ []))
+    ((0 ∷ 1 ∷ 0x000001BE ∷ []) ∷ eightWords 0xFFFFFFFF 0xFFFFFFFE 0xFFFFFFFD 0xFFFFFFFB 0xFFFFFFFA 0xFFFFFFF9 0x33354143 0x5051AEF6 ∷ [])
 unfolding callsOpen told cellsIn splitBlock
 six-left = refl
 
 -- with 52 as the eighth, 33 removed: "keeps more than six stays a split", its end, mid and head new, in this order
 pub seven-left :
     _≡_ {A = List (List ℕ)}
-    (told (remove (insert splitBlock (0x52 ∷ []) 7 .block) (0x33 ∷ [])) (5 ∷ 6 ∷ 7 ∷ []))
-    ((0 ∷ 3 ∷ 0x000000FC ∷ [])
+    (told (remove (insert splitBlock (0x52 ∷ []) 7 .block) (0x33 ∷ [])) (2 ∷ 3 ∷ 4 ∷ []))
+    ((0 ∷ 3 ∷ 0x0000009C ∷ [])
     ∷ eightWords 0 0 0 0 0 0xFFFFFFFE 0 0
-    ∷ eightWords 0 0 0 0 0 0 0x000000BC 0
-    ∷ headBytes 0x000000DC 0x0000011C 0 0
+    ∷ eightWords 0 0 0 0 0 0 0x0000005C 0
+    ∷ headBytes 0x0000007C 0x000001DC 0 0
     ∷ [])
 unfolding callsOpen told cellsIn splitBlock
 seven-left = refl
@@ -58,7 +58,7 @@ seven-left = refl
 -- "Split cells with no pointer left aren't rebuilt.": 33 is alone in its end and that in its mid, and only the head is new
 pub emptied-cells :
     _≡_ {A = List (List ℕ)}
-    (told (remove (insertedAll (fresh 24) (0x33 ∷ 0x41 ∷ 0x42 ∷ 0x43 ∷ 0x50 ∷ 0x51 ∷ 0x52 ∷ 0x53 ∷ []) 0) (0x33 ∷ [])) (5 ∷ []))
-    ((0 ∷ 1 ∷ 0x000000BC ∷ []) ∷ headBytes 0 0x0000011C 0 0 ∷ [])
+    (told (remove (insertedAll (fresh 24) (0x33 ∷ 0x41 ∷ 0x42 ∷ 0x43 ∷ 0x50 ∷ 0x51 ∷ 0x52 ∷ 0x53 ∷ []) 0) (0x33 ∷ [])) (16 ∷ []))
+    ((0 ∷ 1 ∷ 0x0000021C ∷ []) ∷ headBytes 0 0x000001DC 0 0 ∷ [])
 unfolding callsOpen told cellsIn freshIn fresh insertedAll
 emptied-cells = refl

@@ -48,7 +48,7 @@ fn written_anew() {
     let mut block = [0xA5u8; 256];
     grown(&mut block, b"CHA", b"A5");
     removed(b"G without 41", &mut block, b'A');
-    lines::cell(b"G without 41 cell 2 ", &block, 2);
+    lines::cell(b"G without 41 cell 4 ", &block, 4);
 }
 
 // Both keys of sample H, each from a block of its own.
@@ -69,7 +69,7 @@ fn splits() {
     grown(&mut block, b"3", b"5ABCPQ");
     let mut other = block;
     removed(b"seven without 42", &mut block, b'B');
-    lines::cell(b"seven without 42 cell 2 ", &block, 2);
+    lines::cell(b"seven without 42 cell 13 ", &block, 13);
     insert(&mut other, b"R", 7);
     removed(b"eight without 33", &mut other, b'3');
 }

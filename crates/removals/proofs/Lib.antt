@@ -9,6 +9,7 @@ pub mod RemovalCount
 pub mod RemovalBytes
 pub mod RemovalNeeded
 pub mod RemovalBound
+pub mod Newest
 pub mod RemovalZeros
 pub mod Proved
 pub mod Stage

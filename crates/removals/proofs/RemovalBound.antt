@@ -24,7 +24,7 @@ use Rattle.updates.specs.SplitBuild.{Row, branchRow}
 use Rattle.updates.specs.SetChild.{withChild, setChild}
 use Rattle.updates.specs.Build.{wordAside, putBack, childOf, pathCopy}
 use Rattle.updates.proofs.SplitNodes.SplitBound.{branch-one}
-use Rattle.updates.proofs.Bound.{LacksAt, setChild-sized, putBack-most, word-lacks}
+use Rattle.updates.proofs.Bound.{LacksAt, setChild-most, putBack-most, word-lacks}
 use Rattle.removals.specs.RisingCell.{charactersFrom}
 use Rattle.removals.specs.SplitLeft.{splitLeft}
 use Rattle.removals.specs.LoseChild.{ofKept, splitStays, loseChild}
@@ -84,7 +84,7 @@ module _ (number : ℕ → ℕ) (layout : Layout) (m : Memory) where
           → length (cond t (loseChild layout number m p x (b .cells)) (setChild layout number m p x b) .cells) ≤ length (b .cells) + 3
       go true e = loseChild-most p x (b .cells)
       go false e =
-          ⊎-elim (λ h. h .high) (λ h. absurd-bool (sym (eq-eqb (b .word) 0 (lacking (h .0))) ∙ e)) (setChild-sized number layout m p x b)
+          ⊎-elim (λ h. h) (λ h. absurd-bool (sym (eq-eqb (b .word) 0 (lacking (h .0))) ∙ e)) (setChild-most number layout m p x b)
 
   putBackLeft-most : (value : Option ℕ) (b : Built) → length (putBackLeft layout number value b .cells) ≤ 1 + length (b .cells)
   unfolding putBackLeft

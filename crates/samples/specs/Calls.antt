@@ -59,6 +59,10 @@ sampleH = insert (sampleE .block) (0x43 ∷ []) 5
 unfoldable pub sampleHIn : ℕ → Counted
 sampleHIn edition = insert (insert (freshIn edition 8) (0x43 ∷ 0x48 ∷ 0x41 ∷ []) 0 .block) (0x43 ∷ []) 5
 
+-- 02, 7: "G, enter 35 value 3"
+unfoldable pub sampleM : Counted
+sampleM = insert (sampleG .block) (0x35 ∷ []) 3
+
 -- 7 March 2025
 unfoldable pub expiryJ : ℕ
 expiryJ = packedDate (dateOf (yearOf 2025) (monthOf 3) (dayOf 7))

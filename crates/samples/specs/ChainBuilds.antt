@@ -119,12 +119,12 @@ threeOfG = sixCells unused (sparseBytes 0xFFFFFFFE 0xFFFFFFFD 0xFFFFFFFC 0x41433
 -- 01: "a copy with the child word replaced": 35, then 41; each keeps its position and the order word is as it was
 pub positions-kept :
     _≡_ {A = List (List (List ℕ))}
-    (told (insert threeOfG (0x35 ∷ []) 9) (1 ∷ 2 ∷ []) ∷ told (insert threeOfG (0x41 ∷ []) 9) (1 ∷ 3 ∷ []) ∷ [])
-    (((0 ∷ 1 ∷ 0x0000003E ∷ [])
-    ∷ sparseBytes 0xFFFFFFFE 0xFFFFFFFD 0xFFFFFFF6 0x41433500 0x00000026
+    (told (insert threeOfG (0x35 ∷ []) 9) (2 ∷ 3 ∷ []) ∷ told (insert threeOfG (0x41 ∷ []) 9) (1 ∷ 3 ∷ []) ∷ [])
+    (((0 ∷ 1 ∷ 0x0000007E ∷ [])
     ∷ sparseBytes 0xFFFFFFFE 0xFFFFFFFD 0xFFFFFFFC 0x41433500 0x00000026
+    ∷ sparseBytes 0xFFFFFFFE 0xFFFFFFFD 0xFFFFFFF6 0x41433500 0x00000026
     ∷ [])
-    ∷ ((0 ∷ 1 ∷ 0x0000003E ∷ []) ∷ sparseBytes 0xFFFFFFF6 0xFFFFFFFD 0xFFFFFFFC 0x41433500 0x00000026 ∷ unused ∷ [])
+    ∷ ((0 ∷ 1 ∷ 0x0000007E ∷ []) ∷ unused ∷ sparseBytes 0xFFFFFFF6 0xFFFFFFFD 0xFFFFFFFC 0x41433500 0x00000026 ∷ [])
     ∷ [])
 unfolding callsOpen told cellsIn
 positions-kept = refl
@@ -133,17 +133,17 @@ positions-kept = refl
 -- of 42 44 is taken before the sparse cell above it
 pub appended-anywhere :
     _≡_ {A = List (List (List ℕ))}
-    (told (insert threeOfG (0x20 ∷ []) 9) (1 ∷ [])
-    ∷ told (insert threeOfG (0x42 ∷ []) 9) (1 ∷ [])
-    ∷ told (insert threeOfG (0x50 ∷ []) 9) (1 ∷ [])
-    ∷ told (insert threeOfG (0x42 ∷ 0x44 ∷ []) 9) (1 ∷ 3 ∷ [])
+    (told (insert threeOfG (0x20 ∷ []) 9) (3 ∷ [])
+    ∷ told (insert threeOfG (0x42 ∷ []) 9) (3 ∷ [])
+    ∷ told (insert threeOfG (0x50 ∷ []) 9) (3 ∷ [])
+    ∷ told (insert threeOfG (0x42 ∷ 0x44 ∷ []) 9) (3 ∷ 4 ∷ [])
     ∷ [])
-    (((0 ∷ 1 ∷ 0x0000003E ∷ []) ∷ eightWords 0xFFFFFFFE 0xFFFFFFFD 0xFFFFFFFC 0xFFFFFFF6 0 0 0x41433520 0x000000E7 ∷ [])
-    ∷ ((0 ∷ 1 ∷ 0x0000003E ∷ []) ∷ eightWords 0xFFFFFFFE 0xFFFFFFFD 0xFFFFFFFC 0xFFFFFFF6 0 0 0x41433542 0x00000146 ∷ [])
-    ∷ ((0 ∷ 1 ∷ 0x0000003E ∷ []) ∷ eightWords 0xFFFFFFFE 0xFFFFFFFD 0xFFFFFFFC 0xFFFFFFF6 0 0 0x41433550 0x000002AE ∷ [])
-    ∷ ((0 ∷ 2 ∷ 0x0000007E ∷ [])
+    (((0 ∷ 1 ∷ 0x0000007E ∷ []) ∷ eightWords 0xFFFFFFFE 0xFFFFFFFD 0xFFFFFFFC 0xFFFFFFF6 0 0 0x41433520 0x000000E7 ∷ [])
+    ∷ ((0 ∷ 1 ∷ 0x0000007E ∷ []) ∷ eightWords 0xFFFFFFFE 0xFFFFFFFD 0xFFFFFFFC 0xFFFFFFF6 0 0 0x41433542 0x00000146 ∷ [])
+    ∷ ((0 ∷ 1 ∷ 0x0000007E ∷ []) ∷ eightWords 0xFFFFFFFE 0xFFFFFFFD 0xFFFFFFFC 0xFFFFFFF6 0 0 0x41433550 0x000002AE ∷ [])
+    ∷ ((0 ∷ 2 ∷ 0x0000009E ∷ [])
     ∷ chainBytes 0x00000044 0xFFFFFFF6
-    ∷ eightWords 0xFFFFFFFE 0xFFFFFFFD 0xFFFFFFFC 0x0000003B 0 0 0x41433542 0x00000146
+    ∷ eightWords 0xFFFFFFFE 0xFFFFFFFD 0xFFFFFFFC 0x0000007B 0 0 0x41433542 0x00000146
     ∷ [])
     ∷ [])
 unfolding callsOpen told cellsIn

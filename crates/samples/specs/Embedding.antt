@@ -58,17 +58,17 @@ runBelow = below43 2 (0x48 ∷ 0x41 ∷ []) .block
 -- through it, 43 48 42: the sparse cell below 48 has no free byte, the chain of 48 above it takes the value of 43
 pub value-replaced :
     _≡_ {A = List (List (List ℕ))}
-    (told (insert runBelow (0x43 ∷ []) 9) (1 ∷ 2 ∷ 4 ∷ []) ∷ told (insert runBelow (0x43 ∷ 0x48 ∷ 0x42 ∷ []) 9) (1 ∷ 2 ∷ 4 ∷ 5 ∷ []) ∷ [])
-    (((0 ∷ 2 ∷ 0x0000009B ∷ [])
+    (told (insert runBelow (0x43 ∷ []) 9) (2 ∷ 4 ∷ 5 ∷ []) ∷ told (insert runBelow (0x43 ∷ 0x48 ∷ 0x42 ∷ []) 9) (2 ∷ 4 ∷ 5 ∷ 6 ∷ []) ∷ [])
+    (((0 ∷ 2 ∷ 0x000000BB ∷ [])
+    ∷ eightWords 0x00000005 0x1A000000 0 0 0 0 0x00004841 0xFFFFFFFF
     ∷ prefixBytes 0x00000009 0xFF000000 0x0000005A
-    ∷ eightWords 0x00000005 0x1A000000 0 0 0 0 0x00004841 0xFFFFFFFF
-    ∷ chainBytes 0x00000043 0x0000003F
-    ∷ [])
-    ∷ ((0 ∷ 3 ∷ 0x000000BB ∷ [])
-    ∷ sparseBytes 0xFFFFFFFF 0xFFFFFFF6 0 0x41420000 0x00000006
-    ∷ eightWords 0x00000005 0x1A000000 0 0 0 0 0x00004841 0xFFFFFFFF
-    ∷ eightWords 0x00000005 0x1B000000 0 0 0 0 0x00000048 0x0000003E
     ∷ chainBytes 0x00000043 0x0000009F
+    ∷ [])
+    ∷ ((0 ∷ 3 ∷ 0x000000DB ∷ [])
+    ∷ eightWords 0x00000005 0x1A000000 0 0 0 0 0x00004841 0xFFFFFFFF
+    ∷ sparseBytes 0xFFFFFFFF 0xFFFFFFF6 0 0x41420000 0x00000006
+    ∷ eightWords 0x00000005 0x1B000000 0 0 0 0 0x00000048 0x0000009E
+    ∷ chainBytes 0x00000043 0x000000BF
     ∷ [])
     ∷ [])
 unfolding callsOpen words freshIn told cellsIn
@@ -82,14 +82,14 @@ bothKinds = insert runBelow (0x43 ∷ 0x48 ∷ []) 7
 -- block is sound, and shows all three
 pub both-kinds :
     _≡_ {A = List (List ℕ)}
-    (told bothKinds (1 ∷ 4 ∷ 5 ∷ [])
+    (told bothKinds (4 ∷ 5 ∷ 6 ∷ [])
     ++ (validate (bothKinds .block)
     ∷ map (λ key. get (bothKinds .block) key .value) ((0x43 ∷ []) ∷ (0x43 ∷ 0x48 ∷ []) ∷ (0x43 ∷ 0x48 ∷ 0x41 ∷ []) ∷ []))
     ∷ [])
-    ((0 ∷ 3 ∷ 0x000000BB ∷ [])
+    ((0 ∷ 3 ∷ 0x000000DB ∷ [])
     ∷ prefixBytes 0x00000007 0xFF000000 0x0000005B
-    ∷ eightWords 0x00000005 0x1B000000 0 0 0 0 0x00000048 0x0000003F
-    ∷ chainBytes 0x00000043 0x0000009F
+    ∷ eightWords 0x00000005 0x1B000000 0 0 0 0 0x00000048 0x0000009F
+    ∷ chainBytes 0x00000043 0x000000BF
     ∷ (0 ∷ 5 ∷ 7 ∷ 0 ∷ [])
     ∷ [])
 unfolding callsOpen words freshIn told cellsIn

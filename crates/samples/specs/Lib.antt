@@ -6,6 +6,7 @@ pub mod Told
 pub mod Pinned
 pub mod Foreign
 pub mod FreeCells
+pub mod Wear
 pub mod Crafted
 pub mod Unsound
 pub mod UnsoundTrees

@@ -5,9 +5,9 @@ use Prim.Native.Nat.{ℕ}
 use lib.Ieee.{Float}
 use Rattle.nodes.specs.Written.{word as fourBytes}
 
--- 01: "Marked A to L for proof."
+-- 01: "Marked A to L for proof."; 02, 7: "a new one joins the list"
 pub data Letter : Type 0 where
-  A B C D E F G H I J K L : Letter
+  A B C D E F G H I J K L M : Letter
 
 -- what the value is
 pub data Says : Type 0 where

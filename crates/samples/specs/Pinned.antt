@@ -50,27 +50,44 @@ sparseOfSix =
     ++ word 0x33354142
     ++ word 0x4350AEF6
 
--- the mid above the first end, two ends, their mid, the head: cells 3 to 7
-abbrev pub fromFirstMid : List ℕ
-fromFirstMid =
-    (zeros 24 ++ word 0x0000003C ++ zeros 4)
+-- the sparse cells that the second to the sixth left, one after the other: cells 2 to 6
+abbrev pub sparseCells : List ℕ
+sparseCells =
+    (word 0xFFFFFFFF ++ word 0xFFFFFFFE ++ zeros 16 ++ word 0x33350000 ++ word 0x00000006)
+    ++ (word 0xFFFFFFFF ++ word 0xFFFFFFFE ++ word 0xFFFFFFFD ++ zeros 12 ++ word 0x33354100 ++ word 0x0000004E)
+    ++ (word 0xFFFFFFFF ++ word 0xFFFFFFFE ++ word 0xFFFFFFFD ++ word 0xFFFFFFFC ++ zeros 8 ++ word 0x33354142 ++ word 0x000002D6)
+    ++ (word 0xFFFFFFFF
+    ++ word 0xFFFFFFFE
+    ++ word 0xFFFFFFFD
+    ++ word 0xFFFFFFFC
+    ++ word 0xFFFFFFFB
+    ++ zeros 4
+    ++ word 0x33354142
+    ++ word 0x43001716)
+    ++ sparseOfSix
+
+-- the first end, its mid, two ends, their mid, the head: cells 7 to 12
+abbrev pub splitCells : List ℕ
+splitCells =
+    end30
+    ++ (zeros 24 ++ word 0x000000FC ++ zeros 4)
     ++ end40
     ++ end50
-    ++ (word 0x0000009C ++ zeros 4 ++ word 0x000000BC ++ zeros 20)
-    ++ (zeros 16 ++ word 0x0000007C ++ word 0x000000DC ++ zeros 8)
+    ++ (word 0x0000013C ++ zeros 4 ++ word 0x0000015C ++ zeros 20)
+    ++ (zeros 16 ++ word 0x0000011C ++ word 0x0000017C ++ zeros 8)
 
--- the block of the split: the sparse that the insertion before left is in cell 2
+-- the block of the split, and before it what the first six left
 unfoldable pub splitBlock : List ℕ
 splitBlock =
     zeros 32
-    ++ end30
-    ++ sparseOfSix
-    ++ fromFirstMid
-    ++ zeros 224
-    ++ (word 0x000000FC ++ zeros 16 ++ word 0x00000010 ++ zeros 4 ++ word 0x00000001)
+    ++ (zeros 27 ++ (0x33 ∷ word 0xFFFFFFFF))
+    ++ sparseCells
+    ++ splitCells
+    ++ zeros 64
+    ++ (word 0x0000019C ++ zeros 16 ++ word 0x00000010 ++ zeros 4 ++ word 0x00000001)
 
 -- what the seventh gives, and every byte of the block
-pub split-of-seven : _≡_ {A = List (List ℕ)} (whole (seventhIn 16)) ((0 ∷ 6 ∷ 0x000000FC ∷ []) ∷ splitBlock ∷ [])
+pub split-of-seven : _≡_ {A = List (List ℕ)} (whole (seventhIn 16)) ((0 ∷ 6 ∷ 0x0000019C ∷ []) ∷ splitBlock ∷ [])
 unfolding callsOpen freshIn fresh insertedAll seventhIn whole splitBlock
 split-of-seven = refl
 

@@ -1,4 +1,4 @@
--- 01: "Samples A to L are a single list under a single proof".
+-- 01: "Samples A to L are a single list under a single proof"; 02, 7: "In 01 samples A to L stay as they are, and a new one joins the list".
 use mathlib.Core.Path.{_≡_, refl}
 use lib.Ieee as Ieee
 use lib.IntN.{pos}
@@ -16,11 +16,11 @@ use Rattle.dosing.specs.Temperature.{whole, onScale, toCelsius, celsius, validR
 use Rattle.dosing.specs.Sheet.{validSection, validLength, validSheet, doseOf}
 use Rattle.dosing.specs.Verdict.{verdictOf, verdict}
 use Rattle.samples.specs.Line.{Line, line}
-use Rattle.samples.specs.Line.Letter.{A, B, C, D, E, F, G, H, I, J, K, L}
+use Rattle.samples.specs.Line.Letter.{A, B, C, D, E, F, G, H, I, J, K, L, M}
 use Rattle.samples.specs.Line.Says.{answer, count, countIn, root, block, cell, link, orderWord, validWord, packed, answerOn, dose, degrees}
 use Rattle.samples.specs.Line.Value.{number, bytes, truth, float}
 use Rattle.samples.specs.Bytes.{blockA, cellD, cellF}
-use Rattle.samples.specs.Calls.{freshIn, fresh, sampleA, sampleB, sampleC, sampleD, sampleE, sampleF, sampleG, sampleH, sampleHIn, expiryJ, verdictOn, rootOf}
+use Rattle.samples.specs.Calls.{freshIn, fresh, sampleA, sampleB, sampleC, sampleD, sampleE, sampleF, sampleG, sampleH, sampleHIn, sampleM, expiryJ, verdictOn, rootOf}
 
 -- what the definitions compute, and what 01 says of each sample
 pub samples :
@@ -52,6 +52,7 @@ pub samples :
     ∷ line J (answerOn 2025 7 3) (number (verdictOn 2025 7 3 .answer))
     ∷ line K dose (float (verdictOn 2025 3 7 .dose))
     ∷ line L degrees (float (celsius (Fahrenheit (whole (pos 392)))))
+    ∷ line M root (number (rootOf (sampleM .block)))
     ∷ [])
     (line A answer (number 0)
     ∷ line A count (number 1)
@@ -80,6 +81,7 @@ pub samples :
     ∷ line J (answerOn 2025 7 3) (number 13)
     ∷ line K dose (float (whole (pos 240)))
     ∷ line L degrees (float (whole (pos 200)))
+    ∷ line M root (number 0x0000009E)
     ∷ [])
-unfolding callsOpen snapshotsOpen februaryDays daysOfMonth isDate isAfter onScale toCelsius celsius validReading validGate inGate validSection validLength validSheet doseOf verdictOf verdict Ieee.ofInt Ieee.sub Ieee.mul Ieee.div Ieee.le freshIn fresh sampleA sampleB sampleC sampleD sampleE sampleF sampleG sampleH sampleHIn expiryJ verdictOn
+unfolding callsOpen snapshotsOpen februaryDays daysOfMonth isDate isAfter onScale toCelsius celsius validReading validGate inGate validSection validLength validSheet doseOf verdictOf verdict Ieee.ofInt Ieee.sub Ieee.mul Ieee.div Ieee.le freshIn fresh sampleA sampleB sampleC sampleD sampleE sampleF sampleG sampleH sampleHIn sampleM expiryJ verdictOn
 samples = refl

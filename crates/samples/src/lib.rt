@@ -1,1 +1,1 @@
-// Samples A to L of 01, under one proof. No code.
+// Samples A to L of 01 and M of 02, under one proof. No code.

@@ -34,7 +34,7 @@ fn four_cells() {
     lines::root(b"D root ", &block);
 }
 
-// Samples E to G, on a block of eight cells.
+// Samples E to G and M, on a block of eight cells.
 fn eight_cells() {
     let mut block = [0xA5u8; 256];
     format(&mut block, 1);
@@ -46,6 +46,8 @@ fn eight_cells() {
     insert_byte(&mut block, b'5', 2);
     lines::root(b"G root ", &block);
     lines::bytes(b"G order word ", &block[126..128]);
+    insert_byte(&mut block, b'5', 3);
+    lines::root(b"M root ", &block);
 }
 
 // Sample H, on a block of eight cells.

@@ -1,15 +1,17 @@
 -- Laws of the free cells: the usable cells that neither the root nor a slot in use reaches, each once.
-use mathlib.Core.Path.{_≡_, sym, _∙_}
-use mathlib.Core.Bool.{true}
-use mathlib.Core.List.{List}
-use Prim.Native.Nat.{ℕ, _+_, _-_, _≤_}
+use mathlib.Core.Path.{_≡_, refl, sym, _∙_}
+use mathlib.Core.Logic.{_⊎_, inl, inr, ⊎-elim}
+use mathlib.Core.Bool.{Bool, true, false, cond}
+use mathlib.Core.List.{List, _++_}
+use Prim.Native.Nat.{ℕ, _+_, _-_, _/_, _≤_, _<_}
 use native.Mathlib.Decide.{decLe, decLt}
 use native.Mathlib.Omega.{arith}
 use lib.Dec.{eqb}
 use borrow.Author.Tests.{eq-eqb, ne-eqb}
 use Rattle.cells.specs.Memory.{memoryOf}
-use Rattle.cells.specs.Occurrences.{occurrences}
+use Rattle.cells.specs.Occurrences.{occurrences, countUp}
 use Rattle.cells.proofs.Choice.{absurd-bool}
+use Rattle.cells.proofs.Occurrences.{occurrences-append}
 use Rattle.cells.proofs.Selected.{select-passed, select-failed, select-all, count-up-before, count-up-within, count-up-outside}
 use Rattle.nodes.specs.Layout.{Layout, trailerCells, usable, isTrailer}
 use Rattle.nodes.proofs.Pointers.{usable-low, usable-high, usable-is}
@@ -18,22 +20,88 @@ use Rattle.trees.specs.Root.{rootCells}
 use Rattle.blocks.specs.Trailer.{rootWord, validSlot, slotWord, inUse}
 use Rattle.blocks.specs.Sound.{reachable}
 use Rattle.blocks.proofs.Roots.{root-reachable, slot-reachable}
-use Rattle.store.specs.Free.{allocationOrder, free}
+use Rattle.store.specs.Free.{firstTried, allocationOrder, free}
+
+-- where the search starts: at a usable cell or just past the last, or else at cell 1
+module _ (layout : Layout) (root : ℕ) where
+  pub first-least : 1 ≤ firstTried layout root
+  unfolding firstTried
+  first-least = go (usable layout (root / 32)) refl
+    where
+      go : (t : Bool) → usable layout (root / 32) ≡ t → 1 ≤ cond t (root / 32 + 1) 1
+      go true e = omega (arith, usable-low layout (root / 32) e)
+      go false e = omega arith
+
+  pub first-inside : (firstTried layout root ≡ 1) ⊎ (firstTried layout root + trailerCells layout ≤ layout .cells)
+  unfolding firstTried
+  first-inside = go (usable layout (root / 32)) refl
+    where
+      go : (t : Bool) → usable layout (root / 32) ≡ t
+          → (cond t (root / 32 + 1) 1 ≡ 1) ⊎ (cond t (root / 32 + 1) 1 + trailerCells layout ≤ layout .cells)
+      go true e = inr (omega (arith, usable-high layout (root / 32) e))
+      go false e = inl refl
+
+-- the numbers from a start up to an end, then those from 1 up to the start
+abbrev around : ℕ → ℕ → List ℕ
+around end start = countUp (end - start) start ++ countUp (start - 1) 1
+
+module _ (end start c : ℕ) (least : 1 ≤ start) where
+  -- each number from 1 up to the end once
+  around-once : 1 ≤ c → c < end → occurrences c (around end start) ≡ 1
+  around-once low high = elim (decLt c start) [
+    | yes before ↦
+        omega (
+          arith,
+          occurrences-append c (countUp (end - start) start) (countUp (start - 1) 1),
+          count-up-before (end - start) start c before,
+          count-up-within (start - 1) 1 c low (omega arith),
+        )
+    | no from ↦
+        omega (
+          arith,
+          occurrences-append c (countUp (end - start) start) (countUp (start - 1) 1),
+          count-up-within (end - start) start c (omega arith) (omega arith),
+          count-up-outside (start - 1) 1 c (omega arith),
+        )
+  ]
+
+  -- and no other, where the start is not past the end
+  around-zero : c < 1 → occurrences c (around end start) ≡ 0
+  around-zero low =
+      omega (
+        arith,
+        occurrences-append c (countUp (end - start) start) (countUp (start - 1) 1),
+        count-up-before (end - start) start c (omega arith),
+        count-up-before (start - 1) 1 c low,
+      )
+
+  around-past : end ≤ c → start ≤ c → occurrences c (around end start) ≡ 0
+  around-past past after =
+      omega (
+        arith,
+        occurrences-append c (countUp (end - start) start) (countUp (start - 1) 1),
+        count-up-outside (end - start) start c (omega arith),
+        count-up-outside (start - 1) 1 c (omega arith),
+      )
 
 -- the order of allocation has each usable cell once, and no other
 module _ (layout : Layout) (root c : ℕ) where
   pub order-usable : usable layout c ≡ true → occurrences c (allocationOrder layout root) ≡ 1
   unfolding allocationOrder
   order-usable u =
-      count-up-within (layout .cells - 1 - trailerCells layout) 1 c (usable-low layout c u) (omega (arith, usable-low layout c u, usable-high layout c u))
+      around-once (layout .cells - trailerCells layout) (firstTried layout root) c (first-least layout root) (usable-low layout c u)
+      (omega (arith, usable-high layout c u))
 
   pub order-only : 1 ≤ occurrences c (allocationOrder layout root) → usable layout c ≡ true
   unfolding allocationOrder
   order-only h = elim (decLt c 1) [
-    | yes before ↦ absurd (omega (arith, h, count-up-before (layout .cells - 1 - trailerCells layout) 1 c before))
+    | yes before ↦
+        absurd (omega (arith, h, around-zero (layout .cells - trailerCells layout) (firstTried layout root) c (first-least layout root) before))
     | no from ↦ elim (decLt (c + trailerCells layout) (layout .cells)) [
       | yes inside ↦ usable-is layout c (omega arith) inside
-      | no outside ↦ absurd (omega (arith, h, count-up-outside (layout .cells - 1 - trailerCells layout) 1 c (omega arith)))
+      | no outside ↦
+          absurd
+          (omega (arith, h, around-past (layout .cells - trailerCells layout) (firstTried layout root) c (first-least layout root) (omega arith) (⊎-elim (λ one. omega (arith, one)) (λ inside. omega (arith, inside)) (first-inside layout root))))
     ]
   ]
 

@@ -7,31 +7,29 @@ use native.Mathlib.Decide.{ℕ-discrete}
 use native.Mathlib.Numerals.{add-one}
 use native.Mathlib.Omega.{arith}
 use lib.Dec.{eqb}
-use lib.ListN.{length, getD, set, take, length-set}
-use lib.Seq.{take-suc-set, take-all, take-append-le, length-take-le}
+use lib.ListN.{length, getD, set, take, length-set, length-take}
+use lib.Seq.{take-suc-set, take-set-le, take-all, take-append-le, length-take-le}
 use borrow.Author.Tests.{eq-eqb, ne-eqb}
 use Rattle.cells.specs.Occurrences.{occurrences, select, countUp}
 use Rattle.cells.proofs.Choice.{absurd-bool}
-use Rattle.cells.proofs.Selected.{select-kept, select-dropped}
+use Rattle.cells.proofs.Selected.{select-kept, select-dropped, select-append, select-alike}
 use Rattle.staging.specs.Code.Stage.{stageCells}
 use Rattle.nodes.specs.Layout.{Layout, trailerCells, cellLimit}
+use Rattle.nodes.proofs.Pointers.{usable-high}
 use Rattle.blocks.specs.Sound.{reachable}
 use Rattle.blocks.specs.Code.Fits.{Fits}
 use Rattle.blocks.specs.Code.Stamps.{Stamped, Validated}
 use Rattle.blocks.specs.Trailer.{rootWord}
-use Rattle.store.specs.Free.{allocationOrder, free}
-use Rattle.store.specs.Code.Unstamped.{unstamped, Listed}
+use Rattle.store.specs.Free.{firstTried, allocationOrder, free}
+use Rattle.store.specs.Code.Unstamped.{isUnstamped, unstampedFrom, unstamped, Listed, ListedMore}
 use Rattle.store.specs.Code.Changeable.{FreeAnswer}
+use Rattle.store.proofs.Free.{order-only}
 
--- one number more in an array that has room for it
-pub listed-more : (numbers after : List ℕ) (count next cell : ℕ) → after ≡ set numbers count cell → next ≡ count + 1 → count < length numbers
+-- one number more at most in an array that has room for it
+pub listed-more : (numbers after : List ℕ) (count next cell : ℕ) → after ≡ set numbers count cell → next ≤ count + 1 → count < length numbers
     → next ≤ length after
 listed-more numbers after count next cell is counted inside =
     omega (arith, counted, ap (λ (l : List ℕ). length l) is, length-set numbers count cell)
-
--- whether a cell has no stamp
-abbrev pub unmarked : List ℕ → ℕ → Bool
-unmarked stamps c = eqb (getD stamps c 0) 0
 
 -- the walk, by the test of a cell
 module _ (test : ℕ → Bool) (goal : List ℕ) where
@@ -56,11 +54,13 @@ module _ (test : ℕ → Bool) (goal : List ℕ) where
       (sym (ap (select test) (count-up-more left more cell e) ∙ select-kept test cell (countUp more (cell + 1)) passes))
       ∙ so-far
 
+  -- what is written behind the list is no part of it
   pub walk-dropped : (numbers after : List ℕ) (count next left more cell : ℕ) → Walked numbers count left cell → test cell ≡ false
-      → after ≡ numbers → next ≡ count → left ≡ more + 1 → Walked after next more (cell + 1)
+      → after ≡ set numbers count cell → next ≡ count → left ≡ more + 1 → Walked after next more (cell + 1)
   walk-dropped numbers after count next left more cell so-far fails is counted e =
       ap (λ (n : ℕ). take n after ++ select test (countUp more (cell + 1))) counted
       ∙ ap (λ (l : List ℕ). take count l ++ select test (countUp more (cell + 1))) is
+      ∙ ap (λ (l : List ℕ). l ++ select test (countUp more (cell + 1))) (take-set-le count numbers count cell (omega arith))
       ∙ ap (λ (l : List ℕ). take count numbers ++ l)
       (sym (ap (select test) (count-up-more left more cell e) ∙ select-dropped test cell (countUp more (cell + 1)) fails))
       ∙ so-far
@@ -86,33 +86,43 @@ module _ (test : ℕ → Bool) (goal : List ℕ) where
         (ap (take limit) (sym so-far) ∙ take-append-le limit (take count numbers) (select test (countUp left cell)) (omega (arith, all))
         ∙ take-all limit (take count numbers) (omega (arith, all)))
 
--- nothing listed yet
-pub walk-start : (test : ℕ → Bool) (numbers : List ℕ) (left : ℕ) → Walked test (select test (countUp left 1)) numbers 0 left 1
-walk-start test numbers left = refl
+-- the first of a list, with more behind them, begin as the list does
+take-first : (n : ℕ) (xs ys : List ℕ) → take n (take n xs ++ ys) ≡ take n (xs ++ ys)
+take-first zero xs ys = refl
+take-first (suc n) [] ys = refl
+take-first (suc n) (x ∷ xs) ys = ap (λ (l : List ℕ). x ∷ l) (take-first n xs ys)
 
--- the cells walked are the usable ones
-pub walk-done : (layout : Layout) (root limit : ℕ) (stamps numbers : List ℕ) (trailer end count : ℕ)
-    → Listed numbers count (take limit (select (unmarked stamps) (countUp (end - 1) 1))) → trailer ≡ trailerCells layout → end ≡ layout .cells - trailer
-    → Listed numbers count (take limit (unstamped layout root stamps))
-unfolding unstamped allocationOrder
-walk-done layout root limit stamps numbers trailer end count listed one at =
-    let usable : end - 1 ≡ layout .cells - 1 - trailerCells layout = omega (arith, one, at) in
-    subst (λ (n : ℕ). Listed numbers count (take limit (select (unmarked stamps) (countUp n 1)))) usable listed
+-- there is room for as many as are listed
+pub listed-most : (before more numbers : List ℕ) (listed count : ℕ) → ListedMore before listed more numbers count → count ≤ stageCells
+unfolding ListedMore
+listed-most before more numbers listed count l = omega (arith, l .many, length-take stageCells (take listed before ++ more))
 
--- tests that agree on the numbers of a list select the same
-select-alike : (test test′ : ℕ → Bool) (count from : ℕ) → ((c : ℕ) → c < from + count → test c ≡ test′ c)
-    → select test (countUp count from) ≡ select test′ (countUp count from)
-unfolding countUp select
-select-alike test test′ zero from same = refl
-select-alike test test′ (suc count) from same =
-    rw (same from (omega arith), select-alike test test′ count (from + 1) (λ c below. same c (omega arith)))
+pub listed-inside : (before more numbers : List ℕ) (listed count : ℕ) → ListedMore before listed more numbers count → count ≤ length numbers
+unfolding ListedMore
+listed-inside before more numbers listed count l = omega (arith, l .many, ap (λ (l : List ℕ). length l) (l .are), length-take count numbers)
+
+-- the usable cells from the start on, then those before it
+pub around-listed : (layout : Layout) (root : ℕ) (stamps before between numbers : List ℕ) (trailer end start above count : ℕ) → trailer ≡ trailerCells layout
+    → end ≡ layout .cells - trailer → start ≡ firstTried layout root → ListedMore before 0 (unstampedFrom stamps start end) between above
+    → ListedMore between above (unstampedFrom stamps 1 start) numbers count → Listed numbers count (take stageCells (unstamped layout root stamps))
+unfolding unstamped allocationOrder ListedMore
+around-listed layout root stamps before between numbers trailer end start above count one at first upward wrapped =
+    let from : List ℕ = unstampedFrom stamps start end in
+    let up-to : List ℕ = unstampedFrom stamps 1 start in
+    let whole : take stageCells (take above between ++ up-to) ≡ take stageCells (from ++ up-to) =
+    ap (λ (l : List ℕ). take stageCells (l ++ up-to)) (upward .are) ∙ take-first stageCells from up-to in
+    let last : end ≡ layout .cells - trailerCells layout = at ∙ ap (λ (n : ℕ). layout .cells - n) one in
+    subst (λ (l : List ℕ). Listed numbers count (take stageCells l))
+    (sym (select-append (isUnstamped stamps) _ _) ∙ (λ i. select (isUnstamped stamps) (countUp (last i - first i) (first i) ++ countUp (first i - 1) 1)))
+    (subst (Listed numbers count) whole wrapped)
 
 -- where the stamps tell the cells that are reached, those without are the free ones
-pub unstamped-free : (layout : Layout) (block stamps : List ℕ) → layout .cells ≤ cellLimit → 1 ≤ layout .cells → Stamped layout block stamps
+pub unstamped-free : (layout : Layout) (block stamps : List ℕ) → layout .cells ≤ cellLimit → Stamped layout block stamps
     → unstamped layout (rootWord layout block) stamps ≡ free layout block
-unfolding unstamped free allocationOrder
-unstamped-free layout block stamps most least told =
-    select-alike _ _ (layout .cells - 1 - trailerCells layout) 1 (λ c below. same c (omega arith))
+unfolding unstamped free
+unstamped-free layout block stamps most told =
+    select-alike _ _ (allocationOrder layout (rootWord layout block))
+    (λ c h. same c (omega (arith, usable-high layout c (order-only layout (rootWord layout block) c h))))
   where
     same : (c : ℕ) → c < cellLimit → eqb (getD stamps c 0) 0 ≡ eqb (occurrences c (reachable layout block)) 0
     same c near = elim (ℕ-discrete (getD stamps c 0) 0) [
@@ -126,7 +136,7 @@ pub judged-listed : (layout : Layout) (block stamps numbers : List ℕ) (passed 
     → Listed numbers count (take stageCells (unstamped layout root stamps)) → FreeAnswer layout block numbers true count
 judged-listed layout block stamps numbers passed root count f validated yes-sound root-is listed =
     let same : unstamped layout root stamps ≡ free layout block =
-    ap (λ (r : ℕ). unstamped layout r stamps) root-is ∙ unstamped-free layout block stamps (f .most) (omega (arith, f .least)) (validated .stamped yes-sound) in
+    ap (λ (r : ℕ). unstamped layout r stamps) root-is ∙ unstamped-free layout block stamps (f .most) (validated .stamped yes-sound) in
     record {
       verdict = sym yes-sound ∙ validated .verdict;
       listed = λ _. subst (λ (l : List ℕ). Listed numbers count (take stageCells l)) same listed;

@@ -1,6 +1,7 @@
 pub mod Computed
 pub mod CallAnswers
 pub mod Free
+pub mod SearchStart
 pub mod Format
 pub mod Committed
 pub mod ChangeCall
@@ -19,6 +20,11 @@ pub mod RemoveCode
 pub mod FreeWrites
 pub mod WriteCalls
 pub mod Determined
+pub mod AsBefore
+pub mod GoesOn
+pub mod Rising
+pub mod Turns
+pub mod InTurn
 pub mod MeantBlock
 pub mod InsertZeros
 pub mod RemoveZeros

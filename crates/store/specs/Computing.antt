@@ -24,7 +24,7 @@ use Rattle.blocks.specs.Trailer.{validSlot}
 use Rattle.blocks.specs.Sound.{reachedFrom}
 use Rattle.blocks.specs.Refusal.{badNewKey, badValue}
 use Rattle.blocks.specs.Computing.{readsOpen}
-use Rattle.store.specs.Free.{allocationOrder, free}
+use Rattle.store.specs.Free.{firstTried, allocationOrder, free}
 use Rattle.store.specs.Format.{formatted, format}
 use Rattle.store.specs.Insert.{blockBuild, insert}
 use Rattle.store.specs.Remove.{blockRemoval, remove}
@@ -37,5 +37,5 @@ buildsOpen = tt
 
 -- the calls, with all of these
 unfoldable pub callsOpen : Unit {0}
-unfolding readsOpen buildsOpen validSlot reachedFrom countUp allocationOrder free badNewKey badValue formatted format blockBuild blockRemoval commitWrites insert remove
+unfolding readsOpen buildsOpen validSlot reachedFrom countUp firstTried allocationOrder free badNewKey badValue formatted format blockBuild blockRemoval commitWrites insert remove
 callsOpen = tt

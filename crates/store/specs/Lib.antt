@@ -1,4 +1,6 @@
 pub mod Free
+pub mod LowestFirst
+pub mod GoesOn
 pub mod Format
 pub mod Insert
 pub mod Remove
@@ -7,4 +9,5 @@ pub mod Tables
 pub mod Computing
 pub mod Committed
 pub mod TakenCells
+pub mod InTurn
 pub mod Code

@@ -1,6 +1,6 @@
--- 01: "for m label bytes at most 4m + 10" cells are allocated, whatever the memory holds; and at least one for a tree.
+-- 01: "for m label bytes at most 4m + 10" cells are allocated, whatever the memory holds.
 use mathlib.Core.Path.{_≡_, refl, sym, ap, _∙_, subst}
-use mathlib.Core.Logic.{_≢_, _⊎_, inl, inr, ⊎-elim}
+use mathlib.Core.Logic.{_⊎_, inl, inr, ⊎-elim}
 use mathlib.Core.Bool.{Bool, true, false, cond}
 use mathlib.Core.List.{List, [], _∷_}
 use mathlib.Core.Option.{Option, none, some}
@@ -44,103 +44,84 @@ no-position bytes (suc count) from x h = go (eqb x (sparseCharacter bytes from))
 abbrev pub Lacks : List ℕ → ℕ → Type 0
 Lacks bytes x = sparseCount bytes ≤ positionOf bytes (sparseCount bytes) 0 x
 
--- so many cells at least are allocated, and so many at most
-pub record Sized (least most : ℕ) (b : Built) : Type 0 where
-  pub low : least ≤ length (b .cells)
-  pub high : length (b .cells) ≤ most
+-- at most so many cells are allocated
+abbrev pub AtMost : ℕ → Built → Type 0
+AtMost most b = length (b .cells) ≤ most
 
-cond-sized : (t : Bool) (least most : ℕ) {a b : Built} → Sized least most a → Sized least most b → Sized least most (cond t a b)
-cond-sized true least most p q = p
-cond-sized false least most p q = q
-
--- one cell more is at most three
-three-more : (n : ℕ) {b : Built} → Sized 1 (1 + n) b → Sized 1 (n + 3) b
-three-more n h = record { low = h .low; high = omega (arith, h .high) }
+cond-most : (t : Bool) (most : ℕ) (a b : Built) → AtMost most a → AtMost most b → AtMost most (cond t a b)
+cond-most true most a b p q = p
+cond-most false most a b p q = q
 
 -- within the first bound, or within the second where something holds
-abbrev pub SizedOr : Type 0 → ℕ → ℕ → ℕ → Built → Type 0
-SizedOr Else least most most′ b = Sized least most b ⊎ (Else × Sized least most′ b)
-
--- the least cells of a child set: one, but for the pointers whose children are not set
-unfoldable pub leastSet : Pointer → ℕ
-leastSet nothing = 1
-leastSet (leaf v) = 1
-leastSet (chain c k) = 1
-leastSet (split c) = 1
-leastSet (sparse c) = 1
-leastSet (prefix c) = 0
-leastSet invalid = 0
+abbrev pub AtMostOr : Type 0 → ℕ → ℕ → Built → Type 0
+AtMostOr Else most most′ b = AtMost most b ⊎ (Else × AtMost most′ b)
 
 module _ (number : ℕ → ℕ) where
   -- one more cell
-  pub allocate-sized : (kind : ℕ) (bytes : List ℕ) (cells : List (List ℕ)) → Sized 1 (1 + length cells) (allocate number kind bytes cells)
+  allocate-most : (kind : ℕ) (bytes : List ℕ) (cells : List (List ℕ)) → AtMost (1 + length cells) (allocate number kind bytes cells)
   unfolding allocate
-  allocate-sized kind bytes cells = record { low = omega arith; high = omega arith }
+  allocate-most kind bytes cells = omega arith
 
-  with-sized : (x word place : ℕ) (cells : List (List ℕ)) → Sized 1 (1 + length cells) (chainWith number x word place cells)
+  with-most : (x word place : ℕ) (cells : List (List ℕ)) → AtMost (1 + length cells) (chainWith number x word place cells)
   unfolding chainWith characterBefore
-  with-sized x word zero cells = allocate-sized 27 _ cells
-  with-sized x word (suc place) [] = allocate-sized 27 _ []
-  with-sized x word (suc place) (newest ∷ rest) = record { low = omega arith; high = omega arith }
+  with-most x word zero cells = allocate-most 27 _ cells
+  with-most x word (suc place) [] = allocate-most 27 _ []
+  with-most x word (suc place) (newest ∷ rest) = omega arith
 
-  pub chainOver-sized : (x : ℕ) (b : Built) → Sized 1 (1 + length (b .cells)) (chainOver number x b)
+  chainOver-most : (x : ℕ) (b : Built) → AtMost (1 + length (b .cells)) (chainOver number x b)
   unfolding chainOver
-  chainOver-sized x b = with-sized x (b .word) (roomOf b) (b .cells)
+  chainOver-most x b = with-most x (b .word) (roomOf b) (b .cells)
 
-  chainSet-sized : (bytes : List ℕ) (cell place x : ℕ) (b : Built) → Sized 1 (1 + length (b .cells)) (chainSet number bytes cell place x b)
+  chainSet-most : (bytes : List ℕ) (cell place x : ℕ) (b : Built) → AtMost (1 + length (b .cells)) (chainSet number bytes cell place x b)
   unfolding chainSet
-  chainSet-sized bytes cell place x b =
-      cond-sized (eqb x (chainCharacter bytes place)) 1 (1 + length (b .cells)) (chainOver-sized x b) (allocate-sized 30 _ (b .cells))
-
-  splitOf-sized : (bytes : List ℕ) (x : ℕ) (b : Built) → Sized 1 (length (b .cells) + 13) (splitOf number (withChild (sparseChild bytes) x (b .word)) (b .cells))
-  splitOf-sized bytes x b =
-      record { low = unfold splitOf allocate in omega arith; high = split-sparse-most number bytes x (b .word) (b .cells) }
+  chainSet-most bytes cell place x b =
+      cond-most (eqb x (chainCharacter bytes place)) (1 + length (b .cells)) _ _ (chainOver-most x b) (allocate-most 30 _ (b .cells))
 
   -- a sparse cell is copied, or has thirteen cells in its place where it lacks the character
-  sparseSet-sized : (bytes : List ℕ) (x : ℕ) (b : Built)
-      → SizedOr (Lacks bytes x) 1 (1 + length (b .cells)) (length (b .cells) + 13) (sparseSet number bytes x b)
+  sparseSet-most : (bytes : List ℕ) (x : ℕ) (b : Built)
+      → AtMostOr (Lacks bytes x) (1 + length (b .cells)) (length (b .cells) + 13) (sparseSet number bytes x b)
   unfolding sparseSet
-  sparseSet-sized bytes x b = go (ltb (positionOf bytes (sparseCount bytes) 0 x) (sparseCount bytes)) (ltb (sparseCount bytes) 6) refl
+  sparseSet-most bytes x b = go (ltb (positionOf bytes (sparseCount bytes) 0 x) (sparseCount bytes)) (ltb (sparseCount bytes) 6) refl
     where
       go : (t u : Bool) → ltb (positionOf bytes (sparseCount bytes) 0 x) (sparseCount bytes) ≡ t
-          → SizedOr (Lacks bytes x) 1 (1 + length (b .cells)) (length (b .cells) + 13)
+          → AtMostOr (Lacks bytes x) (1 + length (b .cells)) (length (b .cells) + 13)
           (cond t (allocate number 30 (replacedCell bytes (positionOf bytes (sparseCount bytes) 0 x) (b .word)) (b .cells))
           (cond u (allocate number 30 (appendedCell bytes x (b .word)) (b .cells)) (splitOf number (withChild (sparseChild bytes) x (b .word)) (b .cells))))
-      go true u e = inl (allocate-sized 30 _ (b .cells))
-      go false true e = inl (allocate-sized 30 _ (b .cells))
-      go false false e = inr (ltb-false _ _ e, splitOf-sized bytes x b)
+      go true u e = inl (allocate-most 30 _ (b .cells))
+      go false true e = inl (allocate-most 30 _ (b .cells))
+      go false false e = inr (ltb-false _ _ e, split-sparse-most number bytes x (b .word) (b .cells))
 
   module _ (layout : Layout) (m : Memory) where
     -- a child set is at most three cells, but for a sparse cell that lacks the character
     abbrev pub LacksAt : Pointer → ℕ → Type 0
     LacksAt p x = (c : ℕ) × (p ≡ sparse c) × Lacks (m c) x
 
-    pub setChild-sized : (p : Pointer) (x : ℕ) (b : Built)
-        → SizedOr (LacksAt p x) (leastSet p) (length (b .cells) + 3) (length (b .cells) + 13) (setChild layout number m p x b)
-    unfolding setChild splitCopied allocate leastSet
-    setChild-sized nothing x b = inl (three-more (length (b .cells)) (chainOver-sized x b))
-    setChild-sized (leaf v) x b = inl (three-more (length (b .cells)) (chainOver-sized x b))
-    setChild-sized (chain c k) x b = inl (three-more (length (b .cells)) (chainSet-sized (m c) c k x b))
-    setChild-sized (split c) x b = inl (record { low = omega arith; high = omega arith })
-    setChild-sized (sparse c) x b = ⊎-elim (λ h. inl (three-more (length (b .cells)) h)) (λ h. inr ((c, refl, h .0), h .1)) (sparseSet-sized (m c) x b)
-    setChild-sized (prefix c) x b = inl (record { low = omega arith; high = omega arith })
-    setChild-sized invalid x b = inl (record { low = omega arith; high = omega arith })
+    pub setChild-most : (p : Pointer) (x : ℕ) (b : Built)
+        → AtMostOr (LacksAt p x) (length (b .cells) + 3) (length (b .cells) + 13) (setChild layout number m p x b)
+    unfolding setChild splitCopied allocate
+    setChild-most nothing x b = inl (omega (arith, chainOver-most x b))
+    setChild-most (leaf v) x b = inl (omega (arith, chainOver-most x b))
+    setChild-most (chain c k) x b = inl (omega (arith, chainSet-most (m c) c k x b))
+    setChild-most (split c) x b = inl (omega arith)
+    setChild-most (sparse c) x b = ⊎-elim (λ h. inl (omega (arith, h))) (λ h. inr ((c, refl, h .0), h .1)) (sparseSet-most (m c) x b)
+    setChild-most (prefix c) x b = inl (omega arith)
+    setChild-most invalid x b = inl (omega arith)
 
-    -- a value over a build is one cell more, or none where it is embedded; and one at least
-    before-sized : (v word : ℕ) (cells : List (List ℕ)) → Sized 1 (1 + length cells) (prefixBefore number v word cells)
+    -- a value over a build is one cell more, or none where it is embedded
+    before-most : (v word : ℕ) (cells : List (List ℕ)) → AtMost (1 + length cells) (prefixBefore number v word cells)
     unfolding prefixBefore
-    before-sized v word [] = allocate-sized 31 _ []
-    before-sized v word (newest ∷ rest) = record { low = omega arith; high = omega arith }
+    before-most v word [] = allocate-most 31 _ []
+    before-most v word (newest ∷ rest) = omega arith
 
-    pub prefixOver-sized : (v : ℕ) (b : Built) → Sized 1 (1 + length (b .cells)) (prefixOver layout number v b)
+    prefixOver-most : (v : ℕ) (b : Built) → AtMost (1 + length (b .cells)) (prefixOver layout number v b)
     unfolding prefixOver
-    prefixOver-sized v b =
-        cond-sized (embeds layout (b .own) (b .word)) 1 (1 + length (b .cells)) (before-sized v (b .word) (b .cells)) (allocate-sized 31 _ (b .cells))
+    prefixOver-most v b =
+        cond-most (embeds layout (b .own) (b .word)) (1 + length (b .cells)) _ _ (before-most v (b .word) (b .cells)) (allocate-most 31 _ (b .cells))
 
     pub putBack-most : (value : Option ℕ) (b : Built) → length (putBack layout number value b .cells) ≤ 1 + length (b .cells)
     unfolding putBack
     putBack-most none b = omega arith
-    putBack-most (some v) b = prefixOver-sized v b .high
+    putBack-most (some v) b = prefixOver-most v b
 
     -- a node over a sparse cell that lacks the character has no child there
     sparse-lacks : (c x : ℕ) (X : Node) → Lacks (m c) x → plain layout m (sparse c) ≡ some X → X .child x ≡ 0
@@ -178,7 +159,7 @@ module _ (number : ℕ → ℕ) where
       from-none [] = empty
       from-none (x ∷ key) =
           rw (pointer-zero layout, read-zero layout m, pointer-zero layout)
-          (let later = from-none key in omega (arith, later, chainOver-sized x (pathCopy layout m (nodeCopy layout number m) atEnd 0 key) .high))
+          (let later = from-none key in omega (arith, later, chainOver-most x (pathCopy layout m (nodeCopy layout number m) atEnd 0 key)))
 
       pub pathCopy-bound : (word : ℕ) (key : List ℕ) → length (pathCopy layout m (nodeCopy layout number m) atEnd word key .cells) ≤ 4 * length key + 10
       unfolding pathCopy
@@ -189,17 +170,17 @@ module _ (number : ℕ → ℕ) where
           joined below (setChild layout number m beside x below)
           (pathCopy-bound (childOf (read layout m word) x) key)
           (putBack-most (pointerValue m (pointer layout word)) (setChild layout number m beside x below))
-          (setChild-sized beside x below)
+          (setChild-most beside x below)
           (λ c e h. subst (λ (w : ℕ). length (pathCopy layout m (nodeCopy layout number m) atEnd w key .cells) ≤ length key) (sym (word-lacks word c x e h)) (from-none key))
         where
           joined : (below after : Built) → length (below .cells) ≤ 4 * length key + 10
               → length (putBack layout number (pointerValue m (pointer layout word)) after .cells) ≤ 1 + length (after .cells)
-              → SizedOr (LacksAt (pointer layout (wordAside layout m (pointer layout word) word)) x) (leastSet (pointer layout (wordAside layout m (pointer layout word) word)))
-              (length (below .cells) + 3) (length (below .cells) + 13) after
+              → AtMostOr (LacksAt (pointer layout (wordAside layout m (pointer layout word) word)) x) (length (below .cells) + 3)
+              (length (below .cells) + 13) after
               → ((c : ℕ) → pointer layout (wordAside layout m (pointer layout word) word) ≡ sparse c → Lacks (m c) x → length (below .cells) ≤ length key)
               → length (putBack layout number (pointerValue m (pointer layout word)) after .cells) ≤ 4 * suc (length key) + 10
-          joined below after before back (inl h) short = omega (arith, h .high)
-          joined below after before back (inr h) short = let few = short (h .0 .0) (h .0 .1) (h .0 .2) in omega (arith, few, h .1 .high)
+          joined below after before back (inl h) short = omega (arith, h)
+          joined below after before back (inr h) short = let few = short (h .0 .0) (h .0 .1) (h .0 .2) in omega (arith, few, h .1)
 
     valueAt-most : (value : ℕ) (p : Pointer) (word : ℕ) → length (valueAt layout number m value p word .cells) ≤ 1
     unfolding valueAt allocate
@@ -219,29 +200,3 @@ module _ (number : ℕ → ℕ) where
     pub build-bound : (root : ℕ) (key : List ℕ) (value : ℕ) → length (build layout number m root key value .cells) ≤ 4 * length key + 10
     unfolding build
     build-bound root key value = pathCopy-bound _ (λ word. valueAt-most value (pointer layout word) word) (valueAt-none value) root key
-
-    -- one cell at least where the first word names something
-    setChild-least : (p : Pointer) (x : ℕ) (b : Built) → leastSet p ≤ length (setChild layout number m p x b .cells)
-    setChild-least p x b = ⊎-elim (λ h. h .low) (λ h. h .1 .low) (setChild-sized p x b)
-
-    step-least : (word x : ℕ) (b : Built) (p : Pointer) → pointer layout word ≡ p → p ≢ invalid
-        → 1 ≤ length (putBack layout number (pointerValue m p) (setChild layout number m (pointer layout (wordAside layout m p word)) x b) .cells)
-    unfolding putBack pointerValue wordAside leastSet
-    step-least word x b nothing is named = rw is (setChild-least nothing x b)
-    step-least word x b (leaf v) is named = prefixOver-sized v _ .low
-    step-least word x b (chain c k) is named = rw is (setChild-least (chain c k) x b)
-    step-least word x b (split c) is named = rw is (setChild-least (split c) x b)
-    step-least word x b (sparse c) is named = rw is (setChild-least (sparse c) x b)
-    step-least word x b (prefix c) is named = prefixOver-sized _ _ .low
-    step-least word x b invalid is named = absurd (named refl)
-
-    pub pathCopy-least : (atEnd : ℕ → Built) (word x : ℕ) (key : List ℕ) → pointer layout word ≢ invalid
-        → 1 ≤ length (pathCopy layout m (nodeCopy layout number m) atEnd word (x ∷ key) .cells)
-    unfolding pathCopy
-    pathCopy-least atEnd word x key named = step-least word x _ (pointer layout word) refl named
-
-    pub build-least : (root : ℕ) (key : List ℕ) (value : ℕ) → 1 ≤ length key → pointer layout root ≢ invalid
-        → 1 ≤ length (build layout number m root key value .cells)
-    unfolding build
-    build-least root [] value some-key named = absurd (omega arith)
-    build-least root (x ∷ key) value some-key named = pathCopy-least _ root x key named

@@ -7,6 +7,7 @@ pub mod BuildBytes
 pub mod Zeros
 pub mod BuildZeros
 pub mod Bound
+pub mod Newest
 pub mod Commit
 pub mod SetChild
 pub mod TreeChange

@@ -118,6 +118,22 @@ pub list-of-run :
 unfolding listsOpen
 list-of-run = refl
 
+-- the same key in cell 5 of eight, the last but one that is usable
+abbrev runInFive : List ℕ
+runInFive = zeros 160 ++ chainBytes 0x00434841 0xFFFFFFFF ++ zeros 32 ++ eightWords 0x000000B9 0 0 0 0x00000000 0x00000008 0x00000000 0x00000001
+
+-- 02, 6: "Cells come in the order taken", which is not always that of their numbers; 02, 7: "wrapping from the last usable cell to cell 1": 43 with 5
+-- takes cell 6 and then cell 1
+pub list-that-wraps :
+    _≡_ {A = WriteList}
+    (writeList runInFive (0x43 ∷ []) 5 (lent 136))
+    (done 17
+    (cellRecords 0x000000C0 0x00000005 0xFF000000 0 0 0 0 0 0x000000BA
+    ++ cellRecords 0x00000020 0 0 0 0 0 0 0x00000043 0x000000DF
+    ++ words (0x000000E0 ∷ 0x0000003B ∷ [])))
+unfolding listsOpen
+list-that-wraps = refl
+
 -- a block of five cells in edition 2: 43 with 5 (1)
 abbrev editionTwo : List ℕ
 editionTwo =

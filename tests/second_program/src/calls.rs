@@ -1,6 +1,6 @@
 //! Every call of the specification on a block, its answers tried in the order in which they are to be given.
 
-use crate::counted::{BuildCase, Change};
+use crate::counted::{BuildCase, Change, WearCase};
 use crate::coverage::Coverage;
 use crate::encode::{entered, fresh_cells, Build, Layer};
 use crate::limits::{held_limits, limits_met};
@@ -8,6 +8,7 @@ use crate::model::{put_word, word_at, Node, Store, CELL, EDITIONS, LONGEST_KEY};
 use crate::pages::{self, page, Page, Printed};
 use crate::removal::without;
 use crate::verdict::{verdict, Question};
+use crate::wear::met_by_search;
 use crate::write_list::{self, write_list, Asked};
 use std::ops::Bound;
 
@@ -117,7 +118,11 @@ fn answer(block: &mut [u8], call: &Call, coverage: &mut Coverage) -> Outcome {
         Call::Page(asked) => page(&store.root.table(), asked, coverage),
         Call::WriteList(asked) => write_list(block, store, asked, coverage),
         Call::Snapshot { slot } => snapshot(block, *slot),
-        Call::Restore { slot } => restore(block, *slot),
+        Call::Restore { slot } => {
+            let outcome = restore(block, *slot);
+            coverage.restored(block, store.root.word);
+            outcome
+        }
         Call::Release { slot } => release(block, *slot),
         Call::Verdict(question) => {
             let held = store.root.table().get(&question.label).copied();
@@ -193,10 +198,12 @@ fn remove(block: &mut [u8], store: Store, key: &[u8], coverage: &mut Coverage) -
     counted(left, Change::Removal, coverage)
 }
 
-/// What a change laid down: the cells that it took, in the order taken, and the cases that its build went through.
+/// What a change laid down: the cells that it took, in the order taken, and the cases that its build and the search for
+/// its cells went through.
 pub struct Laid {
     pub taken: Vec<usize>,
     pub cases: Vec<BuildCase>,
+    pub searched: Vec<WearCase>,
 }
 
 /// Writes a new tree and its root word, where the free cells are enough.
@@ -215,19 +222,20 @@ fn lay_down(
     if count == 0 {
         build.push(BuildCase::NothingTaken);
     }
+    let searched = met_by_search(block, &free, count, coverage.is_restored(block));
     let trailer = block.len() - CELL;
     let mut layer = Layer::new(block, free);
     let root = tree.map_or(0, |tree| layer.lay(&tree));
     let taken = layer.taken;
     put_word(block, trailer, root);
-    Ok(Laid { taken, cases: build.cases })
+    Ok(Laid { taken, cases: build.cases, searched })
 }
 
 /// The outcome of a change: the number is the count of cells taken.
 fn counted(laid: Result<Laid, u8>, change: Change, coverage: &mut Coverage) -> Outcome {
     match laid {
         Ok(laid) => {
-            coverage.built(change, &laid.cases);
+            coverage.built(change, &laid.cases, &laid.searched);
             Outcome::done(laid.taken.len() as u32)
         }
         Err(answer) => Outcome::bare(answer),

@@ -145,6 +145,37 @@ counted! {
 }
 
 counted! {
+    /// How the search for a change's cells goes. From an empty table, and then past a held cell 1, or to the last
+    /// usable cell. From a root in the last usable cell. Past a held cell right after the root's. Wrapped, so that a
+    /// later cell is lower than an earlier one, or so that the first one is lower than the root's. To the cell just
+    /// below the root's, or wrapped and to the last free one. With a lower free cell left, as the older rule would not
+    /// have it. Below a held cell further up. From a root that is a split; from one that a restore has just set.
+    WearCase: EmptyTable, EmptyPastHeld, EmptyToLastUsable, RootInLastUsable, PastHeld, Wrapped, WrappedAtOnce,
+    JustBelowRoot, AllRound, LowerLeft, BelowHeld, SplitRoot, AfterRestore,
+}
+
+/// All cases of a search, those of an empty table first.
+const SEARCHES: &[WearCase] = &[
+    WearCase::EmptyTable,
+    WearCase::EmptyPastHeld,
+    WearCase::EmptyToLastUsable,
+    WearCase::RootInLastUsable,
+    WearCase::PastHeld,
+    WearCase::Wrapped,
+    WearCase::WrappedAtOnce,
+    WearCase::JustBelowRoot,
+    WearCase::AllRound,
+    WearCase::LowerLeft,
+    WearCase::BelowHeld,
+    WearCase::SplitRoot,
+    WearCase::AfterRestore,
+];
+
+/// The cases of each change's search, in the order of `Change`; every one must be met, and no other. An empty table has
+/// nothing to remove.
+pub const SEARCHED: [&[WearCase]; 3] = [SEARCHES, SEARCHES.split_at(3).1, SEARCHES];
+
+counted! {
     /// How a list of calls ends, what is left over there, and what stands in it.
     ListCase: AtEnd, NotFresh, NoCall, Full, EndAsAnswersFill, NothingAtAll, AnswersLeftOver, NoAnswerByte,
     FullBeforeNoCall, OtherTag, InsertCut, SlotCut, RemoveCut, OneByteShort, KeyOf0, KeyOf48, KeyOf49, KeyOf255,

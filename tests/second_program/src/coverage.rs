@@ -1,8 +1,10 @@
 //! What the calls have met: answers by call, shapes of nodes, build cases, broken rules.
 
-use crate::counted::{BuildCase, Change, Flaw, ListCase, PageCase, Room, SeriesCase, Shape, Spoilt, WriteCase, BUILT};
+use crate::counted::{
+    BuildCase, Change, Flaw, ListCase, PageCase, Room, SeriesCase, Shape, Spoilt, WearCase, WriteCase, BUILT, SEARCHED,
+};
 use crate::limits::{all_limits, Limit};
-use crate::model::{FIRST_EMBEDDED, SPLIT};
+use crate::model::{word_at, CELL, FIRST_EMBEDDED, SPLIT};
 use std::collections::BTreeMap;
 
 /// The calls, in the order of `Call::number`.
@@ -89,6 +91,9 @@ pub struct Coverage {
     cases: [[u64; BuildCase::NAMES.len()]; BUILT.len()],
     flaws: [u64; Flaw::NAMES.len()],
     rooms: [[u64; Room::NAMES.len()]; BUILT.len()],
+    wear: [[u64; WearCase::NAMES.len()]; BUILT.len()],
+    /// The last block whose root a restore has moved, as that left it.
+    restored: Vec<u8>,
     orders: BTreeMap<u16, u64>,
     places: [u64; PLACES],
     spoilt: [u64; Spoilt::NAMES.len()],
@@ -110,6 +115,8 @@ impl Coverage {
             cases: [[0; BuildCase::NAMES.len()]; BUILT.len()],
             flaws: [0; Flaw::NAMES.len()],
             rooms: [[0; Room::NAMES.len()]; BUILT.len()],
+            wear: [[0; WearCase::NAMES.len()]; BUILT.len()],
+            restored: Vec::new(),
             orders: BTreeMap::new(),
             places: [0; PLACES],
             spoilt: [0; Spoilt::NAMES.len()],
@@ -151,11 +158,26 @@ impl Coverage {
         self.spoilt[way as usize] += 1;
     }
 
-    /// Counts the build cases of an accepted change.
-    pub fn built(&mut self, change: Change, cases: &[BuildCase]) {
+    /// Counts the build cases of an accepted change, and those of the search for its cells.
+    pub fn built(&mut self, change: Change, cases: &[BuildCase], searched: &[WearCase]) {
         for case in cases {
             self.cases[change as usize][*case as usize] += 1;
         }
+        for case in searched {
+            self.wear[change as usize][*case as usize] += 1;
+        }
+    }
+
+    /// Remembers a block that a restore has left, where its root was another before.
+    pub fn restored(&mut self, block: &[u8], old_root: u32) {
+        if word_at(block, block.len() - CELL) != old_root {
+            self.restored = block.to_vec();
+        }
+    }
+
+    /// Whether a block still is as a restore left it that moved its root.
+    pub fn is_restored(&self, block: &[u8]) -> bool {
+        self.restored == block
     }
 
     /// How many values were put into the cells of their nodes.
@@ -224,8 +246,10 @@ impl Coverage {
         }
         short += print_counts("shapes", Shape::NAMES, &self.shapes, least);
         for (change, (title, cases)) in BUILT.iter().enumerate() {
-            short += self.report_cases(change, title, cases, least);
+            let own = cases.iter().map(|case| *case as usize);
+            short += print_own(title, BuildCase::NAMES, &self.cases[change], own, least);
             short += print_counts("room", Room::NAMES, &self.rooms[change], least);
+            short += self.report_wear(change, least);
         }
         short += print_counts("broken rules", Flaw::NAMES, &self.flaws, least);
         short += print_counts("embedded prefixes spoilt and refused", Spoilt::NAMES, &self.spoilt, least);
@@ -247,7 +271,16 @@ impl Coverage {
         for (call, reachable) in LISTED {
             short += self.report_answers(call, reachable, least);
         }
+        for change in [Change::Insertion, Change::Removal] {
+            short += self.report_wear(change as usize, least);
+        }
         short + self.report_large(least)
+    }
+
+    /// Prints how the searches of a change went and gives the number of cases that fall short.
+    fn report_wear(&self, change: usize, least: u64) -> usize {
+        let own = SEARCHED[change].iter().map(|case| *case as usize);
+        print_own("search for cells", WearCase::NAMES, &self.wear[change], own, least)
     }
 
     /// Prints a call's answers and gives the number of those that fall short; an answer that it cannot give is one too.
@@ -258,15 +291,6 @@ impl Coverage {
         let inside: u64 = reachable.iter().map(|answer| answers[*answer]).sum();
         let few = reachable.iter().filter(|answer| answers[**answer] < least).count();
         few + usize::from(inside != answers.iter().sum())
-    }
-
-    /// Prints a change's build cases and gives the number of those that fall short; a case that is not its own is one too.
-    fn report_cases(&self, change: usize, title: &str, own: &[BuildCase], least: u64) -> usize {
-        let counts = &self.cases[change];
-        let names: Vec<&str> = own.iter().map(|case| BuildCase::NAMES[*case as usize]).collect();
-        let own_counts: Vec<u64> = own.iter().map(|case| counts[*case as usize]).collect();
-        let strays = usize::from(own_counts.iter().sum::<u64>() != counts.iter().sum());
-        strays + print_counts(title, &names, &own_counts, least)
     }
 
     /// Prints how often the rarest limit was met and gives the number of those that fall short.
@@ -284,6 +308,13 @@ impl Coverage {
         println!("calls on blocks of 64 cells or more: {} of {}, a fifth asked for", self.large_calls, self.calls);
         usize::from(least > 0 && self.large_calls * 5 < self.calls)
     }
+}
+
+/// Prints a change's own counts and gives the number of those under the least; a case that is not its own is one too.
+fn print_own(title: &str, names: &[&str], counts: &[u64], own: impl Iterator<Item = usize>, least: u64) -> usize {
+    let (names, own_counts): (Vec<&str>, Vec<u64>) = own.map(|case| (names[case], counts[case])).unzip();
+    let strays = usize::from(own_counts.iter().sum::<u64>() != counts.iter().sum());
+    strays + print_counts(title, &names, &own_counts, least)
 }
 
 /// Prints one family of counts and gives the number of those under the least.

@@ -69,11 +69,11 @@ fn longest_run() {
 fn set_anew_and_removed() {
     let (mut block, _) = value_and_longer_key(2);
     let mut removed = block.clone();
-    assert_eq!((insert(&mut block, &[0x43], 9), root(&block)), ((0, 2), 0x9B));
+    assert_eq!((insert(&mut block, &[0x43], 9), root(&block)), ((0, 2), 0xBB));
     let standalone = bytes("00000009 FF000000 00000000 00000000 00000000 00000000 00000000 0000005A");
-    assert_eq!((cell(&block, 1), &cell(&block, 4)[0x1B..]), (&standalone[..], &bytes("43 0000003F")[..]));
-    assert_eq!((remove(&mut removed, &[0x43]), root(&removed)), ((0, 1), 0x3B));
-    assert_eq!(cell(&removed, 1)[0x1B..], bytes("43 0000005A"));
+    assert_eq!((cell(&block, 4), &cell(&block, 5)[0x1B..]), (&standalone[..], &bytes("43 0000009F")[..]));
+    assert_eq!((remove(&mut removed, &[0x43]), root(&removed)), ((0, 1), 0x9B));
+    assert_eq!(cell(&removed, 4)[0x1B..], bytes("43 0000005A"));
     assert_eq!(cell(&removed, 2)[..5], bytes("00000005 1A"));
 }
 
@@ -113,8 +113,8 @@ fn value_over_a_split() {
         }
         assert_eq!(insert(&mut block, &[0x43, 0x51], 0), (0, count));
         if edition == 2 {
-            assert_eq!(cell(&block, 9)[..0x10], bytes("00000005 1C000000 00000000 00000000"));
-            assert_eq!((root(&block), &cell(&block, 10)[0x1B..]), (0x15B, &bytes("43 0000013F")[..]));
+            assert_eq!(cell(&block, 24)[..0x10], bytes("00000005 1C000000 00000000 00000000"));
+            assert_eq!((root(&block), &cell(&block, 25)[0x1B..]), (0x33B, &bytes("43 0000031F")[..]));
         }
     }
 }
@@ -123,10 +123,10 @@ fn value_over_a_split() {
 fn path_through() {
     let (mut block, _) = value_and_longer_key(2);
     let mut removed = block.clone();
-    assert_eq!((insert(&mut block, &[0x43, 0x48, 0x42], 1), root(&block)), ((0, 3), 0xBB));
+    assert_eq!((insert(&mut block, &[0x43, 0x48, 0x42], 1), root(&block)), ((0, 3), 0xDB));
     let sparse = bytes("FFFFFFFF FFFFFFFE 00000000 00000000 00000000 00000000 41420000 00000006");
-    assert_eq!(cell(&block, 1), sparse);
-    assert_eq!(cell(&block, 4), bytes("00000005 1B000000 00000000 00000000 00000000 00000000 00000048 0000003E"));
-    assert_eq!((remove(&mut removed, &[0x43, 0x48, 0x41]), root(&removed)), ((0, 1), 0x3B));
-    assert_eq!(cell(&removed, 1)[0x1B..], bytes("43 FFFFFFFA"));
+    assert_eq!(cell(&block, 4), sparse);
+    assert_eq!(cell(&block, 5), bytes("00000005 1B000000 00000000 00000000 00000000 00000000 00000048 0000009E"));
+    assert_eq!((remove(&mut removed, &[0x43, 0x48, 0x41]), root(&removed)), ((0, 1), 0x9B));
+    assert_eq!(cell(&removed, 4)[0x1B..], bytes("43 FFFFFFFA"));
 }

@@ -6,13 +6,14 @@ use crate::encode::Layer;
 use crate::ledger::Ledger;
 use crate::model::{put_word, word_at, Node, Place, Seat, Store, CELL};
 use crate::pages::{pairs_in, Page, Printed};
+use crate::wear_invariants::{check_nearest, check_turned, free_cells, taken_cells};
 use crate::write_list::{stores_in, Asked, RECORD};
 
 /// The first promise that a call broke, in words.
-type Verdict = Result<(), String>;
+pub type Verdict = Result<(), String>;
 
 /// Demands one promise.
-fn demand(kept: bool, promise: &str) -> Verdict {
+pub fn demand(kept: bool, promise: &str) -> Verdict {
     match kept {
         true => Ok(()),
         false => Err(format!("broken: {promise}")),
@@ -47,7 +48,7 @@ pub fn check(before: &[u8], after: &[u8], call: &Call, outcome: &Outcome) -> Ver
             let mut ledger = Ledger::of(&old);
             demand(ledger.feed(call, false) == Some(0), "the ledger accepts too")?;
             demand(ledger.shown_by(&store), "the tables are those of the ledger")?;
-            check_bytes(before, after, call, &old, &store, outcome)
+            check_bytes(before, after, call, outcome)
         }
     }
 }
@@ -120,13 +121,13 @@ fn check_list(block: &[u8], asked: &Asked, outcome: &Outcome) -> Verdict {
     let whole =
         |cell: &[(usize, u32)]| (0..8).all(|word| cell[word].0 == cell[0].0 + 4 * word) && cell[0].0 % CELL == 0;
     demand(stores.chunks(8).all(whole), "each cell comes whole, its words in rising position")?;
-    let free = Store::decode(block).expect("sound").free_cells();
     let cells: Vec<usize> = stores.iter().step_by(8).map(|(position, _)| position / CELL).collect();
-    demand(cells == free[..count], "the cells come in the order in which they are taken")
+    demand(cells == taken_cells(block, &entered)?, "the cells come in the order in which they are taken")?;
+    check_nearest(block, &cells)
 }
 
 /// Which bytes a mutating call may write.
-fn check_bytes(before: &[u8], after: &[u8], call: &Call, old: &Store, new: &Store, outcome: &Outcome) -> Verdict {
+fn check_bytes(before: &[u8], after: &[u8], call: &Call, outcome: &Outcome) -> Verdict {
     let trailer = before.len() - CELL;
     let (key, least) = match call {
         Call::Insert { key, .. } => (key, 1),
@@ -134,11 +135,10 @@ fn check_bytes(before: &[u8], after: &[u8], call: &Call, old: &Store, new: &Stor
         _ => return demand(before[..trailer] == after[..trailer], "a snapshot's call writes the trailer alone"),
     };
     let count = outcome.number as usize;
-    let free = old.free_cells();
     demand((least..=4 * key.len() + 10).contains(&count), "the count keeps its bound")?;
-    let taken: Vec<usize> = free.iter().copied().filter(|cell| new.root.entered[*cell].is_some()).collect();
+    let taken = taken_cells(before, after)?;
     demand(taken.len() == count, "the count is that of the newly reached cells")?;
-    demand(taken == free[..count], "the lowest free cells are taken")?;
+    check_nearest(before, &taken)?;
     let mut rebuilt = before.to_vec();
     put_word(&mut rebuilt, trailer, word_at(after, trailer));
     for cell in &taken {
@@ -150,13 +150,14 @@ fn check_bytes(before: &[u8], after: &[u8], call: &Call, old: &Store, new: &Stor
     let root = top.map_or(0, |top| layer.lay(&as_new(top, &taken)));
     demand(root == word_at(after, trailer), "the decoded tree encodes to the same root")?;
     demand(rebuilt == after, "the decoded tree encodes to the same bytes, and no other byte moved")?;
-    let path = path_cells(after, key);
-    let new_path: Vec<usize> = path.into_iter().filter(|cell| taken.contains(cell)).collect();
-    demand(new_path.windows(2).all(|pair| pair[0] > pair[1]), "the deepest node takes its cell first")?;
-    demand(least == 1 || new_path.len() == count, "a removal takes cells for the key's path alone")?;
+    let place_of = |cell: &usize| taken.iter().position(|taken| taken == cell);
+    let places: Vec<usize> = path_cells(after, key).iter().filter_map(place_of).collect();
+    demand(places.windows(2).all(|pair| pair[0] > pair[1]), "the deepest node takes its cell first")?;
+    demand(least == 1 || places.len() == count, "a removal takes cells for the key's path alone")?;
     demand(least == 1 || kept_shapes(before, after, key), "a node is rebuilt by what it keeps")?;
     demand(seated(after, key, &taken), "a value stands where the edition and its node ask for")?;
-    check_enlarged(before, call, count as u32)
+    check_enlarged(before, call, count as u32)?;
+    check_turned(before, call, outcome, &taken)
 }
 
 /// The same change with plenty of room takes the same number of cells, whatever the value.
@@ -172,14 +173,18 @@ fn check_enlarged(before: &[u8], call: &Call, count: u32) -> Verdict {
     demand(outcome == Outcome::done(count), "the count depends on the tree and key alone")
 }
 
-/// Answer 7 comes exactly when the same change in a larger block takes more cells than were free.
+/// Answer 7 comes exactly when the same change in a larger block takes more cells than were free, and in a turned block
+/// too.
 fn check_no_room(before: &[u8], call: &Call, outcome: &Outcome) -> Verdict {
-    let larger = if outcome.answer == 7 { enlarge(before) } else { None };
-    let Some(mut enlarged) = larger else {
+    if outcome.answer != 7 {
+        return Ok(());
+    }
+    let change = if let Call::WriteList(asked) = call { &asked.entry() } else { call };
+    check_turned(before, change, &Outcome::bare(7), &[])?;
+    let Some(mut enlarged) = enlarge(before) else {
         return Ok(());
     };
-    let free = Store::decode(before).expect("sound").free_cells().len();
-    let change = if let Call::WriteList(asked) = call { &asked.entry() } else { call };
+    let free = free_cells(before).len();
     let outcome = perform(&mut enlarged, change, &mut Coverage::new());
     demand(outcome.answer == 0, "a larger block has room")?;
     demand(outcome.number as usize > free, "more cells are taken than were free")

@@ -39,6 +39,12 @@ mod spoilt;
 mod stored;
 mod sweeps;
 mod verdict;
+mod wear;
+#[cfg(alone)]
+mod wear_invariants;
+#[cfg(alone)]
+mod wear_test;
+mod worn;
 mod write_list;
 #[cfg(alone)]
 mod write_list_test;
@@ -49,10 +55,12 @@ use std::process::ExitCode;
 /// The calls of a run that names no other number.
 const CALLS: u64 = 1_600_000;
 
-/// One list of calls, one series of pages, and one block of write lists, for so many calls that are made one by one.
+/// One list of calls, one series of pages, one block of write lists, and one worn block, for so many calls that are
+/// made one by one.
 const CALLS_FOR_A_LIST: u64 = 50;
 const CALLS_FOR_A_SERIES: u64 = 500;
 const CALLS_FOR_STORED: u64 = 100;
+const CALLS_FOR_WORN: u64 = 100;
 
 /// The other program is the proved library.
 #[cfg(not(alone))]
@@ -78,6 +86,7 @@ fn main() -> ExitCode {
     let series = target / CALLS_FOR_A_SERIES;
     series::run(&mut comparison, series);
     stored::run(&mut comparison, target / CALLS_FOR_STORED);
+    worn::run(&mut comparison, target / CALLS_FOR_WORN);
     schedule::lists(&mut comparison, target / CALLS_FOR_A_LIST);
     let (calls, lists) = (comparison.coverage.calls, comparison.listed.lists());
     let least = if lists < 20_000 { 0 } else { 50 };

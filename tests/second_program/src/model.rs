@@ -131,11 +131,16 @@ impl Store {
         Ok(store)
     }
 
-    /// The usable cells that neither the root nor a held snapshot reaches, lowest first.
+    /// The usable cells that neither the root nor a held snapshot reaches, in the order in which a change takes them:
+    /// past the root's own cell first, then before it, either part rising. The root of an empty table names cell 0, and
+    /// all lie past that.
     pub fn free_cells(&self) -> Vec<usize> {
+        let own = self.root.word as usize / CELL;
         let usable = 1..self.root.entered.len() - 1;
         let reached = |cell: usize| self.trees().any(|tree| tree.entered[cell].is_some());
-        usable.filter(|cell| !reached(*cell)).collect()
+        let free = usable.filter(|cell| !reached(*cell));
+        let (past, before): (Vec<usize>, Vec<usize>) = free.partition(|cell| *cell > own);
+        [past, before].concat()
     }
 
     /// The root's tree and each held snapshot's.

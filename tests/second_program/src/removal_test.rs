@@ -53,9 +53,9 @@ fn sparse_of_two_left() {
     for (key, value) in [("434841", 0), ("41", 1), ("35", 2)] {
         insert(&mut block, &bytes(key), value);
     }
-    assert_eq!((remove(&mut block, &[0x41]), root(&block)), ((0, 1), 0x5E));
+    assert_eq!((remove(&mut block, &[0x41]), root(&block)), ((0, 1), 0x9E));
     let left = bytes("FFFFFFFD 0000003A 00000000 00000000 00000000 00000000 35430000 00000006");
-    assert_eq!(cell(&block, 2), left);
+    assert_eq!(cell(&block, 4), left);
 }
 
 /// Of the split of seven children six are left as a sparse cell; of eight, seven stay a split.
@@ -63,17 +63,17 @@ fn seven_children_and_eight() {
     let seven = [0x33, 0x35, 0x41, 0x42, 0x43, 0x50, 0x51];
     let mut block = with_children(16, &seven);
     let mut eight = block.clone();
-    assert_eq!((remove(&mut block, &[0x42]), root(&block)), ((0, 1), 0x5E));
-    assert_eq!(cell(&block, 2)[0x18..], bytes("33 35 41 43 50 51 AEF6"));
+    assert_eq!((remove(&mut block, &[0x42]), root(&block)), ((0, 1), 0x1BE));
+    assert_eq!(cell(&block, 13)[0x18..], bytes("33 35 41 43 50 51 AEF6"));
     insert(&mut eight, &[0x52], 7);
-    assert_eq!((remove(&mut eight, &[0x33]), root(&eight)), ((0, 3), 0xFC));
+    assert_eq!((remove(&mut eight, &[0x33]), root(&eight)), ((0, 3), 0x9C));
 }
 
 /// An end and its mid that are emptied take no cell; their words are NONE above.
 fn emptied_end_and_mid() {
     let mut block = with_children(24, &[0x33, 0x41, 0x42, 0x43, 0x50, 0x51, 0x52, 0x53]);
-    assert_eq!((remove(&mut block, &[0x33]), root(&block)), ((0, 1), 0xBC));
-    assert_eq!(cell(&block, 5)[..0x14], [0; 0x14]);
+    assert_eq!((remove(&mut block, &[0x33]), root(&block)), ((0, 1), 0x21C));
+    assert_eq!(cell(&block, 16)[..0x14], [0; 0x14]);
 }
 
 /// Sample H: the prefix becomes its linked node, or the value over nothing a leaf.

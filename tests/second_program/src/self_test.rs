@@ -29,6 +29,7 @@ pub fn run() {
     crate::embedded_test::run();
     crate::pages_test::run();
     crate::write_list_test::run();
+    crate::wear_test::run();
     println!("second_program alone: samples A to L and the further cases hold");
 }
 

@@ -16,7 +16,7 @@ const MOST_CELLS_CUT: usize = 64;
 
 /// All sweeps, one after the other.
 pub fn run(comparison: &mut Comparison) {
-    for (cells, calls) in samples().into_iter().chain(values_over_runs()) {
+    for (cells, calls) in samples().into_iter().chain(values_over_runs()).chain(rounds()) {
         EDITIONS.into_iter().for_each(|edition| history(comparison, cells, edition, &calls));
     }
     for order in 0..=u16::MAX {
@@ -50,14 +50,15 @@ fn remove(key: &[u8]) -> Call {
     Call::Remove { key: key.to_vec() }
 }
 
-/// The histories of samples A to H, the long labels, the seven children, and a split of all characters; then removals.
+/// The histories of samples A to H and of the one after G, the long labels, the seven children, and a split of all
+/// characters; then removals.
 fn samples() -> Vec<(usize, Vec<Call>)> {
     let (one, two, three) = (insert(b"A", 0), insert(b"A", 1), insert(b"A", 2));
     let (snapshot, restore) = (Call::Snapshot { slot: 1 }, Call::Restore { slot: 1 });
     let long = insert(b"CHA", 0);
     let mut histories = vec![
         (4, vec![one, snapshot, two, three.clone(), restore, three]),
-        (8, vec![long.clone(), insert(b"A", 1), insert(b"5", 2)]),
+        (8, [long.clone(), insert(b"A", 1)].into_iter().chain((2..=9).map(|value| insert(b"5", value))).collect()),
         (8, vec![long, insert(b"C", 5)]),
         (32, b"35ABCPQ".iter().map(|character| insert(&[*character], 7)).collect()),
         (2048, (0..=255).map(|character| insert(&[character], 7)).collect()),
@@ -109,6 +110,25 @@ fn values_over_runs() -> Vec<(usize, Vec<Call>)> {
     calls.extend([insert(b"C", 6), insert(b"CA", 8), remove(b"CA"), insert(b"CA", 9), remove(b"C"), insert(b"C", 4)]);
     calls.extend(children(remove));
     histories.push((64, calls));
+    histories
+}
+
+/// Histories round small blocks: the root moves on by some cells, a slot holds it, it moves on again and is set back.
+/// Then a key is set anew, the root is set back once more, and keys are removed until the table is empty and filled
+/// again.
+fn rounds() -> Vec<(usize, Vec<Call>)> {
+    let again = |count: usize| (0..count).map(|value| insert(b"A", value as u32));
+    let restore = Call::Restore { slot: 1 };
+    let mut histories = Vec::new();
+    for cells in 4..=12 {
+        for (before, after) in (0..cells - 2).flat_map(|before| (1..cells - 1).map(move |after| (before, after))) {
+            let mut calls = vec![insert(b"A", 7), insert(b"B", 8)];
+            calls.extend(again(before).chain([Call::Snapshot { slot: 1 }]).chain(again(after)));
+            calls.extend([restore.clone(), insert(b"B", 9), insert(b"BC", 9), restore.clone(), remove(b"A")]);
+            calls.extend([remove(b"B"), insert(b"A", 6), insert(b"CHA", 5)]);
+            histories.push((cells, calls));
+        }
+    }
     histories
 }
 

@@ -58,7 +58,7 @@ pub fn write_list(block: &[u8], store: Store, asked: &Asked, coverage: &mut Cove
         return Outcome::bare(15);
     }
     coverage.write_list(&of_block);
-    coverage.built(Change::WriteList, &laid.cases);
+    coverage.built(Change::WriteList, &laid.cases, &laid.searched);
     meet_cells(block, &laid.taken, coverage);
     let records = (bytes.len() / RECORD) as u32;
     bytes.extend_from_slice(&asked.buffer[bytes.len()..]);
@@ -115,7 +115,7 @@ fn meet_cells(block: &[u8], taken: &[usize], coverage: &mut Coverage) {
         (WriteCase::FourToSixCells, (4..=6).contains(&taken.len())),
         (WriteCase::SevenToNineCells, (7..=9).contains(&taken.len())),
         (WriteCase::TenCells, taken.len() >= 10),
-        (WriteCase::ApartCells, taken.windows(2).any(|pair| pair[1] != pair[0] + 1)),
+        (WriteCase::ApartCells, taken.windows(2).any(|pair| pair[1] > pair[0] + 1)),
         (WriteCase::LastUsableCell, taken.contains(&last_usable)),
         (WriteCase::OverOldBytes, taken.iter().any(used)),
     ]);

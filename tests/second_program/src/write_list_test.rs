@@ -108,14 +108,14 @@ fn of_seven_children() {
     }
     let none = "00000000 00000000 00000000";
     let cells = [
-        cell(1, &format!("{none} FFFFFFFF 00000000 FFFFFFFE 00000000 00000000")),
-        cell(3, &format!("{none} {none} 0000003C 00000000")),
-        cell(4, &format!("00000000 FFFFFFFD FFFFFFFC FFFFFFFB {none} 00000000")),
-        cell(5, &format!("FFFFFFFA FFFFFFF9 {none} {none}")),
-        cell(6, &format!("0000009C 00000000 000000BC {none} 00000000 00000000")),
-        cell(7, &format!("{none} 00000000 0000007C 000000DC 00000000 00000000")),
+        cell(7, &format!("{none} FFFFFFFF 00000000 FFFFFFFE 00000000 00000000")),
+        cell(8, &format!("{none} {none} 000000FC 00000000")),
+        cell(9, &format!("00000000 FFFFFFFD FFFFFFFC FFFFFFFB {none} 00000000")),
+        cell(10, &format!("FFFFFFFA FFFFFFF9 {none} {none}")),
+        cell(11, &format!("0000013C 00000000 0000015C {none} 00000000 00000000")),
+        cell(12, &format!("{none} 00000000 0000011C 0000017C 00000000 00000000")),
     ];
-    assert_eq!(stores(&block, &[0x51], 6), [cells.concat(), vec![(0x1E0, 0xFC)]].concat());
+    assert_eq!(stores(&block, &[0x51], 6), [cells.concat(), vec![(0x1E0, 0x19C)]].concat());
 }
 
 /// A value embedded in the chain that the same entry takes: that cell comes once, where it was taken, with its last bytes.
