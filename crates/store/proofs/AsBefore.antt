@@ -48,7 +48,7 @@ module _ (layout : Layout) (root : ℕ) where
       ∙ ap (λ (from : ℕ). below ++ countUp (layout .cells - trailerCells layout - firstTried layout root) from) start
 
   -- of the cells that pass a test there are as many in either order
-  pub selected-many : (test : ℕ → Bool) → length (select test (allocationOrder layout root)) ≡ length (select test (lowestFirst layout))
+  selected-many : (test : ℕ → Bool) → length (select test (allocationOrder layout root)) ≡ length (select test (lowestFirst layout))
   unfolding allocationOrder
   selected-many test =
       ap (λ (l : List ℕ). length l) (select-append test above below)
@@ -56,7 +56,7 @@ module _ (layout : Layout) (root : ℕ) where
       ∙ sym (ap (λ (l : List ℕ). length (select test l)) lowest-parts ∙ ap (λ (l : List ℕ). length l) (select-append test below above))
 
   -- each stands in both as often
-  pub order-same : (c : ℕ) → occurrences c (allocationOrder layout root) ≡ occurrences c (lowestFirst layout)
+  order-same : (c : ℕ) → occurrences c (allocationOrder layout root) ≡ occurrences c (lowestFirst layout)
   unfolding allocationOrder
   order-same c =
       omega (arith, occurrences-append c above below, occurrences-append c below above) ∙ sym (ap (occurrences c) lowest-parts)

@@ -1,4 +1,5 @@
--- 02, 7: "Spread the wear.": a cell is taken a second time only after every other usable cell has been taken or found reached since.
+-- 02, 7: "Spread the wear.": where two of a list of insertions take the same cell, these two and those between take every usable cell or find it
+-- reached as they begin.
 use mathlib.Core.Path.{_≡_, sym, ap, _∙_, subst}
 use mathlib.Core.Logic.{_≢_, _⊎_, inl, inr, ⊎-elim}
 use mathlib.Core.Bool.{true}

@@ -112,7 +112,7 @@ pub others-kept : (b : List ℕ) (entry : Entry) → IsBytes b → IsBytes (entr
     → c ≢ length b / 32 - 1 → memoryOf (insertEntry b entry .block) c ≡ memoryOf b c
 others-kept = turns.others-kept
 
--- so a cell is taken a second time only after every other usable cell has been taken since, or reached as a call began
+-- so where two insertions take the same cell, these two and those between take every usable cell or find it reached as they begin
 pub in-turn : (b : List ℕ) (first : Entry) (between : List Entry) (last : Entry) → IsBytes b → KeysAreBytes (first ∷ between)
     → (c : ℕ) → 1 ≤ occurrences c (takenBy b first) → 1 ≤ occurrences c (takenBy (afterAll b (first ∷ between)) last)
     → (d : ℕ) → usable (layoutOf b) d ≡ true
