@@ -1,6 +1,6 @@
 /* The host: its calls on the functions of firmware, and the run of its tests. */
 #include "host.h"
-#include "register.h"
+#include "register_service.h"
 
 #include <stdio.h>
 #include <string.h>
@@ -73,6 +73,7 @@ int main(void) {
     test_verdict();
     test_hostile_bytes();
     test_wear();
+    test_dates();
     printf("c_host: %lu checks passed\n", checks_passed());
     return 0;
 }

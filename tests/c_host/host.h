@@ -31,5 +31,6 @@ void test_insert_and_get(void);
 void test_verdict(void);
 void test_hostile_bytes(void);
 void test_wear(void);
+void test_dates(void);
 
 #endif

@@ -1,8 +1,8 @@
--- `exports_release` meets its contract.
+-- `register_release` meets its contract.
 use Rattle.exports.proofs.ChangeSteps.{change-told}
 use borrow.Author.Needs.{needs}
-use Rattle.exports.proofs.calls.exports_release.Statement.{statement}
-use Rattle.exports.proofs.calls.exports_release.Tie as tie
+use Rattle.exports.proofs.calls.register_release.Statement.{statement}
+use Rattle.exports.proofs.calls.register_release.Tie as tie
 
 release-requires : tie.Need-release-requires
 release-requires c κs = search needs
@@ -16,6 +16,6 @@ same-length c = search needs
 returns : tie.Need-returns
 returns c = change-told _ (c .before .before .before .release .result) _ _ (c .before .before .before .release .ensures) (c .change-number .ensures)
 
-pub exports-release-spec : {M : Type 1} → statement M
-exports-release-spec =
+pub register-release-spec : {M : Type 1} → statement M
+register-release-spec =
     tie.close (tie.spec release-requires change-number-requires same-length returns)

@@ -1,9 +1,9 @@
--- `exports_page` meets its contract: what is lent can be counted in 32 bits, so the counts of the page can.
+-- `register_page` meets its contract: what is lent can be counted in 32 bits, so the counts of the page can.
 use native.Mathlib.Omega.{arith}
 use Rattle.exports.proofs.PageSteps.{part-inside, part-length, used-fits, records-fit, page-told}
 use borrow.Author.Needs.{needs}
-use Rattle.exports.proofs.page.exports_page.Statement.{statement}
-use Rattle.exports.proofs.page.exports_page.Tie as tie
+use Rattle.exports.proofs.page.register_page.Statement.{statement}
+use Rattle.exports.proofs.page.register_page.Tie as tie
 
 countable-requires : tie.Need-countable-requires
 countable-requires c κs = search needs
@@ -35,8 +35,8 @@ same-length c = search needs
 returns : tie.Need-returns
 returns c = page-told _ _ (c .before .before .before .before .before .before .countable .ensures) _ _ (c .before .before .before .before .page .result) _ (c .before .before .before .before .page .ensures) _ _ (c .change-number .ensures) (c .before .bit .ensures)
 
-pub exports-page-spec : {M : Type 1} → statement M
-exports-page-spec =
+pub register-page-spec : {M : Type 1} → statement M
+register-page-spec =
     tie.close
     (tie.spec
     countable-requires

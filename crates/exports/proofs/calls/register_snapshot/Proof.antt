@@ -1,8 +1,8 @@
--- `exports_snapshot` meets its contract.
+-- `register_snapshot` meets its contract.
 use Rattle.exports.proofs.ChangeSteps.{change-told}
 use borrow.Author.Needs.{needs}
-use Rattle.exports.proofs.calls.exports_snapshot.Statement.{statement}
-use Rattle.exports.proofs.calls.exports_snapshot.Tie as tie
+use Rattle.exports.proofs.calls.register_snapshot.Statement.{statement}
+use Rattle.exports.proofs.calls.register_snapshot.Tie as tie
 
 snapshot-requires : tie.Need-snapshot-requires
 snapshot-requires c κs = search needs
@@ -16,6 +16,6 @@ same-length c = search needs
 returns : tie.Need-returns
 returns c = change-told _ (c .before .before .before .snapshot .result) _ _ (c .before .before .before .snapshot .ensures) (c .change-number .ensures)
 
-pub exports-snapshot-spec : {M : Type 1} → statement M
-exports-snapshot-spec =
+pub register-snapshot-spec : {M : Type 1} → statement M
+register-snapshot-spec =
     tie.close (tie.spec snapshot-requires change-number-requires same-length returns)

@@ -1,8 +1,8 @@
--- `exports_remove` meets its contract: what the removal answers, told in numbers as an insertion's answer is.
+-- `register_remove` meets its contract: what the removal answers, told in numbers as an insertion's answer is.
 use Rattle.firmware.proofs.NumberSteps.{inserted-done, inserted-refused}
 use borrow.Author.Needs.{needs}
-use Rattle.exports.proofs.calls.exports_remove.Statement.{statement}
-use Rattle.exports.proofs.calls.exports_remove.Tie as tie
+use Rattle.exports.proofs.calls.register_remove.Statement.{statement}
+use Rattle.exports.proofs.calls.register_remove.Tie as tie
 
 remove-requires : tie.Need-remove-requires
 remove-requires c κs = search needs
@@ -30,8 +30,8 @@ returns-2 : tie.Need-returns-2
 returns-2 c =
     inserted-refused _ (c .before .before .before .before .before .before .remove .result) _ (c .before .before .before .before .before .before .remove .ensures) (c .before .before .refusal .given .0 .0) _ (c .before .before .refusal .given .1) (c .number .ensures)
 
-pub exports-remove-spec : {M : Type 1} → statement M
-exports-remove-spec =
+pub register-remove-spec : {M : Type 1} → statement M
+register-remove-spec =
     tie.close
     (tie.spec
     remove-requires

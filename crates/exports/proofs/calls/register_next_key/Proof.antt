@@ -1,9 +1,9 @@
--- `exports_next_key` meets its contract: no key is longer than 48, so its size is kept.
+-- `register_next_key` meets its contract: no key is longer than 48, so its size is kept.
 use native.Mathlib.Omega.{arith}
 use Rattle.exports.proofs.ChangeSteps.{next-told, size-fits}
 use borrow.Author.Needs.{needs}
-use Rattle.exports.proofs.calls.exports_next_key.Statement.{statement}
-use Rattle.exports.proofs.calls.exports_next_key.Tie as tie
+use Rattle.exports.proofs.calls.register_next_key.Statement.{statement}
+use Rattle.exports.proofs.calls.register_next_key.Tie as tie
 
 next-key-requires : tie.Need-next-key-requires
 next-key-requires c κs = search needs
@@ -17,6 +17,6 @@ change-number-requires c κs = search needs
 returns : tie.Need-returns
 returns c = next-told _ (c .before .before .next-key .result) _ (c .before .before .next-key .ensures) (c .change-number .ensures)
 
-pub exports-next-key-spec : {M : Type 1} → statement M
-exports-next-key-spec =
+pub register-next-key-spec : {M : Type 1} → statement M
+register-next-key-spec =
     tie.close (tie.spec next-key-requires cast-size change-number-requires returns)

@@ -1,8 +1,8 @@
 -- `register_write_list` meets its contract: what the write list answers, told in numbers.
-use Rattle.firmware.proofs.NumberSteps.{listed-done, listed-refused}
+use Rattle.exports.proofs.ListSteps.{listed-done, listed-refused}
 use borrow.Author.Needs.{needs}
-use Rattle.firmware.proofs.register_write_list.Statement.{statement}
-use Rattle.firmware.proofs.register_write_list.Tie as tie
+use Rattle.exports.proofs.write_list.register_write_list.Statement.{statement}
+use Rattle.exports.proofs.write_list.register_write_list.Tie as tie
 
 write-list-requires : tie.Need-write-list-requires
 write-list-requires c κs = search needs
