@@ -1,9 +1,11 @@
 //! The commands: each reads the block of a file, makes its calls on the library and gives the lines to print.
 
+mod verdict;
+
 use crate::block_file;
 use crate::dates;
 use crate::pages::{self, Page};
-use crate::proved::{self, Sheet, CELL_SIZE, MOST_CELLS_LENT, USUAL_EDITION};
+use crate::proved::{self, CELL_SIZE, MOST_CELLS_LENT, USUAL_EDITION};
 use crate::trouble::{No, Trouble};
 use crate::words;
 use std::ffi::{OsStr, OsString};
@@ -42,9 +44,6 @@ type Row = (String, String);
 /// The bytes of each page by which a list is made.
 const LIST_PAGE: u32 = 4_096;
 
-/// The five options of a verdict, in the order in which they are asked for.
-const VERDICT_OPTIONS: [&str; 5] = ["--today", "--reading", "--gate", "--section", "--length"];
-
 /// Carries out a command and gives what it prints.
 pub fn perform(arguments: &[OsString]) -> Result<String, Trouble> {
     let Some((command, rest)) = arguments.split_first() else {
@@ -64,7 +63,7 @@ pub fn perform(arguments: &[OsString]) -> Result<String, Trouble> {
         ("back", [file, slot]) => slot_change(Path::new(file), slot, proved::restore, "back to slot"),
         ("drop", [file, slot]) => slot_change(Path::new(file), slot, proved::release, "dropped slot"),
         ("check", [file]) => check(Path::new(file)),
-        ("verdict", [file, label, options @ ..]) => verdict(Path::new(file), label, options),
+        ("verdict", [file, label, options @ ..]) => verdict::judge(Path::new(file), label, options),
         (name, _) => Err(misused(name)),
     }
 }
@@ -180,38 +179,4 @@ fn check(file: &Path) -> Result<String, Trouble> {
     let block = block_file::read(file)?;
     proved::validate(&block)?;
     Ok(format!("sound, {} cells\n", block.len() / CELL_SIZE))
-}
-
-/// Judges whether a cartridge may be laid; whether today is a date is left to the library, which has a no for it.
-fn verdict(file: &Path, label: &OsStr, options: &[OsString]) -> Result<String, Trouble> {
-    let label = words::label(label)?;
-    let [today, reading, gate, section, length] = verdict_options(options)?;
-    let today = dates::read_form(today)?;
-    let reading = words::reading(reading)?;
-    let gate = words::gate(gate)?;
-    let section = words::measure(section, "section")?;
-    let length = words::measure(length, "length")?;
-    let block = block_file::read(file)?;
-    let dose = proved::verdict(&block, &label, today, reading, Sheet { gate, section, length })?;
-    Ok(format!("good: {} may be laid, dose {dose} ml\n", words::show_label(&label)))
-}
-
-/// The words behind the options of a verdict; each is given once, in any order.
-fn verdict_options(options: &[OsString]) -> Result<[&str; 5], Trouble> {
-    let mut found = [None; 5];
-    for pair in options.chunks(2) {
-        let name = words::text(&pair[0])?;
-        let place = VERDICT_OPTIONS.iter().position(|option| *option == name);
-        let (Some(place), [_, word]) = (place, pair) else {
-            return Err(misused("verdict"));
-        };
-        if found[place].replace(words::text(word)?).is_some() {
-            return Err(words::usage(format!("{name} was given twice")));
-        }
-    }
-    let mut given = [""; 5];
-    for (place, word) in found.into_iter().enumerate() {
-        given[place] = word.ok_or_else(|| words::usage(format!("{} is missing", VERDICT_OPTIONS[place])))?;
-    }
-    Ok(given)
 }

@@ -3,7 +3,7 @@
 /// The exit status when the command was not given as it should be.
 const USAGE_STATUS: u8 = 64;
 
-/// The exit status when a file could not be read or written.
+/// The exit status when a file could not be read or written, or is write-protected.
 const FILE_STATUS: u8 = 74;
 
 /// What each no means, in the order of their numbers from 1 on.
@@ -30,10 +30,11 @@ const MEANINGS: [&str; 15] = [
 #[derive(Clone, Copy, Debug, PartialEq, Eq)]
 pub struct No(pub u8);
 
-/// Why a command was not carried out.
+/// Why a command was not carried out: a no, a no with what it was judged by, words that were not understood, or a file.
 #[derive(Debug, PartialEq)]
 pub enum Trouble {
     Refused(No),
+    Judged(No, String),
     Usage(String),
     File(String),
 }
@@ -49,11 +50,17 @@ impl No {
     /// No such label, or no next one.
     pub const MISSING: No = No(11);
 
-    /// The number and its meaning on one line.
-    pub fn line(self) -> String {
+    /// The value held for the label is no date.
+    pub const NO_DATE: No = No(12);
+
+    /// Today is after the expiry day.
+    pub const EXPIRED: No = No(13);
+
+    /// The number and its meaning.
+    pub fn words(self) -> String {
         let place = usize::from(self.0).wrapping_sub(1);
         let meaning = MEANINGS.get(place).unwrap_or(&"the library gave an answer that this tool does not know");
-        format!("no {}: {meaning}\n", self.0)
+        format!("no {}: {meaning}", self.0)
     }
 }
 
@@ -61,9 +68,18 @@ impl Trouble {
     /// The exit status that tells this trouble apart from others.
     pub fn status(&self) -> u8 {
         match self {
-            Trouble::Refused(no) => no.0,
+            Trouble::Refused(no) | Trouble::Judged(no, _) => no.0,
             Trouble::Usage(_) => USAGE_STATUS,
             Trouble::File(_) => FILE_STATUS,
+        }
+    }
+
+    /// The lines that tell it: a no begins with its number, all else with the name of this tool.
+    pub fn lines(&self) -> String {
+        match self {
+            Trouble::Refused(no) => format!("{}\n", no.words()),
+            Trouble::Judged(no, found) => format!("{}{found}\n", no.words()),
+            Trouble::Usage(message) | Trouble::File(message) => format!("workshop: {message}\n"),
         }
     }
 }

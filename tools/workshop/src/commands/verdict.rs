@@ -1,0 +1,61 @@
+//! The verdict: the words of its options, and how a good one and a no are told.
+
+use super::misused;
+use crate::block_file;
+use crate::dates;
+use crate::proved::{self, Sheet};
+use crate::trouble::{No, Trouble};
+use crate::words;
+use std::ffi::{OsStr, OsString};
+use std::path::Path;
+
+/// The five options of a verdict, in the order in which they are asked for.
+const OPTIONS: [&str; 5] = ["--today", "--reading", "--gate", "--section", "--length"];
+
+/// Judges whether a cartridge may be laid; whether today is a date is left to the library, which has a no for it.
+pub fn judge(file: &Path, label: &OsStr, options: &[OsString]) -> Result<String, Trouble> {
+    let label = words::label(label)?;
+    let [today, reading, gate, section, length] = read_options(options)?;
+    let today = dates::read_form(today)?;
+    let reading = words::reading(reading)?;
+    let gate = words::gate(gate)?;
+    let section = words::measure(section, "section")?;
+    let length = words::measure(length, "length")?;
+    let block = block_file::read(file)?;
+    let dose = proved::verdict(&block, &label, today, reading, Sheet { gate, section, length })
+        .map_err(|no| told(no, &block, &label))?;
+    Ok(format!("good: {} may be laid, dose {dose} ml\n", words::show_label(&label)))
+}
+
+/// A no of the verdict with the held value, where that is what it was judged by: the number that is no date, or the expiry day.
+fn told(no: No, block: &[u8], label: &[u8]) -> Trouble {
+    let join = match no {
+        No::NO_DATE => ": ",
+        No::EXPIRED => ", ",
+        _ => return Trouble::Refused(no),
+    };
+    match proved::get(block, label) {
+        Ok(value) => Trouble::Judged(no, format!("{join}{}", dates::show_value(value))),
+        Err(_) => Trouble::Refused(no),
+    }
+}
+
+/// The words behind the options of a verdict; each is given once, in any order.
+fn read_options(options: &[OsString]) -> Result<[&str; 5], Trouble> {
+    let mut found = [None; 5];
+    for pair in options.chunks(2) {
+        let name = words::text(&pair[0])?;
+        let place = OPTIONS.iter().position(|option| *option == name);
+        let (Some(place), [_, word]) = (place, pair) else {
+            return Err(misused("verdict"));
+        };
+        if found[place].replace(words::text(word)?).is_some() {
+            return Err(words::usage(format!("{name} was given twice")));
+        }
+    }
+    let mut given = [""; 5];
+    for (place, word) in found.into_iter().enumerate() {
+        given[place] = word.ok_or_else(|| words::usage(format!("{} is missing", OPTIONS[place])))?;
+    }
+    Ok(given)
+}
