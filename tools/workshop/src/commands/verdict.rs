@@ -24,7 +24,14 @@ pub fn judge(file: &Path, label: &OsStr, options: &[OsString]) -> Result<String,
     let block = block_file::read(file)?;
     let dose = proved::verdict(&block, &label, today, reading, Sheet { gate, section, length })
         .map_err(|no| told(no, &block, &label))?;
-    Ok(format!("good: {} may be laid, dose {dose} ml\n", words::show_label(&label)))
+    Ok(format!("good: {} may be laid, dose {} ml\n", words::show_label(&label), show_dose(dose)))
+}
+
+/// A dose as people write it, with the six digits that its kind of number holds for sure: rounded to them in the form with an
+/// exponent, and then written without exponent or idle zeros.
+fn show_dose(dose: f32) -> String {
+    let rounded = format!("{dose:.5e}");
+    rounded.parse::<f64>().map_or(rounded, |dose| dose.to_string())
 }
 
 /// A no of the verdict with the held value, where that is what it was judged by: the number that is no date, or the expiry day.
