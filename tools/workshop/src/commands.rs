@@ -4,6 +4,7 @@ mod verdict;
 
 use crate::block_file;
 use crate::dates;
+use crate::entries::Entry;
 use crate::pages::{self, Page};
 use crate::proved::{self, CELL_SIZE, MOST_CELLS_LENT, USUAL_EDITION};
 use crate::trouble::{No, Trouble};
@@ -31,9 +32,6 @@ workshop verdict FILE LABEL --today DATE --reading 20C|68F --gate any|5..|5..40 
 A DATE is written 2025-03-07. A LABEL is text, or hex:43484131.
 Exit status: 0 done, 1 to 15 the number of the no, 64 the command was not understood, 74 trouble with a file.
 ";
-
-/// The stores of one cell in a write list; beside those of the cells it has the one of the root word.
-const STORES_OF_A_CELL: u32 = 8;
 
 /// What the commands that alter a slot have in common.
 type SlotCall = fn(&mut [u8], u32) -> Result<(), No>;
@@ -88,12 +86,13 @@ fn new(file: &Path, cells: &OsStr, edition: Option<&OsString>) -> Result<String,
     Ok(format!("fresh block of {cells} cells, edition {edition}\n"))
 }
 
-/// Enters a cartridge with its expiry day, by the stores of its write list.
+/// Enters a cartridge with its expiry day, by the stores of its write list, and tells the value that it replaces.
 fn enter(file: &Path, label: &OsStr, date: &OsStr) -> Result<String, Trouble> {
     let label = words::label(label)?;
     let date = dates::read_date(words::text(date)?)?;
-    let stores = block_file::store(file, |block| proved::write_list(block, &label, dates::pack(date)))?;
-    Ok(format!("entered {} {date}, {}\n", words::show_label(&label), taken(stores / STORES_OF_A_CELL)))
+    let entry = block_file::store(file, |block| Entry::of(block, &label, dates::pack(date)))?;
+    let replaced = entry.replaced.map(|value| format!(", replaces {}", dates::show_value(value))).unwrap_or_default();
+    Ok(format!("entered {} {date}{replaced}, {}\n", words::show_label(&label), taken(entry.cells())))
 }
 
 /// Removes a label, whatever its value.

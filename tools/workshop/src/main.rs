@@ -1,8 +1,10 @@
 //! The workshop's command line for a cartridge register in a file, over the proved library.
 
+mod beside;
 mod block_file;
 mod commands;
 mod dates;
+mod entries;
 mod pages;
 mod proved;
 mod trouble;
