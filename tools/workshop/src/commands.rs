@@ -5,9 +5,11 @@ mod verdict;
 use crate::block_file;
 use crate::dates;
 use crate::entries::Entry;
+use crate::labels;
 use crate::pages::{self, Page};
 use crate::proved::{self, CELL_SIZE, MOST_CELLS_LENT, USUAL_EDITION};
 use crate::trouble::{No, Trouble};
+use crate::visible::quoted;
 use crate::words;
 use std::ffi::{OsStr, OsString};
 use std::path::Path;
@@ -71,7 +73,7 @@ fn misused(name: &str) -> Trouble {
     let start = format!("workshop {name} ");
     match USAGE.lines().find(|line| line.starts_with(&start)) {
         Some(line) => Trouble::Usage(format!("'{name}' is given so: {}", line.split("   ").next().unwrap_or(line))),
-        None => Trouble::Usage(format!("there is no command '{name}'; see: workshop help")),
+        None => Trouble::Usage(format!("there is no command {}; see: workshop help", quoted(name))),
     }
 }
 
@@ -92,14 +94,14 @@ fn enter(file: &Path, label: &OsStr, date: &OsStr) -> Result<String, Trouble> {
     let date = dates::read_date(words::text(date)?)?;
     let entry = block_file::store(file, |block| Entry::of(block, &label, dates::pack(date)))?;
     let replaced = entry.replaced.map(|value| format!(", replaces {}", dates::show_value(value))).unwrap_or_default();
-    Ok(format!("entered {} {date}{replaced}, {}\n", words::show_label(&label), taken(entry.cells())))
+    Ok(format!("entered {} {date}{replaced}, {}\n", labels::show(&label), taken(entry.cells())))
 }
 
 /// Removes a label, whatever its value.
 fn remove(file: &Path, label: &OsStr) -> Result<String, Trouble> {
     let label = words::label(label)?;
     let count = block_file::alter(file, |block| proved::remove(block, &label))?;
-    Ok(format!("removed {}, {}\n", words::show_label(&label), taken(count)))
+    Ok(format!("removed {}, {}\n", labels::show(&label), taken(count)))
 }
 
 /// How many cells a command took, in words.
@@ -140,12 +142,12 @@ fn print(file: &Path, size: &OsStr) -> Result<String, Trouble> {
 
 /// The labels of a page with their values, in words.
 fn page_rows(page: &Page) -> Vec<Row> {
-    page.records.iter().map(|record| (words::show_label(&record.label), dates::show_value(record.value))).collect()
+    page.records.iter().map(|record| (labels::show(&record.label), dates::show_value(record.value))).collect()
 }
 
 /// Sets rows of two columns under each other.
 fn table(rows: &[Row]) -> String {
-    let width = rows.iter().map(|(left, _)| left.len()).max().unwrap_or(0);
+    let width = rows.iter().map(|(left, _)| left.chars().count()).max().unwrap_or(0);
     rows.iter().map(|(left, right)| format!("{left:width$}  {right}\n")).collect()
 }
 
@@ -154,7 +156,7 @@ fn find(file: &Path, label: &OsStr) -> Result<String, Trouble> {
     let label = words::label(label)?;
     let block = block_file::read(file)?;
     let value = proved::get(&block, &label)?;
-    Ok(format!("{}  {}\n", words::show_label(&label), dates::show_value(value)))
+    Ok(format!("{}  {}\n", labels::show(&label), dates::show_value(value)))
 }
 
 /// Shows the next label in order, with its value.
@@ -163,7 +165,7 @@ fn next(file: &Path, label: &OsStr) -> Result<String, Trouble> {
     let block = block_file::read(file)?;
     let next = proved::next_key(&block, &label)?;
     let value = proved::get(&block, &next)?;
-    Ok(format!("{}  {}\n", words::show_label(&next), dates::show_value(value)))
+    Ok(format!("{}  {}\n", labels::show(&next), dates::show_value(value)))
 }
 
 /// Marks, goes back or drops: one call on a slot, and the file is written only when it is done.

@@ -5,9 +5,11 @@ mod block_file;
 mod commands;
 mod dates;
 mod entries;
+mod labels;
 mod pages;
 mod proved;
 mod trouble;
+mod visible;
 mod words;
 
 use std::ffi::OsString;

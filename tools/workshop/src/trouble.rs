@@ -30,6 +30,10 @@ const MEANINGS: [&str; 15] = [
 #[derive(Clone, Copy, Debug, PartialEq, Eq)]
 pub struct No(pub u8);
 
+/// What cannot be read, and how it is to be written.
+#[derive(Debug, PartialEq)]
+pub struct Misread(pub String);
+
 /// Why a command was not carried out: a no, a no with what it was judged by, words that were not understood, or a file.
 #[derive(Debug, PartialEq)]
 pub enum Trouble {
@@ -43,6 +47,13 @@ impl From<No> for Trouble {
     /// Lets a no of the library end a command at once.
     fn from(no: No) -> Trouble {
         Trouble::Refused(no)
+    }
+}
+
+impl From<Misread> for Trouble {
+    /// Lets a word that cannot be read end a command at once.
+    fn from(Misread(message): Misread) -> Trouble {
+        Trouble::Usage(message)
     }
 }
 

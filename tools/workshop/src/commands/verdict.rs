@@ -3,8 +3,9 @@
 use super::misused;
 use crate::block_file;
 use crate::dates;
+use crate::labels;
 use crate::proved::{self, Sheet};
-use crate::trouble::{No, Trouble};
+use crate::trouble::{Misread, No, Trouble};
 use crate::words;
 use std::ffi::{OsStr, OsString};
 use std::path::Path;
@@ -24,7 +25,7 @@ pub fn judge(file: &Path, label: &OsStr, options: &[OsString]) -> Result<String,
     let block = block_file::read(file)?;
     let dose = proved::verdict(&block, &label, today, reading, Sheet { gate, section, length })
         .map_err(|no| told(no, &block, &label))?;
-    Ok(format!("good: {} may be laid, dose {} ml\n", words::show_label(&label), show_dose(dose)))
+    Ok(format!("good: {} may be laid, dose {} ml\n", labels::show(&label), show_dose(dose)))
 }
 
 /// A dose as people write it, with the six digits that its kind of number holds for sure: rounded to them in the form with an
@@ -57,12 +58,12 @@ fn read_options(options: &[OsString]) -> Result<[&str; 5], Trouble> {
             return Err(misused("verdict"));
         };
         if found[place].replace(words::text(word)?).is_some() {
-            return Err(words::usage(format!("{name} was given twice")));
+            return Err(Misread(format!("{name} was given twice")).into());
         }
     }
     let mut given = [""; 5];
     for (place, word) in found.into_iter().enumerate() {
-        given[place] = word.ok_or_else(|| words::usage(format!("{} is missing", OPTIONS[place])))?;
+        given[place] = word.ok_or_else(|| Misread(format!("{} is missing", OPTIONS[place])))?;
     }
     Ok(given)
 }
