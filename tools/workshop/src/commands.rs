@@ -1,12 +1,13 @@
 //! The commands: each reads the block of a file, makes its calls on the library and gives the lines to print.
 
+mod import;
+mod listing;
 mod verdict;
 
 use crate::block_file;
 use crate::dates;
 use crate::entries::Entry;
 use crate::labels;
-use crate::pages::{self, Page};
 use crate::proved::{self, CELL_SIZE, MOST_CELLS_LENT, USUAL_EDITION};
 use crate::trouble::{No, Trouble};
 use crate::visible::quoted;
@@ -19,8 +20,10 @@ pub const USAGE: &str = "\
 workshop new FILE CELLS [EDITION]
                                  make a fresh block in a new file, of edition 1 or 2; 1 if none is given
 workshop enter FILE LABEL DATE   enter a cartridge with its expiry day
+workshop import FILE ROWS.csv    enter all rows of a list, or none of them
 workshop remove FILE LABEL       remove a label, as of a batch that was withdrawn
-workshop list FILE               list all labels in order
+workshop list FILE [--csv|--json]
+                                 list all labels in order; with --csv or --json for other programs
 workshop print FILE SIZE         print all labels in pages of SIZE bytes, 53 at least
 workshop find FILE LABEL         show the expiry day of a label
 workshop next FILE LABEL         show the next label in order
@@ -32,17 +35,12 @@ workshop verdict FILE LABEL --today DATE --reading 20C|68F --gate any|5..|5..40 
                                  judge whether a cartridge may be laid, and give the dose
                                  (gate in degrees Celsius, section in square millimetres, length in millimetres)
 A DATE is written 2025-03-07. A LABEL is text, or hex:43484131.
-Exit status: 0 done, 1 to 15 the number of the no, 64 the command was not understood, 74 trouble with a file.
+Exit status: 0 done, 1 to 15 the number of the no, 64 the command was not understood,
+65 a list has bad rows, 74 trouble with a file.
 ";
 
 /// What the commands that alter a slot have in common.
 type SlotCall = fn(&mut [u8], u32) -> Result<(), No>;
-
-/// A row of a table: a label and its value, in words.
-type Row = (String, String);
-
-/// The bytes of each page by which a list is made.
-const LIST_PAGE: u32 = 4_096;
 
 /// Carries out a command and gives what it prints.
 pub fn perform(arguments: &[OsString]) -> Result<String, Trouble> {
@@ -54,9 +52,11 @@ pub fn perform(arguments: &[OsString]) -> Result<String, Trouble> {
         ("new", [file, cells]) => new(Path::new(file), cells, None),
         ("new", [file, cells, edition]) => new(Path::new(file), cells, Some(edition)),
         ("enter", [file, label, date]) => enter(Path::new(file), label, date),
+        ("import", [file, list]) => import::import(Path::new(file), Path::new(list)),
         ("remove", [file, label]) => remove(Path::new(file), label),
-        ("list", [file]) => list(Path::new(file)),
-        ("print", [file, size]) => print(Path::new(file), size),
+        ("list", [file]) => listing::list(Path::new(file), None),
+        ("list", [file, form]) => listing::list(Path::new(file), Some(form)),
+        ("print", [file, size]) => listing::print(Path::new(file), size),
         ("find", [file, label]) => find(Path::new(file), label),
         ("next", [file, label]) => next(Path::new(file), label),
         ("mark", [file, slot]) => slot_change(Path::new(file), slot, proved::snapshot, "marked slot"),
@@ -113,42 +113,6 @@ fn taken(count: u32) -> String {
 fn counted(count: u32, thing: &str) -> String {
     let end = if count == 1 { "" } else { "s" };
     format!("{count} {thing}{end}")
-}
-
-/// Lists all labels in order with their values, page by page.
-fn list(file: &Path) -> Result<String, Trouble> {
-    let block = block_file::read(file)?;
-    let mut rows = vec![("label".to_string(), "expires".to_string())];
-    for page in pages::all(&block, LIST_PAGE)? {
-        rows.extend(page_rows(&page));
-    }
-    Ok(table(&rows))
-}
-
-/// Prints all labels in pages of a size: what each page tells of itself, and below it its labels with their values.
-fn print(file: &Path, size: &OsStr) -> Result<String, Trouble> {
-    let size = words::whole_number(size, "size of a page")?;
-    let block = block_file::read(file)?;
-    let mut lines = String::new();
-    for (place, page) in pages::all(&block, size)?.iter().enumerate() {
-        let records = counted(page.told.records, "record");
-        let remain = if page.told.more { "more remain" } else { "none remain" };
-        lines += &format!("page {}: {records}, {} of {size} bytes used, {remain}\n", place + 1, page.told.used);
-        let rows: Vec<Row> = page_rows(page).into_iter().map(|(label, value)| (format!("  {label}"), value)).collect();
-        lines += &table(&rows);
-    }
-    Ok(lines)
-}
-
-/// The labels of a page with their values, in words.
-fn page_rows(page: &Page) -> Vec<Row> {
-    page.records.iter().map(|record| (labels::show(&record.label), dates::show_value(record.value))).collect()
-}
-
-/// Sets rows of two columns under each other.
-fn table(rows: &[Row]) -> String {
-    let width = rows.iter().map(|(left, _)| left.chars().count()).max().unwrap_or(0);
-    rows.iter().map(|(left, right)| format!("{left:width$}  {right}\n")).collect()
 }
 
 /// Shows the value of a label.

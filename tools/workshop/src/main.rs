@@ -3,11 +3,14 @@
 mod beside;
 mod block_file;
 mod commands;
+mod csv;
 mod dates;
 mod entries;
+mod json;
 mod labels;
 mod pages;
 mod proved;
+mod rows;
 mod trouble;
 mod visible;
 mod words;

@@ -3,6 +3,9 @@
 /// The exit status when the command was not given as it should be.
 const USAGE_STATUS: u8 = 64;
 
+/// The exit status when rows of a list are not as they should be.
+const ROWS_STATUS: u8 = 65;
+
 /// The exit status when a file could not be read or written, or is write-protected.
 const FILE_STATUS: u8 = 74;
 
@@ -34,12 +37,14 @@ pub struct No(pub u8);
 #[derive(Debug, PartialEq)]
 pub struct Misread(pub String);
 
-/// Why a command was not carried out: a no, a no with what it was judged by, words that were not understood, or a file.
+/// Why a command was not carried out: a no, a no in lines that tell more, words that were not understood, bad rows of a list
+/// in a line for each, or a file.
 #[derive(Debug, PartialEq)]
 pub enum Trouble {
     Refused(No),
-    Judged(No, String),
+    Told(No, Vec<String>),
     Usage(String),
+    Rows(Vec<String>),
     File(String),
 }
 
@@ -58,6 +63,9 @@ impl From<Misread> for Trouble {
 }
 
 impl No {
+    /// The label is empty or too long.
+    pub const BAD_LABEL: No = No(3);
+
     /// No such label, or no next one.
     pub const MISSING: No = No(11);
 
@@ -79,17 +87,18 @@ impl Trouble {
     /// The exit status that tells this trouble apart from others.
     pub fn status(&self) -> u8 {
         match self {
-            Trouble::Refused(no) | Trouble::Judged(no, _) => no.0,
+            Trouble::Refused(no) | Trouble::Told(no, _) => no.0,
             Trouble::Usage(_) => USAGE_STATUS,
+            Trouble::Rows(_) => ROWS_STATUS,
             Trouble::File(_) => FILE_STATUS,
         }
     }
 
-    /// The lines that tell it: a no begins with its number, all else with the name of this tool.
+    /// The lines that tell it: a no begins with its number, what is about a row with its place, all else with this tool's name.
     pub fn lines(&self) -> String {
         match self {
             Trouble::Refused(no) => format!("{}\n", no.words()),
-            Trouble::Judged(no, found) => format!("{}{found}\n", no.words()),
+            Trouble::Told(_, lines) | Trouble::Rows(lines) => lines.join("\n") + "\n",
             Trouble::Usage(message) | Trouble::File(message) => format!("workshop: {message}\n"),
         }
     }

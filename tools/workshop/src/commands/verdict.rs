@@ -43,7 +43,7 @@ fn told(no: No, block: &[u8], label: &[u8]) -> Trouble {
         _ => return Trouble::Refused(no),
     };
     match proved::get(block, label) {
-        Ok(value) => Trouble::Judged(no, format!("{join}{}", dates::show_value(value))),
+        Ok(value) => Trouble::Told(no, vec![format!("{}{join}{}", no.words(), dates::show_value(value))]),
         Err(_) => Trouble::Refused(no),
     }
 }
