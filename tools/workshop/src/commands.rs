@@ -1,5 +1,6 @@
 //! The commands: each reads the block of a file, makes its calls on the library and gives the lines to print.
 
+mod help;
 mod import;
 mod listing;
 mod verdict;
@@ -34,9 +35,11 @@ workshop check FILE              check that the block is sound
 workshop verdict FILE LABEL --today DATE --reading 20C|68F --gate any|5..|5..40 --section 60 --length 4000
                                  judge whether a cartridge may be laid, and give the dose
                                  (gate in degrees Celsius, section in square millimetres, length in millimetres)
+workshop help [COMMAND]          show this, or one command with an example
+workshop version                 show the version
 A DATE is written 2025-03-07. A LABEL is text, or hex:43484131.
 Exit status: 0 done, 1 to 15 the number of the no, 64 the command was not understood,
-65 a list has bad rows, 74 trouble with a file.
+65 a list has bad rows, 74 trouble with a file, also where it is write-protected.
 ";
 
 /// What the commands that alter a slot have in common.
@@ -49,6 +52,8 @@ pub fn perform(arguments: &[OsString]) -> Result<String, Trouble> {
     };
     match (words::text(command)?, rest) {
         ("help" | "--help" | "-h", []) => Ok(USAGE.to_string()),
+        ("help" | "--help" | "-h", [command]) => help::show(command),
+        ("version" | "--version", []) => Ok(help::version()),
         ("new", [file, cells]) => new(Path::new(file), cells, None),
         ("new", [file, cells, edition]) => new(Path::new(file), cells, Some(edition)),
         ("enter", [file, label, date]) => enter(Path::new(file), label, date),

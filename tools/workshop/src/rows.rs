@@ -28,7 +28,8 @@ pub struct Fault {
 
 /// Writes a list of all records, as it is read below.
 pub fn write(records: &[Record]) -> String {
-    let rows = records.iter().map(|Record { label, value }| format!("{},{}\n", label_field(label), dates::show_value(*value)));
+    let rows =
+        records.iter().map(|Record { label, value }| format!("{},{}\n", label_field(label), dates::show_value(*value)));
     format!("{}\n", COLUMNS.join(",")) + &rows.collect::<String>()
 }
 

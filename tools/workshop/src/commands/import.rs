@@ -17,9 +17,8 @@ const MOST_BYTES: u64 = 1 << 24;
 /// Enters all rows of a list into a copy of a file's block, which takes the place of the file only when all are entered.
 pub fn import(file: &Path, list: &Path) -> Result<String, Trouble> {
     let bytes = read_list(list).map_err(|reason| block_file::unread(list, &reason))?;
-    let rows = rows::read(&bytes).map_err(|faults| {
-        Trouble::Rows(faults.iter().map(|fault| at(list, fault.line, &fault.message)).collect())
-    })?;
+    let rows = rows::read(&bytes)
+        .map_err(|faults| Trouble::Rows(faults.iter().map(|fault| at(list, fault.line, &fault.message)).collect()))?;
     let done = block_file::alter(file, |block| enter_all(block, &rows).map_err(|refusal| refusal.told(list)))?;
     Ok(format!("imported {}, {}\n", counted(rows.len() as u32, "label"), done.words()))
 }

@@ -47,7 +47,8 @@ pub fn print(file: &Path, size: &OsStr) -> Result<String, Trouble> {
         let records = counted(page.told.records, "record");
         let remain = if page.told.more { "more remain" } else { "none remain" };
         printed += &format!("page {}: {records}, {} of {size} bytes used, {remain}\n", place + 1, page.told.used);
-        let lines: Vec<Line> = page.records.iter().map(line).map(|(label, value)| (format!("  {label}"), value)).collect();
+        let lines: Vec<Line> =
+            page.records.iter().map(line).map(|(label, value)| (format!("  {label}"), value)).collect();
         printed += &table(&lines);
     }
     Ok(printed)
