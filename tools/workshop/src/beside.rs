@@ -21,7 +21,12 @@ const OWN_RIGHTS: u32 = 0o600;
 pub fn write(path: &Path, block: &[u8], old: Option<&Metadata>) -> io::Result<()> {
     let beside = clear(path)?;
     let rights = if old.is_some() { OWN_RIGHTS } else { USUAL_RIGHTS };
-    let mut file = OpenOptions::new().write(true).create_new(true).mode(rights).open(&beside)?;
+    let mut file = OpenOptions::new()
+        .write(true)
+        .create_new(true)
+        .mode(rights)
+        .open(&beside)
+        .map_err(|reason| explained("no file can be made beside it", &reason))?;
     let written = old
         .map_or(Ok(()), |old| take_over(&file, old))
         .and_then(|()| file.write_all(block))
