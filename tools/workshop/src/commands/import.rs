@@ -1,0 +1,116 @@
+//! The import of a list: all rows are entered in one run, or none of them.
+
+use super::{counted, taken};
+use crate::block_file;
+use crate::dates;
+use crate::entries::{self, Entry};
+use crate::proved;
+use crate::rows::{self, Row};
+use crate::trouble::{No, Trouble};
+use std::fs::File;
+use std::io::{self, Read};
+use std::path::Path;
+
+/// The bytes of the largest list that is read: no register has room for the labels of a larger one.
+const MOST_BYTES: u64 = 1 << 24;
+
+/// Enters all rows of a list into a copy of a file's block, which takes the place of the file only when all are entered.
+pub fn import(file: &Path, list: &Path) -> Result<String, Trouble> {
+    let bytes = read_list(list).map_err(|reason| block_file::unread(list, &reason))?;
+    let rows = rows::read(&bytes)
+        .map_err(|faults| Trouble::Rows(faults.iter().map(|fault| at(list, fault.line, &fault.message)).collect()))?;
+    let done = block_file::alter(file, |block| enter_all(block, &rows).map_err(|refusal| refusal.told(list)))?;
+    Ok(format!("imported {}, {}\n", counted(rows.len() as u32, "label"), done.words()))
+}
+
+/// Reads a list whole.
+fn read_list(list: &Path) -> io::Result<Vec<u8>> {
+    let mut bytes = Vec::new();
+    File::open(list)?.take(MOST_BYTES + 1).read_to_end(&mut bytes)?;
+    if bytes.len() as u64 > MOST_BYTES {
+        return Err(io::Error::new(io::ErrorKind::FileTooLarge, format!("it has over {MOST_BYTES} bytes")));
+    }
+    Ok(bytes)
+}
+
+/// A message about a line of a list.
+fn at(list: &Path, line: usize, message: &str) -> String {
+    format!("{}:{line}: {message}", list.display())
+}
+
+/// A no of an import, with the lines that it is about; none where it is about the block.
+struct Refusal {
+    no: No,
+    lines: Vec<usize>,
+}
+
+impl From<No> for Refusal {
+    /// A no about the block.
+    fn from(no: No) -> Refusal {
+        Refusal { no, lines: Vec::new() }
+    }
+}
+
+impl Refusal {
+    /// Tells the no with each line that it is about.
+    fn told(self, list: &Path) -> Trouble {
+        if self.lines.is_empty() {
+            return Trouble::Refused(self.no);
+        }
+        let words = self.no.words();
+        Trouble::Told(self.no, self.lines.iter().map(|line| at(list, *line, &words)).collect())
+    }
+}
+
+/// Enters rows one after the other, after all of their labels were judged. The first that has no room ends it: whether those
+/// behind it would have had room cannot be said.
+fn enter_all(block: &mut [u8], rows: &[Row]) -> Result<Done, Refusal> {
+    proved::validate(block)?;
+    judge_labels(block, rows)?;
+    let mut done = Done::default();
+    for row in rows {
+        done.enter(block, row).map_err(|no| Refusal { no, lines: vec![row.line] })?;
+    }
+    Ok(done)
+}
+
+/// Finds every row whose label the library does not take.
+fn judge_labels(block: &[u8], rows: &[Row]) -> Result<(), Refusal> {
+    let refused = rows.iter().filter(|row| entries::held(block, &row.label) == Err(No::BAD_LABEL));
+    let lines: Vec<usize> = refused.map(|row| row.line).collect();
+    if lines.is_empty() {
+        Ok(())
+    } else {
+        Err(Refusal { no: No::BAD_LABEL, lines })
+    }
+}
+
+/// What was entered so far: labels that got another value, labels that had just theirs, and the cells taken.
+#[derive(Default)]
+struct Done {
+    replaced: u32,
+    unchanged: u32,
+    cells: u32,
+}
+
+impl Done {
+    /// Enters one row, unless its label has just that value: so a list that is imported again takes no cells.
+    fn enter(&mut self, block: &mut [u8], row: &Row) -> Result<(), No> {
+        let value = dates::pack(row.date);
+        if entries::held(block, &row.label)? == Some(value) {
+            self.unchanged += 1;
+            return Ok(());
+        }
+        let entry = Entry::of(block, &row.label, value)?;
+        entry.stores.iter().for_each(|store| store.make(block));
+        self.replaced += u32::from(entry.replaced.is_some());
+        self.cells += entry.cells();
+        Ok(())
+    }
+
+    /// What was done, in words; unchanged labels only where there are any.
+    fn words(&self) -> String {
+        let unchanged = if self.unchanged == 0 { String::new() } else { format!("{} unchanged, ", self.unchanged) };
+        format!("{} replaced, {unchanged}{}", self.replaced, taken(self.cells))
+    }
+}

@@ -1,0 +1,26 @@
+//! Characters that can be seen, and so be typed again by who sees them.
+
+/// Characters that count as letters or signs and yet show nothing.
+const BLANKS: [char; 5] = ['\u{115F}', '\u{1160}', '\u{2800}', '\u{3164}', '\u{FFA0}'];
+
+/// Whether a character is the plain space or can be seen by itself. Control characters, other spaces, marks of direction or of no
+/// width and those that only alter the character before them are not: of two texts that differ in them, both look the same.
+pub fn is_visible(character: char) -> bool {
+    let seen = matches!(character, '\'' | '"' | '\\') || character.escape_debug().eq([character]);
+    seen && !BLANKS.contains(&character)
+}
+
+/// A text in quotes, for messages; what cannot be seen of it is written as its number, so that it does nothing to a terminal.
+pub fn quoted(text: &str) -> String {
+    let shown: String = text.chars().map(shown_in_message).collect();
+    format!("'{shown}'")
+}
+
+/// A character of a text in a message.
+fn shown_in_message(character: char) -> String {
+    if is_visible(character) {
+        character.to_string()
+    } else {
+        character.escape_unicode().to_string()
+    }
+}
