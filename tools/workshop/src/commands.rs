@@ -2,6 +2,7 @@
 
 use crate::block_file;
 use crate::dates;
+use crate::map;
 use crate::pages::{self, Page};
 use crate::proved::{self, Sheet, CELL_SIZE, MOST_CELLS_LENT, USUAL_EDITION};
 use crate::trouble::{No, Trouble};
@@ -22,7 +23,10 @@ workshop next FILE LABEL         show the next label in order
 workshop mark FILE SLOT          mark the present state in slot 1, 2 or 3
 workshop back FILE SLOT          go back to a marked state
 workshop drop FILE SLOT          drop a mark
-workshop check FILE              check that the block is sound
+workshop check FILE              check that the block is sound, and tell how full it is
+workshop map FILE [--cells]
+                                 show what every cell is and which tables hold it; with --cells a line for each cell
+                                 (a block of 64 cells or fewer has them anyway)
 workshop verdict FILE LABEL --today DATE --reading 20C|68F --gate any|5..|5..40 --section 60 --length 4000
                                  judge whether a cartridge may be laid, and give the dose
                                  (gate in degrees Celsius, section in square millimetres, length in millimetres)
@@ -63,7 +67,10 @@ pub fn perform(arguments: &[OsString]) -> Result<String, Trouble> {
         ("mark", [file, slot]) => slot_change(Path::new(file), slot, proved::snapshot, "marked slot"),
         ("back", [file, slot]) => slot_change(Path::new(file), slot, proved::restore, "back to slot"),
         ("drop", [file, slot]) => slot_change(Path::new(file), slot, proved::release, "dropped slot"),
-        ("check", [file]) => check(Path::new(file)),
+        ("check", [file]) => map::check(Path::new(file)),
+        ("map", [file, options @ ..]) => {
+            map::show(Path::new(file), &map::wishes(options).ok_or_else(|| misused("map"))?)
+        }
         ("verdict", [file, label, options @ ..]) => verdict(Path::new(file), label, options),
         (name, _) => Err(misused(name)),
     }
@@ -173,13 +180,6 @@ fn slot_change(file: &Path, slot: &OsStr, call: SlotCall, done: &str) -> Result<
     let slot = words::whole_number(slot, "slot")?;
     block_file::alter(file, |block| call(block, slot))?;
     Ok(format!("{done} {slot}\n"))
-}
-
-/// Checks that the block is sound.
-fn check(file: &Path) -> Result<String, Trouble> {
-    let block = block_file::read(file)?;
-    proved::validate(&block)?;
-    Ok(format!("sound, {} cells\n", block.len() / CELL_SIZE))
 }
 
 /// Judges whether a cartridge may be laid; whether today is a date is left to the library, which has a no for it.

@@ -3,6 +3,7 @@
 mod block_file;
 mod commands;
 mod dates;
+mod map;
 mod pages;
 mod proved;
 mod trouble;
