@@ -24,9 +24,9 @@ workshop mark FILE SLOT          mark the present state in slot 1, 2 or 3
 workshop back FILE SLOT          go back to a marked state
 workshop drop FILE SLOT          drop a mark
 workshop check FILE              check that the block is sound, and tell how full it is
-workshop map FILE [--cells]
+workshop map FILE [--cells] [--svg PICTURE]
                                  show what every cell is and which tables hold it; with --cells a line for each cell
-                                 (a block of 64 cells or fewer has them anyway)
+                                 (a block of 64 cells or fewer has them anyway), with --svg also as a picture in a new file
 workshop verdict FILE LABEL --today DATE --reading 20C|68F --gate any|5..|5..40 --section 60 --length 4000
                                  judge whether a cartridge may be laid, and give the dose
                                  (gate in degrees Celsius, section in square millimetres, length in millimetres)
