@@ -127,10 +127,10 @@ fn show_value(value: u32) -> String {
 
 /// The roots in the trailer.
 fn trailer(block: Block) -> String {
-    let show = |root| show_target(block, Link { character: 0, word: root, target: Target::Node });
-    let slots = (1..=SLOTS).map(|slot| match block.slot(slot) {
-        Some(root) => format!(", slot {slot} -> {}", show(root)),
-        None => String::new(),
-    });
-    format!("present -> {}{}", show(block.root()), slots.collect::<String>())
+    let show = |name: &str, root: u32| match root {
+        0 => format!("{name} -> empty table"),
+        _ => format!("{name} -> {}", show_target(block, Link { character: 0, word: root, target: Target::Node })),
+    };
+    let slots = (1..=SLOTS).filter_map(|slot| Some(show(holder_name(slot), block.slot(slot)?)));
+    std::iter::once(show(holder_name(0), block.root())).chain(slots).collect::<Vec<String>>().join(", ")
 }

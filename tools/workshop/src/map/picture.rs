@@ -105,7 +105,11 @@ fn squares(reached: &Reached, columns: usize, side: usize) -> String {
 fn tooltip(reached: &Reached, cell: usize) -> String {
     let show = |[number, kind, holders, contents]: contents::Line| {
         let parts = [("cell ", number), (": ", kind), ("; held by ", holders), ("; ", contents)];
-        parts.into_iter().filter(|(_, part)| !part.is_empty()).map(|(before, part)| before.to_string() + &part).collect()
+        parts
+            .into_iter()
+            .filter(|(_, part)| !part.is_empty())
+            .map(|(before, part)| before.to_string() + &part)
+            .collect()
     };
     let lines: Vec<String> = contents::lines(reached, cell).into_iter().map(show).collect();
     escaped(&lines.join("\n"))
