@@ -32,10 +32,24 @@ class Blocks:
         ask("new", "fresh.block", size, edition)
         shutil.move("fresh.block", file)
 
+    def six_children(self):
+        """Six labels that differ in one character, so that one more makes a split; what they begin with may be a label too."""
+        stem = self.random.choice(["", "X"])
+        for character in self.random.sample(ALPHABETS[-1], 6):
+            self.enter(stem + character)
+        if stem:
+            self.enter(stem)
+
+    def enter(self, label):
+        """Enters a label with some day."""
+        date = f"20{self.random.randint(10, 99)}-{self.random.randint(10, 12)}-{self.random.randint(10, 28)}"
+        if self.change("enter", label, date):
+            self.present[label] = date
+
     def label(self):
         """A label, most often a short one, and often one that goes on where another ends."""
-        longest = self.random.choice([1, 2, 3, 4, 6, 48])
-        start = self.random.choice([""] + list(self.present))[:longest - 1]
+        longest = self.random.choice([1, 2, 2, 3, 4, 6, 48])
+        start = self.random.choice(["", *self.present])[:longest - 1]
         count = self.random.randint(1, longest - len(start))
         return start + "".join(self.random.choice(self.alphabet) for _ in range(count))
 
@@ -43,10 +57,7 @@ class Blocks:
         """One change, by chance: most are entries."""
         choice = self.random.random()
         if choice < 0.7:
-            date = f"20{self.random.randint(10, 99)}-{self.random.randint(10, 12)}-{self.random.randint(10, 28)}"
-            label = self.label()
-            if self.change("enter", label, date):
-                self.present[label] = date
+            self.enter(self.label())
         elif choice < 0.85 and self.present:
             label = self.random.choice(sorted(self.present))
             if self.change("remove", label):
@@ -102,12 +113,16 @@ class Blocks:
 
 
 def main():
-    """So many blocks, of 4 to 40 cells, small ones more often, and of both editions, with so many steps each."""
+    """So many blocks, of 4 to 40 cells and both editions, with so many steps each; half of them begin close to a split."""
     blocks, steps = map(int, sys.argv[1:])
     changes = refused = 0
     for seed in range(blocks):
         numbers = random.Random(seed)
-        pair = Blocks(numbers.randint(4, numbers.randint(4, 40)), 1 + seed % 2, numbers)
+        wide = seed % 4 == 1 or seed % 4 == 2
+        cells = numbers.randint(12, 40) if wide else numbers.randint(4, numbers.randint(4, 40))
+        pair = Blocks(cells, 1 + seed % 2, numbers)
+        if wide:
+            pair.six_children()
         for _ in range(steps):
             pair.step()
         pair.compare()
