@@ -9,6 +9,7 @@ use crate::block_file;
 use crate::dates;
 use crate::entries::Entry;
 use crate::labels;
+use crate::map;
 use crate::proved::{self, CELL_SIZE, MOST_CELLS_LENT, USUAL_EDITION};
 use crate::trouble::{No, Trouble};
 use crate::visible::quoted;
@@ -31,7 +32,10 @@ workshop next FILE LABEL         show the next label in order
 workshop mark FILE SLOT          mark the present state in slot 1, 2 or 3
 workshop back FILE SLOT          go back to a marked state
 workshop drop FILE SLOT          drop a mark
-workshop check FILE              check that the block is sound
+workshop check FILE              check that the block is sound, and tell how full it is
+workshop map FILE [--cells] [--svg PICTURE]
+                                 show what every cell is and which tables hold it; with --cells a line for each cell
+                                 (a block of 64 cells or fewer has them anyway), with --svg also as a picture in a new file
 workshop verdict FILE LABEL --today DATE --reading 20C|68F --gate any|5..|5..40 --section 60 --length 4000
                                  judge whether a cartridge may be laid, and give the dose
                                  (gate in degrees Celsius, section in square millimetres, length in millimetres)
@@ -67,7 +71,10 @@ pub fn perform(arguments: &[OsString]) -> Result<String, Trouble> {
         ("mark", [file, slot]) => slot_change(Path::new(file), slot, proved::snapshot, "marked slot"),
         ("back", [file, slot]) => slot_change(Path::new(file), slot, proved::restore, "back to slot"),
         ("drop", [file, slot]) => slot_change(Path::new(file), slot, proved::release, "dropped slot"),
-        ("check", [file]) => check(Path::new(file)),
+        ("check", [file]) => map::check(Path::new(file)),
+        ("map", [file, options @ ..]) => {
+            map::show(Path::new(file), &map::wishes(options).ok_or_else(|| misused("map"))?)
+        }
         ("verdict", [file, label, options @ ..]) => verdict::judge(Path::new(file), label, options),
         (name, _) => Err(misused(name)),
     }
@@ -142,11 +149,4 @@ fn slot_change(file: &Path, slot: &OsStr, call: SlotCall, done: &str) -> Result<
     let slot = words::whole_number(slot, "slot")?;
     block_file::alter(file, |block| call(block, slot))?;
     Ok(format!("{done} {slot}\n"))
-}
-
-/// Checks that the block is sound.
-fn check(file: &Path) -> Result<String, Trouble> {
-    let block = block_file::read(file)?;
-    proved::validate(&block)?;
-    Ok(format!("sound, {} cells\n", block.len() / CELL_SIZE))
 }

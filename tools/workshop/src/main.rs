@@ -8,6 +8,7 @@ mod dates;
 mod entries;
 mod json;
 mod labels;
+mod map;
 mod pages;
 mod proved;
 mod rows;

@@ -13,7 +13,7 @@ struct Topic {
 }
 
 /// What is told of each command, in the order of the usage.
-const TOPICS: [Topic; 15] = [
+const TOPICS: [Topic; 16] = [
     Topic {
         command: "new",
         more: "A block has 4 to 2,048 cells of 32 bytes. A file that is there already is left as it is.",
@@ -86,6 +86,12 @@ none), its digits, its day (null where the value held is none) and the value hel
         command: "check",
         more: "A block that is not sound is refused by every other command too.",
         example: "check register.block",
+    },
+    Topic {
+        command: "map",
+        more: "Capital letters are cells of the present table, small ones cells that only marks hold; what a mark alone holds is
+free again when it is dropped. Only a sound block is mapped. A picture is never written over a file that is there.",
+        example: "map register.block --svg register.svg",
     },
     Topic {
         command: "verdict",
