@@ -28,6 +28,9 @@
 extern "C" {
 #endif
 
+/* A number of bytes: 64 bits on every processor, as the proved code takes it, also where size_t has 32. A size_t widens by itself. */
+typedef uint64_t register_size;
+
 /* What a call answers. 5 and 6 are answers of calls that firmware does not have. */
 enum {
     REGISTER_DONE = 0,
@@ -62,7 +65,7 @@ enum {
 
 /* Enters a key with its value, in place of an older one, and tells in *count how many cells that took.
  * Answers: done, bad size, unsound, bad key, bad value, no room. */
-uint8_t register_insert(uint8_t *block, size_t block_size, const uint8_t *key, size_t key_size, uint32_t value,
+uint8_t register_insert(uint8_t *block, register_size block_size, const uint8_t *key, register_size key_size, uint32_t value,
                         uint32_t *count);
 
 /* The most bytes that the list of an insertion has: 8 records for each of 4 x 48 + 10 cells and one for the root word, 8 bytes each. */
@@ -78,18 +81,18 @@ uint8_t register_insert(uint8_t *block, size_t block_size, const uint8_t *key, s
  * it then takes the same cells. After the last store the block is byte for byte what register_insert leaves.
  * Nothing else alters the block between the asking for the list and its last store.
  * Answers: done, bad size, unsound, bad key, bad value, no room, short list. */
-uint8_t register_write_list(const uint8_t *block, size_t block_size, const uint8_t *key, size_t key_size, uint32_t value,
-                            uint8_t *list, size_t list_size, uint32_t *records);
+uint8_t register_write_list(const uint8_t *block, register_size block_size, const uint8_t *key, register_size key_size, uint32_t value,
+                            uint8_t *list, register_size list_size, uint32_t *records);
 
 /* Looks a key up and tells its value in *value.
  * Answers: done, bad size, unsound, bad key, missing. */
-uint8_t register_get(const uint8_t *block, size_t block_size, const uint8_t *key, size_t key_size, uint32_t *value);
+uint8_t register_get(const uint8_t *block, register_size block_size, const uint8_t *key, register_size key_size, uint32_t *value);
 
 /* Judges whether a bead may be laid today from the cartridge of a label: the reading of the thermometer (unit and degrees) is
  * held against the gate of the product sheet (kind, low and high), and *dose tells the millilitres of a bead of this section in
  * square millimetres and this length in millimetres. A limit that the gate kind does not use is not judged.
  * Answers: done, bad size, unsound, bad key, and all from bad sheet on. */
-uint8_t register_verdict(const uint8_t *block, size_t block_size, const uint8_t *label, size_t label_size, uint32_t year,
+uint8_t register_verdict(const uint8_t *block, register_size block_size, const uint8_t *label, register_size label_size, uint32_t year,
                          uint32_t month, uint32_t day, uint32_t unit, float degrees, uint32_t kind, float low, float high,
                          float section, float length, float *dose);
 
