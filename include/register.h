@@ -15,6 +15,9 @@
  * C cuts a number wider than a parameter before the call: the year 4,294,969,321 in 64 bits would arrive as 2025 and be taken for it.
  * Judge wider numbers yourself before you hand them over.
  *
+ * On a Cortex-M4 (docs/CORTEX_M.md) a call needs __aeabi_memclr, __aeabi_memclr4 and __aeabi_uldivmod of the C runtime, the float unit on
+ * and in the state after a reset, and 13 KB of stack at most, 16 KB in the small library, as measured.
+ *
  * A pointer to bytes stands before the number of bytes; it may be NULL where that is 0. The last pointer of a call leads to one
  * number, is never NULL and is written on every answer. The block, the bytes and that number do not overlap.
  */
