@@ -12,10 +12,11 @@ PROBE = ' "probe-stack"="inline-asm"'
 PROCESSOR = ' "target-cpu"="x86-64"'
 
 # A function that C calls: numbers of 32 and 64 bits, floats and pointers go in, one byte comes out.
-CALL = re.compile(r"define noundef i8 (@register_\w+)\(((?:ptr|i64|i32|float) noundef %a\d+(?:, (?:ptr|i64|i32|float) noundef %a\d+)*)\)( #\d+ \{)")
+ARGUMENT = r"(?:ptr|i64|i32|float) noundef %a\d+"
+CALL = re.compile(rf"define noundef i8 (@register_\w+)\(({ARGUMENT}(?:, {ARGUMENT})*)\)( #\d+ {{)")
 
 # What would mean something else where pointers have 32 bits, or on another processor.
-FOREIGN = ["inttoptr", "ptrtoint", " asm ", "addrspace(", "x86_fp80", "thread_local", "@llvm.x86.", "%struct.", "x86", '"target-', '"probe-']
+FOREIGN = ["inttoptr", "ptrtoint", " asm ", "addrspace(", "thread_local", "x86", '"target-', '"probe-']
 
 
 class Unexpected(Exception):

@@ -60,7 +60,8 @@ uint8_t call_get(const uint8_t *block, uint64_t block_size, const uint8_t *key, 
     return take(GET, answer, value);
 }
 
-uint8_t call_verdict(const uint8_t *block, uint64_t block_size, const uint8_t *label, uint64_t label_size, const struct question *question) {
+uint8_t call_verdict(const uint8_t *block, uint64_t block_size, const uint8_t *label, uint64_t label_size,
+                     const struct question *question) {
     float dose = 7;
     uint8_t answer = register_verdict(block, block_size, label, label_size, question->year, question->month, question->day,
                                       question->unit, question->degrees, question->kind, question->low, question->high,

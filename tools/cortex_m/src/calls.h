@@ -12,7 +12,8 @@ void begin_part(const char *name, struct block *block);
 /* Each hands its words to the register as they are; an insertion's block is hashed whole, with its margins. */
 uint8_t call_insert(uint8_t *block, uint64_t block_size, const uint8_t *key, uint64_t key_size, uint32_t value);
 uint8_t call_get(const uint8_t *block, uint64_t block_size, const uint8_t *key, uint64_t key_size);
-uint8_t call_verdict(const uint8_t *block, uint64_t block_size, const uint8_t *label, uint64_t label_size, const struct question *question);
+uint8_t call_verdict(const uint8_t *block, uint64_t block_size, const uint8_t *label, uint64_t label_size,
+                     const struct question *question);
 
 /* Tells how often each answer came; whether each answer of a call did, and no other. */
 bool tell_answers(void);

@@ -1,4 +1,4 @@
-/* Blocks that grow from fresh ones of every size and both editions until they are full, keys of every family. */
+/* Blocks that grow from fresh ones of many sizes and both editions, most until they are full, with keys of every family. */
 #include "calls.h"
 #include "drawn.h"
 
@@ -41,7 +41,7 @@ static void grow(size_t cells, uint32_t edition, enum family family, unsigned tu
     while (turns-- > 0) one_call(family);
 }
 
-/* Small blocks of each size many times, large ones until they are full. */
+/* Small blocks of each size, which are full soon, and large ones. */
 void grown_blocks(void) {
     begin_part("grown", &block);
     for (size_t cells = 4; cells <= 67; cells++)
