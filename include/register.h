@@ -27,6 +27,9 @@
  *
  * C library. Nothing of it is needed but memset, for the calls of register_service.h memcpy too.
  *
+ * Cortex-M4. docs/CORTEX_M.md tells how the libraries are made for it, what they need there of the C runtime and of the float unit, and
+ * their stack.
+ *
  * C cuts a number wider than a parameter before the call: the year 4,294,969,321 in 64 bits would arrive as 2025 and be taken for it.
  * Judge wider numbers yourself before you hand them over.
  *
