@@ -1,4 +1,4 @@
-"""Edits the text of firmware's module so that it can be compiled for another processor than x86-64.
+"""Edits the text of a library's module so that it can be compiled for another processor than x86-64.
 
 edit_module.py MODULE EDITED: each edit is told with its count; a text that does not look as expected is refused, and nothing is written.
 """
@@ -13,7 +13,7 @@ PROCESSOR = ' "target-cpu"="x86-64"'
 
 # A function that C calls: numbers of 32 and 64 bits, floats and pointers go in, one byte comes out.
 ARGUMENT = r"(?:ptr|i64|i32|float) noundef %a\d+"
-CALL = re.compile(rf"define noundef i8 (@register_\w+)\(({ARGUMENT}(?:, {ARGUMENT})*)\)( #\d+ {{)")
+CALL = re.compile(rf"define noundef i8 (@(?:register|exports)_\w+)\(({ARGUMENT}(?:, {ARGUMENT})*)\)( #\d+ {{)")
 
 # What would mean something else where pointers have 32 bits, or on another processor.
 FOREIGN = ["inttoptr", "ptrtoint", " asm ", "addrspace(", "thread_local", "x86", '"target-', '"probe-']

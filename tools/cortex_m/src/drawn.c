@@ -39,6 +39,20 @@ void draw_key(struct key *key, enum family family) {
     for (uint32_t at = same; at < key->size; at++) key->bytes[at] = draw_byte(family);
 }
 
+enum { REMEMBERED = 64 };
+static struct key held[REMEMBERED];
+
+void begin_keys(enum family family) {
+    for (unsigned i = 0; i < REMEMBERED; i++) draw_key(&held[i], family);
+}
+
+void remember_key(const struct key *key) { held[below(REMEMBERED)] = *key; }
+
+void choose_key(struct key *key, enum family family) {
+    if (one_in(2)) draw_key(key, family);
+    else *key = held[below(REMEMBERED)];
+}
+
 uint32_t draw_value(void) {
     if (one_in(16)) return drawn();
     if (one_in(16)) return 0x7FFFFFFF + below(2);

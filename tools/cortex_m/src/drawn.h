@@ -23,6 +23,12 @@ bool one_in(uint32_t times);
 /* A key of a family, of 1 to 48 bytes, seldom of 0 or 49; neighbours begin as the key that was there before. */
 void draw_key(struct key *key, enum family family);
 
+/* Keys that come again: some are drawn anew for each block, one that is entered takes the place of another, and a key is chosen from
+ * them every second time. */
+void begin_keys(enum family family);
+void remember_key(const struct key *key);
+void choose_key(struct key *key, enum family family);
+
 /* A value to enter: mostly a date or nearly one, seldom any number. */
 uint32_t draw_value(void);
 

@@ -4,15 +4,6 @@
 
 static struct block block;
 
-enum { REMEMBERED = 64 };
-static struct key held[REMEMBERED];
-
-/* A key entered before, so that it is often there, or a new one. */
-static void choose_key(struct key *key, enum family family) {
-    if (one_in(2)) draw_key(key, family);
-    else *key = held[below(REMEMBERED)];
-}
-
 /* A snapshot as the call of the workshop makes it: the slot's word is the root, and its bit is set. */
 static void take_snapshot(void) {
     uint32_t slot = below(3);
@@ -24,7 +15,7 @@ static void one_call(enum family family) {
     static struct key key;
     if (one_in(2)) {
         draw_key(&key, family);
-        held[below(REMEMBERED)] = key;
+        remember_key(&key);
         call_insert(bytes(&block), block.size, key.bytes, key.size, draw_value());
         if (one_in(64)) take_snapshot();
         return;
@@ -37,7 +28,7 @@ static void one_call(enum family family) {
 
 static void grow(size_t cells, uint32_t edition, enum family family, unsigned turns) {
     fresh_of(&block, cells, edition);
-    for (unsigned i = 0; i < REMEMBERED; i++) draw_key(&held[i], family);
+    begin_keys(family);
     while (turns-- > 0) one_call(family);
 }
 

@@ -9,6 +9,7 @@ int main(void) {
     hostile_blocks();
     damaged_blocks();
     grown_blocks();
+    serviced_blocks();
     if (tell_answers()) return 0;
     printf("an answer did not come, or one came that the call does not have\n");
     return 1;

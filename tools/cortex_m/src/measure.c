@@ -1,7 +1,7 @@
 /* How much stack and how many instructions each call takes on a Cortex-M4, in blocks as deep as a key is long and in a full one. */
 #include "block.h"
 #include "drawn.h"
-#include "register.h"
+#include "register_service.h"
 
 #include <stdio.h>
 #include <string.h>
@@ -33,6 +33,12 @@ static void verdict(void) {
 static void insert(void) {
     uint32_t count;
     answer = register_insert(bytes(&block), block.size, key.bytes, key.size, LAST_DAY, &count);
+}
+
+static void write_list(void) {
+    static uint8_t list[REGISTER_LIST_SIZE];
+    uint32_t records;
+    answer = register_write_list(bytes(&block), block.size, key.bytes, key.size, LAST_DAY, list, sizeof list, &records);
 }
 
 /* The bytes below this frame that lose their paint in a call; nothing else is called between painting and looking. */
@@ -69,6 +75,7 @@ static void all_calls(const char *title) {
     memset(key.bytes, 'A', KEY_LIMIT);
     key.size = KEY_LIMIT;
     printf("\n%s\n\n| call | bytes of stack | instructions |\n|---|---|---|\n", title);
+    measure("write list", write_list);
     measure("insert", insert);
     measure("get", get);
     measure("verdict", verdict);
