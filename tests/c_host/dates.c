@@ -10,33 +10,32 @@ static const struct question question = {
 
 /* What the verdict on the cartridge answers on a day. */
 static uint8_t answer_on(uint32_t year, uint32_t month, uint32_t day) {
-    struct question asked = question;
-    asked.year = year;
-    asked.month = month;
-    asked.day = day;
-    return answer_of_verdict(&block, asked);
+    return answer_on_day(&block, question, year, month, day);
 }
 
-/* Three numbers are packed exactly where the verdict takes them as today, and the cartridge entered with the packed value is good
- * on that day. What is no date is refused as a value too. */
-static void pack(uint32_t year, uint32_t month, uint32_t day) {
+/* Packs three numbers and tells whether they are a date: exactly where the verdict takes them as today. The cartridge entered with the
+ * packed value is good on that day; what is no date is refused as a value too. */
+static bool pack(uint32_t year, uint32_t month, uint32_t day) {
     uint32_t packed = register_pack_date(year, month, day);
     bool is_date = answer_on(year, month, day) != REGISTER_BAD_TODAY;
     CHECK((packed != REGISTER_NO_DATE) == is_date);
     uint8_t entered = answer_of_insert(&block, "A", 1, packed);
     CHECK(entered == (is_date ? REGISTER_DONE : REGISTER_BAD_VALUE));
     if (is_date) CHECK(answer_on(year, month, day) == REGISTER_DONE);
+    return is_date;
 }
 
-/* Every day of 1999 to 2200 and the numbers around each month; a cartridge of a day is expired on the next one that is a day. */
+/* Every day of the calendar and the numbers around each month, in order: the cartridge of the day before is expired on each. */
 static void every_day(void) {
     unsigned days = 0;
     for (uint32_t year = 1999; year <= 2200; year++) {
         for (uint32_t month = 0; month <= 13; month++) {
             for (uint32_t day = 0; day <= 33; day++) {
-                if (days > 0 && register_pack_date(year, month, day) != REGISTER_NO_DATE) CHECK(answer_on(year, month, day) == REGISTER_EXPIRED);
-                pack(year, month, day);
-                days += register_pack_date(year, month, day) != REGISTER_NO_DATE;
+                uint8_t before = answer_on(year, month, day);
+                bool is_first = days == 0;
+                if (!pack(year, month, day)) continue;
+                CHECK(before == (is_first ? REGISTER_MISSING : REGISTER_EXPIRED));
+                days++;
             }
         }
     }
@@ -51,7 +50,7 @@ static void no_days(void) {
     };
     for (size_t i = 0; i < sizeof others / sizeof *others; i++) {
         CHECK(register_pack_date(others[i][0], others[i][1], others[i][2]) == REGISTER_NO_DATE);
-        pack(others[i][0], others[i][1], others[i][2]);
+        CHECK(!pack(others[i][0], others[i][1], others[i][2]));
     }
 }
 

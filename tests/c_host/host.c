@@ -67,6 +67,13 @@ uint8_t answer_of_verdict(struct block *block, struct question question) {
     return verdict(block, question, &dose);
 }
 
+uint8_t answer_on_day(struct block *block, struct question question, uint32_t year, uint32_t month, uint32_t day) {
+    question.year = year;
+    question.month = month;
+    question.day = day;
+    return answer_of_verdict(block, question);
+}
+
 int main(void) {
     test_samples();
     test_insert_and_get();

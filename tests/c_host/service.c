@@ -51,7 +51,7 @@ static void fresh_blocks(void) {
             uint8_t answer = register_format(bytes(&proved), size, editions[i]);
             CHECK(register_make_fresh(bytes(&helped), size, editions[i]) == answer);
             CHECK(memcmp(&proved, &helped, sizeof proved) == 0);
-            CHECK(register_validate(bytes(&proved), size) == (answer == REGISTER_DONE ? REGISTER_DONE : size % CELL || size < 128 || size > 65536 ? REGISTER_BAD_SIZE : REGISTER_UNSOUND));
+            CHECK((register_validate(bytes(&proved), size) == REGISTER_DONE) == (answer == REGISTER_DONE));
         }
     }
     for (size_t cells = 4; cells <= 2048; cells++) {
