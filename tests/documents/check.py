@@ -23,6 +23,15 @@ def stacks():
         yield "README's table of stack is not that of the headers"
 
 
+def warnings():
+    """Words that the header and README owe to who links the library: on power cuts, time, other calls and the C library."""
+    for document in ("README.md", "include/register.h"):
+        text = " ".join(Path(document).read_text().replace(" * ", " ").split())
+        for word in ("torn", "write_list" if document.endswith("h") else "write list", "fourfold", "reentrant", "memset"):
+            if word not in text:
+                yield f"{document} does not say '{word}'"
+
+
 def versions(version):
     """The newest entry of the change log against the version."""
     newest = re.search(r"^## (\S+)$", Path("CHANGELOG.md").read_text(), re.M)
@@ -38,7 +47,7 @@ def places():
                 yield f"{document} names {place}, which is not there"
 
 
-found = [*stacks(), *versions(sys.argv[1]), *places()]
+found = [*stacks(), *warnings(), *versions(sys.argv[1]), *places()]
 for line in found:
     print(f"documents: {line}")
 if found:
