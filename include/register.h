@@ -7,11 +7,13 @@
  * 2,147,483,647. A cartridge is entered under its label, with its expiry day as value, which register_pack_date packs.
  *
  * Every call judges the whole block and all that it is told, whatever comes in, and answers with the lowest number below that
- * applies. On every answer but REGISTER_DONE the block stays byte for byte and the number beside the answer is zero.
+ * applies; where a fresh block is made, its old bytes are not judged. On every answer but REGISTER_DONE the block stays byte for byte and
+ * the number beside the answer is zero.
  *
  * Power. register_insert stores the root word, the first word of the last cell, after all cells; but power that drops inside the
  * call may leave that word torn, half old and half new, and nothing is proved of such a block. Where power can drop, enter
- * through register_write_list of register_service.h: that the block survives a cut at any place of its list is proved.
+ * through register_write_list of register_service.h: that the block survives a cut at any place of its list is proved. No other call
+ * that writes has such a list: one that is cut, be it a removal or a snapshot, may leave a block that is not sound.
  *
  * Wear. Insertions take their cells in turn, each behind those of the one before and round the block, so that the free cells are
  * written alike. The root word is written by every insertion: of all words it wears most.
@@ -19,7 +21,7 @@
  * Stack. The table of REGISTER_STACK_... below tells the most bytes that a call takes; nothing is taken from a heap, and there is no
  * static memory.
  *
- * Time. Every call walks the whole tree of the root and that of each slot in use: its time grows with the cells that the root
+ * Time. Every call on a register walks the whole tree of the root and that of each slot in use: its time grows with the cells that the root
  * reaches, and again with those of each slot; with three slots in use it is about fourfold.
  *
  * Other calls. No call is reentrant over one block: while one runs, no other call over the same block may begin, in an interrupt
@@ -33,8 +35,10 @@
  * C cuts a number wider than a parameter before the call: the year 4,294,969,321 in 64 bits would arrive as 2025 and be taken for it.
  * Judge wider numbers yourself before you hand them over.
  *
- * A pointer to bytes stands before the number of bytes; it may be NULL where that is 0. The last pointer of a call leads to one
- * number, is never NULL and is written on every answer. The block, the bytes and that number do not overlap.
+ * A pointer to bytes stands before the number of bytes; it may be NULL where that is 0. Each pointer to a number that a call tells is
+ * never NULL and is written on every answer. What the pointers of a call lead to does not overlap.
+ *
+ * The header needs C99 or C++.
  */
 #ifndef REGISTER_H
 #define REGISTER_H
@@ -63,7 +67,8 @@ extern "C" {
 /* A number of bytes: 64 bits on every target, since the proved code counts so; C widens a size_t to it. */
 typedef uint64_t register_size;
 
-/* A size_t that would be cut is refused here: an array of a negative size does not compile. */
+/* Sizes have 64 bits, and a size_t that would be cut is refused: an array of a negative size does not compile. */
+typedef char register_size_is_64_bits[sizeof(register_size) == 8 ? 1 : -1];
 typedef char register_size_holds_size_t[sizeof(size_t) <= sizeof(register_size) ? 1 : -1];
 
 /* What a call answers. 5, 6 and 15 are answers of calls that register_service.h has. */
@@ -140,10 +145,11 @@ REGISTER_MUST_USE uint8_t register_verdict(const uint8_t *block, register_size b
  * Answers: done, bad size. */
 REGISTER_MUST_USE static inline uint8_t register_make_fresh(uint8_t *block, register_size block_size, uint32_t edition) {
     const register_size cells = block_size / REGISTER_CELL_SIZE;
+    uint8_t *trailer;
     if (block_size % REGISTER_CELL_SIZE != 0 || cells < 4 || cells > 2048) return REGISTER_BAD_SIZE;
     if (edition != 1 && edition != 2) return REGISTER_BAD_SIZE;
     for (size_t at = 0; at < block_size; at++) block[at] = 0;
-    uint8_t *trailer = block + (block_size - REGISTER_CELL_SIZE);
+    trailer = block + (block_size - REGISTER_CELL_SIZE);
     trailer[0x16] = (uint8_t)(cells >> 8);
     trailer[0x17] = (uint8_t)cells;
     trailer[0x1F] = (uint8_t)edition;

@@ -1,8 +1,10 @@
 /* The calls of the cartridge register that firmware does not have, for service tools and memory drivers: making and judging a
  * block, removing a key, snapshots, the next key, pages, and an insertion as a list of stores.
  *
- * What register.h says of blocks, keys, answers, time, stack, other calls and pointers holds here too; on every answer but
+ * What register.h says of blocks, keys, answers, power, time, stack, other calls and pointers holds here too; on every answer but
  * REGISTER_DONE a lent buffer stays byte for byte too. The library of these calls stands beside firmware's, and both can be linked.
+ * Power that drops inside register_format, register_remove, register_snapshot, register_restore or register_release may leave a
+ * block that is not sound; only a list of stores is proved against it.
  */
 #ifndef REGISTER_SERVICE_H
 #define REGISTER_SERVICE_H
@@ -19,13 +21,13 @@ extern "C" {
 enum {
     REGISTER_STACK_FORMAT_FEW = 128,       REGISTER_STACK_FORMAT = 128,
     REGISTER_STACK_VALIDATE_FEW = 5376,    REGISTER_STACK_VALIDATE = 12800,
-    REGISTER_STACK_REMOVE_FEW = 8192,      REGISTER_STACK_REMOVE = 13312,
+    REGISTER_STACK_REMOVE_FEW = 8448,      REGISTER_STACK_REMOVE = 13312,
     REGISTER_STACK_SNAPSHOT_FEW = 5376,    REGISTER_STACK_SNAPSHOT = 12800,
     REGISTER_STACK_RESTORE_FEW = 5376,     REGISTER_STACK_RESTORE = 12800,
     REGISTER_STACK_RELEASE_FEW = 5376,     REGISTER_STACK_RELEASE = 12800,
     REGISTER_STACK_NEXT_KEY_FEW = 14336,   REGISTER_STACK_NEXT_KEY = 14336,
     REGISTER_STACK_PAGE_FEW = 18688,       REGISTER_STACK_PAGE = 18688,
-    REGISTER_STACK_WRITE_LIST_FEW = 8448,  REGISTER_STACK_WRITE_LIST = 13312
+    REGISTER_STACK_WRITE_LIST_FEW = 8704,  REGISTER_STACK_WRITE_LIST = 13312
 };
 
 /* Makes a block fresh, of edition 1 or 2, whatever its bytes were. An edition that there is none of is bad size.
@@ -37,7 +39,7 @@ REGISTER_MUST_USE uint8_t register_format(uint8_t *block, register_size block_si
 REGISTER_MUST_USE uint8_t register_validate(const uint8_t *block, register_size block_size);
 
 /* Removes a key with its value, and tells in *count how many cells that took: a removal writes its path anew, so a full register
- * may refuse it until a slot is released. Power that drops inside this call may leave the root word torn; it has no list of stores.
+ * may refuse it until a slot is released.
  * Answers: done, bad size, unsound, bad key, missing, no room; missing is asked before no room. */
 REGISTER_MUST_USE uint8_t register_remove(uint8_t *block, register_size block_size, const uint8_t *key, register_size key_size,
                                           uint32_t *count);
@@ -56,7 +58,7 @@ REGISTER_MUST_USE uint8_t register_restore(uint8_t *block, register_size block_s
 REGISTER_MUST_USE uint8_t register_release(uint8_t *block, register_size block_size, uint32_t slot);
 
 /* Tells the least key that is greater than a given one, by unsigned bytes, a key before its extensions: its size in *next_size
- * and its bytes in next, zero past the size and on every no. The given key need not be held; the empty one leads to the first.
+ * and its bytes in next, which is never NULL, zero past the size and on every no. The given key need not be held; the empty one leads to the first.
  * Answers: done, bad size, unsound, bad key (over 48 bytes), missing (there is no greater one). */
 REGISTER_MUST_USE uint8_t register_next_key(const uint8_t *block, register_size block_size, const uint8_t *key,
                                             register_size key_size, uint32_t *next_size, uint8_t next[REGISTER_KEY_LIMIT]);
@@ -73,7 +75,8 @@ REGISTER_MUST_USE uint8_t register_page(const uint8_t *block, register_size bloc
                                         uint8_t *buffer, register_size buffer_size, uint32_t *records, uint32_t *used,
                                         uint32_t *more);
 
-/* The most bytes that the list of an insertion has: 8 records for each of 4 x 48 + 10 cells and one for the root word, 8 bytes each. */
+/* The most bytes that the list of an insertion has: 8 records for each of 4 x 48 + 10 cells and one for the root word, 8 bytes each. In
+ * a small block of n cells it has at most 8 x (n - 2) + 1 records. */
 #define REGISTER_LIST_SIZE ((8 * (4 * REGISTER_KEY_LIMIT + 10) + 1) * 8)
 
 /* Gives the entry of register_insert as a list of stores for a memory driver, and tells in *records how many; the block is only read.

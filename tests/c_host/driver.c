@@ -119,7 +119,7 @@ static void order(void) {
 }
 
 int main(int count, char **arguments) {
-    CHECK(count == 2);
+    CHECK(count == 2 && REGISTER_LIST_SIZE == 12936);
     samples();
     round_the_block();
     sizes();

@@ -7,7 +7,7 @@
 #include <string.h>
 
 /* The least buffer that is taken, the longest key, and the most bytes lent here. */
-enum { LEAST = 53, LONGEST_KEY = 48, MOST = 4096 };
+enum { LEAST = REGISTER_PAGE_SIZE, LONGEST_KEY = REGISTER_KEY_LIMIT, MOST = 4096 };
 
 static struct block block;
 
@@ -209,6 +209,7 @@ static void random_blocks(void) {
 }
 
 int main(void) {
+    CHECK(REGISTER_PAGE_SIZE == 53 && REGISTER_KEY_LIMIT == 48);
     sample_g();
     sizes();
     empty_register();

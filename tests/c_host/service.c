@@ -40,23 +40,30 @@ static bool is_missing(const void *key, size_t key_size) {
     return register_get(bytes(&block), block.size, key, key_size, &value) == REGISTER_MISSING;
 }
 
-/* The header's helper makes of every size and edition what the proved call makes, and refuses what it refuses. */
-static void fresh_blocks(void) {
+/* Whether the header's helper makes of so many bytes what the proved call makes, and refuses what it refuses, for every edition. */
+static void compare_fresh(size_t size) {
     static const uint32_t editions[] = {0, 1, 2, 3, 4, 255, 257, 65537, UINT32_MAX};
     static struct block proved, helped;
-    for (size_t size = 0; size <= MOST_CELLS * CELL; size += size < 200 || size > 65500 ? 1 : CELL * 7 + size % 5) {
-        for (size_t i = 0; i < sizeof editions / sizeof *editions; i++) {
-            memset(&proved, FILLER, sizeof proved);
-            memset(&helped, FILLER, sizeof helped);
-            uint8_t answer = register_format(bytes(&proved), size, editions[i]);
-            CHECK(register_make_fresh(bytes(&helped), size, editions[i]) == answer);
-            CHECK(memcmp(&proved, &helped, sizeof proved) == 0);
-            CHECK((register_validate(bytes(&proved), size) == REGISTER_DONE) == (answer == REGISTER_DONE));
-        }
+    proved.size = helped.size = size;
+    for (size_t i = 0; i < sizeof editions / sizeof *editions; i++) {
+        memset(proved.room, FILLER, sizeof proved.room);
+        memset(helped.room, FILLER, sizeof helped.room);
+        uint8_t answer = register_format(bytes(&proved), size, editions[i]);
+        CHECK(register_make_fresh(bytes(&helped), size, editions[i]) == answer);
+        CHECK(memcmp(&proved, &helped, sizeof proved) == 0);
+        CHECK((register_validate(bytes(&proved), size) == REGISTER_DONE) == (answer == REGISTER_DONE));
     }
-    for (size_t cells = 4; cells <= 2048; cells++) {
-        CHECK(register_make_fresh(bytes(&helped), cells * CELL, 1 + cells % 2) == REGISTER_DONE);
-        CHECK(register_validate(bytes(&helped), cells * CELL) == REGISTER_DONE);
+}
+
+/* Every number of cells, every size near the least and the most, and sizes that no memory has. */
+static void fresh_blocks(void) {
+    for (size_t cells = 0; cells <= MOST_CELLS; cells++) compare_fresh(cells * CELL);
+    for (size_t size = 0; size <= 200; size++) compare_fresh(size);
+    for (size_t size = 65500; size <= MOST_CELLS * CELL; size++) compare_fresh(size);
+    static const register_size too_large[] = {(UINT64_C(1) << 32) + 128, UINT64_C(1) << 63, UINT64_MAX - 31};
+    for (size_t i = 0; i < sizeof too_large / sizeof *too_large; i++) {
+        CHECK(register_make_fresh(NULL, too_large[i], 1) == REGISTER_BAD_SIZE);
+        CHECK(register_format(NULL, too_large[i], 1) == REGISTER_BAD_SIZE);
     }
 }
 

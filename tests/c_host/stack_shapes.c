@@ -135,3 +135,31 @@ const struct shape shapes[] = {
     DEEP_SHAPES(sparses_under_prefixes), DEEP_SHAPES(splits_under_prefixes), DEEP_SHAPES(splits_with_values),
 };
 const size_t shape_count = sizeof shapes / sizeof *shapes;
+
+/* The next of a row of numbers, of which the upper bits are taken. */
+static uint32_t drawn(uint64_t *state, uint32_t limit) {
+    *state = *state * 6364136223846793005u + 1442695040888963407u;
+    return (uint32_t)((*state >> 33) % limit);
+}
+
+/* A key of up to 48 characters of few letters, so that keys share their beginnings. */
+static struct drawn_key draw_key(uint64_t *state) {
+    struct drawn_key key;
+    uint32_t letters = 2 + drawn(state, 8);
+    key.size = 1 + drawn(state, drawn(state, 2) == 0 ? 6 : REGISTER_KEY_LIMIT);
+    for (size_t i = 0; i < key.size; i++) key.bytes[i] = (uint8_t)(LETTER + drawn(state, letters));
+    return key;
+}
+
+struct drawn_key lay_drawn(struct block *block, size_t cells, unsigned number) {
+    uint64_t state = number;
+    uint32_t count;
+    struct drawn_key kept = draw_key(&state), key = kept;
+    begin(block, cells, 1 + number % 2);
+    for (uint32_t turn = 1; turn < 4096; turn++) {
+        if (register_insert(bytes(block), block->size, key.bytes, key.size, turn, &count) != REGISTER_DONE) break;
+        if (drawn(&state, turn) == 0) kept = key;
+        key = draw_key(&state);
+    }
+    return drawn(&state, 2) == 0 ? key : kept;
+}

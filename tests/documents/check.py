@@ -5,6 +5,8 @@ import sys
 from pathlib import Path
 
 HEADERS = ["include/register.h", "include/register_service.h"]
+# names that differ, since they mean something else in the proved code
+RENAMED = {"extent": "length", "size": "next_size", "out": "next"}
 DOCUMENTS = ["README.md", "CONTRIBUTING.md", "docs/FORMAT.md", "docs/CORTEX_M.md"]
 STACK = re.compile(r"REGISTER_STACK_(\w+)_FEW = (\d+),\s+REGISTER_STACK_(\w+) = (\d+)")
 ROW = re.compile(r"^  \| `register_(\w+)` \| ([\d,]+) \| ([\d,]+) \|$", re.M)
@@ -21,6 +23,23 @@ def stacks():
             yield f"the header's rows of stack for {few} and {call} stand beside each other"
     if told != {(call.lower(), a, b) for _, call, a, b in stated}:
         yield "README's table of stack is not that of the headers"
+
+
+def parameters():
+    """Functions of the headers whose parameters are not named, in order, as in the proved code: C itself cannot tell two numbers apart."""
+    declared = {}
+    for name in HEADERS:
+        text = re.sub(r"/\*.*?\*/", "", Path(name).read_text(), flags=re.S)
+        for function, listed in re.findall(r"\b(register_\w+)\(([^;{)]*)\);", text):
+            declared[function] = [re.sub(r"\[.*", "", one).split()[-1].lstrip("*") for one in listed.split(",")]
+    proved = {}
+    for source in [Path("crates/firmware/src/lib.rt"), *sorted(Path("crates/exports/src").glob("*.rt"))]:
+        for function, listed in re.findall(r"pub extern \"C\" fn (register_\w+)\((.*?)\) -> u8", source.read_text(), re.S):
+            names = re.findall(r"(\w+): (&(?:mut )?\[u8\])?", listed)
+            proved[function] = [RENAMED.get(part, part) for name, lent in names for part in ([name, f"{name}_size"] if lent else [name])]
+    for function in sorted(declared.keys() | proved.keys()):
+        if declared.get(function) != proved.get(function):
+            yield f"{function} has the parameters {declared.get(function)} in C and {proved.get(function)} in the proved code"
 
 
 def warnings():
@@ -47,7 +66,7 @@ def places():
                 yield f"{document} names {place}, which is not there"
 
 
-found = [*stacks(), *warnings(), *versions(sys.argv[1]), *places()]
+found = [*stacks(), *parameters(), *warnings(), *versions(sys.argv[1]), *places()]
 for line in found:
     print(f"documents: {line}")
 if found:

@@ -1,7 +1,8 @@
-/* How much stack and how many instructions each call takes on a Cortex-M4, in blocks as deep as a key is long and in a full one. */
+/* How much stack each call takes on a Cortex-M4 at most, over the shapes of the x86-64 test, and how many instructions some take. */
 #include "block.h"
 #include "drawn.h"
 #include "register_service.h"
+#include "stack.h"
 
 #include <stdio.h>
 #include <string.h>
@@ -16,8 +17,6 @@ enum { STACK_ROOM = 256 * 1024, PAINT = 0xA5A5A5A5, LAST_DAY = 2199 * 512 + 12 *
 static struct block block;
 static struct key key;
 static uint8_t answer;
-
-static void nothing(void) { answer = 0; }
 
 static void get(void) {
     uint32_t value;
@@ -42,13 +41,13 @@ static void write_list(void) {
 }
 
 /* The bytes below this frame that lose their paint in a call; nothing else is called between painting and looking. */
-static __attribute__((noinline)) uint32_t stack_of(void (*call)(void)) {
+static __attribute__((noinline)) size_t stack_of(void (*call)(void)) {
     volatile uint32_t *top, *low;
     __asm__ volatile("mov %0, sp" : "=r"(top));
     for (low = top - STACK_ROOM / 4; low < top; low++) *low = PAINT;
     call();
     for (low = top - STACK_ROOM / 4; low < top && *low == PAINT; low++) continue;
-    return (uint32_t)((uintptr_t)top - (uintptr_t)low);
+    return (uintptr_t)top - (uintptr_t)low;
 }
 
 static __attribute__((noinline)) uint32_t ticks_of(void (*call)(void)) {
@@ -63,18 +62,17 @@ static __attribute__((noinline)) uint32_t ticks_of(void (*call)(void)) {
 
 /* An insertion is made twice, which leaves a block with the same keys. */
 static void measure(const char *name, void (*call)(void)) {
-    uint32_t stack = stack_of(call) - stack_of(nothing);
     call();
     CHECK(answer == REGISTER_DONE);
     uint32_t ticks = ticks_of(call);
     CHECK(answer == REGISTER_DONE);
-    printf("| %s | %lu | %lu |\n", name, (unsigned long)stack, (unsigned long)ticks * INSTRUCTIONS_A_TICK);
+    printf("| %s | %lu |\n", name, (unsigned long)ticks * INSTRUCTIONS_A_TICK);
 }
 
 static void all_calls(const char *title) {
     memset(key.bytes, 'A', KEY_LIMIT);
     key.size = KEY_LIMIT;
-    printf("\n%s\n\n| call | bytes of stack | instructions |\n|---|---|---|\n", title);
+    printf("\n%s\n\n| call | instructions |\n|---|---|\n", title);
     measure("write list", write_list);
     measure("insert", insert);
     measure("get", get);
@@ -118,7 +116,17 @@ static void fill(void) {
     CHECK(answer == REGISTER_NO_ROOM);
 }
 
+/* The most bytes of stack of every call. */
+static void all_stacks(void) {
+    printf("\n| call | stack, 16 cells | stack, 2,048 cells |\n|---|---|---|\n");
+    for (size_t i = 0; i < stated_count; i++) {
+        size_t few = most_stack(stated_calls[i].call, 16, stack_of), many = most_stack(stated_calls[i].call, 2048, stack_of);
+        printf("| %s | %lu | %lu |\n", stated_calls[i].name, (unsigned long)few, (unsigned long)many);
+    }
+}
+
 int main(void) {
+    all_stacks();
     fresh_of(&block, 16, 1);
     all_calls("One run of chains, 16 cells");
     fresh_of(&block, 2048, 1);
