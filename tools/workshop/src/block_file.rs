@@ -4,13 +4,27 @@ use crate::beside;
 use crate::entries::Entry;
 use crate::proved::{Store, CELL_SIZE, MOST_CELLS_LENT};
 use crate::trouble::{No, Trouble};
-use std::fs::{self, File, OpenOptions};
+use std::fs::{self, File, Metadata, OpenOptions};
 use std::io::{self, Read, Seek, SeekFrom, Write};
 use std::path::{Path, PathBuf};
 
 /// Reads the block of a file, while no run of this tool stores an entry in it.
 pub fn read(path: &Path) -> Result<Vec<u8>, Trouble> {
-    File::open(path).and_then(|file| read_unstored(&file)).map_err(|reason| unread(path, &reason))
+    regular(path)
+        .and_then(|_| File::open(path))
+        .and_then(|file| read_unstored(&file))
+        .map_err(|reason| unread(path, &reason))
+}
+
+/// What there is to know of a file before it is opened. Anything else than a regular file is refused: to open a pipe could wait
+/// for ever, and a device is no place for a block.
+fn regular(path: &Path) -> io::Result<Metadata> {
+    let found = fs::metadata(path)?;
+    if found.is_file() {
+        Ok(found)
+    } else {
+        Err(io::Error::new(io::ErrorKind::InvalidInput, "it is no regular file"))
+    }
 }
 
 /// Reads the block of a file that is open, while no run of this tool stores an entry in it.
@@ -80,7 +94,7 @@ fn hold(path: &Path) -> Result<Held, Trouble> {
 /// Opens a file for reading and writing. One that nobody has the right to write is write-protected, and that is asked first:
 /// an administrator could open it all the same.
 fn open_writable(place: &Path) -> io::Result<File> {
-    if fs::metadata(place)?.permissions().readonly() {
+    if regular(place)?.permissions().readonly() {
         return Err(io::Error::new(io::ErrorKind::PermissionDenied, "it is write-protected"));
     }
     OpenOptions::new().read(true).write(true).open(place)
