@@ -50,15 +50,13 @@ pub fn create(path: &Path, block: &[u8]) -> Result<(), Trouble> {
     beside::write(path, block, None).and_then(|()| folder.sync_all()).map_err(failed)
 }
 
-/// Reads, alters and replaces the block of a file, which keeps its owner and its access rights; a link is followed to the file
+/// Reads, alters and replaces the block of a file, which keeps its owner and who may use it; a link is followed to the file
 /// itself. No other run of this tool alters the file in between, so that neither loses what the other did.
 pub fn alter<T, E: Into<Trouble>>(path: &Path, change: impl FnOnce(&mut [u8]) -> Result<T, E>) -> Result<T, Trouble> {
     let held = hold(path)?;
     let mut block = read_unstored(&held.file).map_err(|reason| unread(path, &reason))?;
     let done = change(&mut block).map_err(E::into)?;
-    held.file
-        .metadata()
-        .and_then(|old| beside::write(&held.place, &block, Some(&old)))
+    beside::write(&held.place, &block, Some(&held.file))
         .and_then(|()| held.folder.sync_all())
         .map_err(|reason| unwritten(path, &reason))?;
     Ok(done)

@@ -1,5 +1,6 @@
 //! The workshop's command line for a cartridge register in a file, over the proved library.
 
+mod access_list;
 mod beside;
 mod block_file;
 mod commands;
