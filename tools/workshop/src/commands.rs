@@ -43,7 +43,8 @@ workshop help [COMMAND]          show this, or one command with an example
 workshop version                 show the version
 A DATE is written 2025-03-07. A LABEL is text, or hex:43484131.
 Exit status: 0 done, 1 to 15 the number of the no, 64 the command was not understood,
-65 a list has bad rows, 74 trouble with a file, also where it is write-protected.
+65 a list has bad rows, 74 trouble with a file, also where it is write-protected
+or where only printing failed, which then says that the command was carried out.
 ";
 
 /// What the commands that alter a slot have in common.
