@@ -106,8 +106,12 @@ fn enter(file: &Path, label: &OsStr, date: &OsStr) -> Result<String, Trouble> {
     let label = words::label(label)?;
     let date = dates::read_date(words::text(date)?)?;
     let entry = block_file::store(file, |block| Entry::of(block, &label, dates::pack(date)))?;
-    let replaced = entry.replaced.map(|value| format!(", replaces {}", dates::show_value(value))).unwrap_or_default();
-    Ok(format!("entered {} {date}{replaced}, {}\n", labels::show(&label), taken(entry.cells())))
+    Ok(format!("entered {} {date}{}, {}\n", labels::show(&label), replaces(&entry), taken(entry.cells())))
+}
+
+/// The value that an entry replaces, in words behind the new one.
+fn replaces(entry: &Entry) -> String {
+    entry.replaced.map(|value| format!(", replaces {}", dates::show_value(value))).unwrap_or_default()
 }
 
 /// Removes a label, whatever its value.

@@ -1,9 +1,11 @@
 //! The import of a list: all rows are entered in one run, or none of them.
 
-use super::{counted, taken};
+use super::{counted, replaces};
 use crate::block_file;
 use crate::dates;
 use crate::entries::{self, Entry};
+use crate::labels;
+use crate::map;
 use crate::proved;
 use crate::rows::{self, Row};
 use crate::trouble::{No, Trouble};
@@ -19,8 +21,10 @@ pub fn import(file: &Path, list: &Path) -> Result<String, Trouble> {
     let bytes = read_list(list).map_err(|reason| block_file::unread(list, &reason))?;
     let rows = rows::read(&bytes)
         .map_err(|faults| Trouble::Rows(faults.iter().map(|fault| at(list, fault.line, &fault.message)).collect()))?;
-    let done = block_file::alter(file, |block| enter_all(block, &rows).map_err(|refusal| refusal.told(list)))?;
-    Ok(format!("imported {}, {}\n", counted(rows.len() as u32, "label"), done.words()))
+    block_file::alter(file, |block| {
+        let done = enter_all(block, &rows).map_err(|refusal| refusal.told(list))?;
+        Ok::<String, Trouble>(format!("{}{}\n", done.words(), map::fullness(block)))
+    })
 }
 
 /// Reads a list whole.
@@ -85,12 +89,12 @@ fn judge_labels(block: &[u8], rows: &[Row]) -> Result<(), Refusal> {
     }
 }
 
-/// What was entered so far: labels that got another value, labels that had just theirs, and the cells taken.
+/// What was entered so far: labels that are new, those that got another value, in a line each, and those that had just theirs.
 #[derive(Default)]
 struct Done {
-    replaced: u32,
+    new: u32,
+    replaced: Vec<String>,
     unchanged: u32,
-    cells: u32,
 }
 
 impl Done {
@@ -103,14 +107,18 @@ impl Done {
         }
         let entry = Entry::of(block, &row.label, value)?;
         entry.stores.iter().for_each(|store| store.make(block));
-        self.replaced += u32::from(entry.replaced.is_some());
-        self.cells += entry.cells();
+        match entry.replaced {
+            None => self.new += 1,
+            Some(_) => self.replaced.push(format!("{} {}{}\n", labels::show(&row.label), row.date, replaces(&entry))),
+        }
         Ok(())
     }
 
-    /// What was done, in words; unchanged labels only where there are any.
+    /// What was done, in words: each value that was replaced, since nothing else tells it any more, and how many there are of all.
     fn words(&self) -> String {
-        let unchanged = if self.unchanged == 0 { String::new() } else { format!("{} unchanged, ", self.unchanged) };
-        format!("{} replaced, {unchanged}{}", self.replaced, taken(self.cells))
+        let replaced = self.replaced.len() as u32;
+        let all = counted(self.new + replaced + self.unchanged, "label");
+        let counts = format!("{} new, {replaced} replaced, {} unchanged", self.new, self.unchanged);
+        format!("{}imported {all}: {counts}\n", self.replaced.concat())
     }
 }

@@ -25,9 +25,14 @@ pub fn summary(reached: &Reached) -> [String; 3] {
     let slots = if slots.is_empty() { "none".to_string() } else { slots.join(", ") };
     [
         format!("sound, {} cells, edition {}", block.cells(), block.edition()),
-        format!("cells: {} usable, {} used, {} free", block.usable(), reached.used(), reached.free()),
+        fullness(reached),
         format!("slots in use: {slots}"),
     ]
+}
+
+/// How many cells can hold a node, and how many of them do.
+pub fn fullness(reached: &Reached) -> String {
+    format!("cells: {} usable, {} used, {} free", reached.block.usable(), reached.used(), reached.free())
 }
 
 /// The whole map.
