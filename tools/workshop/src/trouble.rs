@@ -75,11 +75,15 @@ impl No {
     /// Today is after the expiry day.
     pub const EXPIRED: No = No(13);
 
+    /// What it means.
+    pub fn meaning(self) -> &'static str {
+        let place = usize::from(self.0).wrapping_sub(1);
+        MEANINGS.get(place).unwrap_or(&"the library gave an answer that this tool does not know")
+    }
+
     /// The number and its meaning.
     pub fn words(self) -> String {
-        let place = usize::from(self.0).wrapping_sub(1);
-        let meaning = MEANINGS.get(place).unwrap_or(&"the library gave an answer that this tool does not know");
-        format!("no {}: {meaning}", self.0)
+        format!("no {}: {}", self.0, self.meaning())
     }
 }
 

@@ -10,9 +10,21 @@ pub fn is_visible(character: char) -> bool {
     seen && !BLANKS.contains(&character)
 }
 
-/// A text in quotes, for messages; what cannot be seen of it is written as its number, so that it does nothing to a terminal.
+/// The most characters that a message shows of a text.
+const MOST_QUOTED: usize = 80;
+
+/// A text in quotes, for messages; what cannot be seen of it is written as its number, so that it does nothing to a terminal. Of a
+/// longer text the beginning is shown, since it may be a whole file.
 pub fn quoted(text: &str) -> String {
-    let shown: String = text.chars().map(shown_in_message).collect();
+    let mut shown = String::new();
+    let mut room = MOST_QUOTED;
+    for part in text.chars().map(shown_in_message) {
+        match room.checked_sub(part.chars().count()) {
+            Some(left) => room = left,
+            None => return format!("'{shown}'..."),
+        }
+        shown += &part;
+    }
     format!("'{shown}'")
 }
 

@@ -34,9 +34,11 @@ every command that alters it.",
     CHA1,2025-03-07
     batch 7,2025-09-30
 
-Every bad row is told with its line, and then none is entered; nor is any where a label is refused or there is no
-room for all. A label that has just that day already is left out and counted as unchanged, so that a list can be
-imported again and takes no cells. As ROWS.csv, /dev/stdin is what another program prints.",
+Every bad row is told with its line, and then none is entered; nor is any where there is no room for all. A label
+with a character that cannot be seen, or with a space at an end, is a bad row unless it is written as hex:43484131,
+since a scanner or a spreadsheet may have put that there. Each day that is replaced is told. A label that has just
+that day already is left out and counted as unchanged, so that a list can be imported again and takes no cells. As
+ROWS.csv, /dev/stdin is what another program prints.",
         example: "import register.block cartridges.csv",
     },
     Topic {

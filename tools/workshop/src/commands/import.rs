@@ -22,7 +22,7 @@ pub fn import(file: &Path, list: &Path) -> Result<String, Trouble> {
     let rows = rows::read(&bytes)
         .map_err(|faults| Trouble::Rows(faults.iter().map(|fault| at(list, fault.line, &fault.message)).collect()))?;
     block_file::alter(file, |block| {
-        let done = enter_all(block, &rows).map_err(|refusal| refusal.told(list))?;
+        let done = enter_all(block, &rows, list)?;
         Ok::<String, Trouble>(format!("{}{}\n", done.words(), map::fullness(block)))
     })
 }
@@ -42,51 +42,15 @@ fn at(list: &Path, line: usize, message: &str) -> String {
     format!("{}:{line}: {message}", list.display())
 }
 
-/// A no of an import, with the lines that it is about; none where it is about the block.
-struct Refusal {
-    no: No,
-    lines: Vec<usize>,
-}
-
-impl From<No> for Refusal {
-    /// A no about the block.
-    fn from(no: No) -> Refusal {
-        Refusal { no, lines: Vec::new() }
-    }
-}
-
-impl Refusal {
-    /// Tells the no with each line that it is about.
-    fn told(self, list: &Path) -> Trouble {
-        if self.lines.is_empty() {
-            return Trouble::Refused(self.no);
-        }
-        let words = self.no.words();
-        Trouble::Told(self.no, self.lines.iter().map(|line| at(list, *line, &words)).collect())
-    }
-}
-
-/// Enters rows one after the other, after all of their labels were judged. The first that has no room ends it: whether those
-/// behind it would have had room cannot be said.
-fn enter_all(block: &mut [u8], rows: &[Row]) -> Result<Done, Refusal> {
+/// Enters rows one after the other. The first that has no room ends it: whether those behind it would have had room cannot be
+/// said.
+fn enter_all(block: &mut [u8], rows: &[Row], list: &Path) -> Result<Done, Trouble> {
     proved::validate(block)?;
-    judge_labels(block, rows)?;
     let mut done = Done::default();
     for row in rows {
-        done.enter(block, row).map_err(|no| Refusal { no, lines: vec![row.line] })?;
+        done.enter(block, row).map_err(|no| Trouble::Told(no, vec![at(list, row.line, &no.words())]))?;
     }
     Ok(done)
-}
-
-/// Finds every row whose label the library does not take.
-fn judge_labels(block: &[u8], rows: &[Row]) -> Result<(), Refusal> {
-    let refused = rows.iter().filter(|row| entries::held(block, &row.label) == Err(No::BAD_LABEL));
-    let lines: Vec<usize> = refused.map(|row| row.line).collect();
-    if lines.is_empty() {
-        Ok(())
-    } else {
-        Err(Refusal { no: No::BAD_LABEL, lines })
-    }
 }
 
 /// What was entered so far: labels that are new, those that got another value, in a line each, and those that had just theirs.
