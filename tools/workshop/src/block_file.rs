@@ -3,7 +3,7 @@
 use crate::beside;
 use crate::entries::Entry;
 use crate::proved::{Store, CELL_SIZE, MOST_CELLS_LENT};
-use crate::trouble::{No, Trouble};
+use crate::trouble::Trouble;
 use std::fs::{self, File, Metadata, OpenOptions};
 use std::io::{self, Read, Seek, SeekFrom, Write};
 use std::path::{Path, PathBuf};
@@ -64,7 +64,7 @@ pub fn alter<T, E: Into<Trouble>>(path: &Path, change: impl FnOnce(&mut [u8]) ->
 
 /// Asks for an entry into a file's block, makes its stores in the file itself and gives it to be told. Links and other runs are
 /// met as above, and runs that only read are kept off too.
-pub fn store(path: &Path, plan: impl FnOnce(&[u8]) -> Result<Entry, No>) -> Result<Entry, Trouble> {
+pub fn store(path: &Path, plan: impl FnOnce(&[u8]) -> Result<Entry, Trouble>) -> Result<Entry, Trouble> {
     let held = hold(path)?;
     let failed = |reason| unwritten(path, &reason);
     held.file.lock().map_err(failed)?;

@@ -105,7 +105,9 @@ fn new(file: &Path, cells: &OsStr, edition: Option<&OsString>) -> Result<String,
 fn enter(file: &Path, label: &OsStr, date: &OsStr) -> Result<String, Trouble> {
     let label = words::label(label)?;
     let date = dates::read_date(words::text(date)?)?;
-    let entry = block_file::store(file, |block| Entry::of(block, &label, dates::pack(date)))?;
+    let entry = block_file::store(file, |block| {
+        Entry::of(block, &label, dates::pack(date)).map_err(|no| Trouble::Told(no, vec![with_room(no, block)]))
+    })?;
     Ok(format!("entered {} {date}{}, {}\n", labels::show(&label), replaces(&entry), taken(entry.cells())))
 }
 
@@ -117,8 +119,18 @@ fn replaces(entry: &Entry) -> String {
 /// Removes a label, whatever its value.
 fn remove(file: &Path, label: &OsStr) -> Result<String, Trouble> {
     let label = words::label(label)?;
-    let count = block_file::alter(file, |block| proved::remove(block, &label))?;
+    let count = block_file::alter(file, |block| {
+        proved::remove(block, &label).map_err(|no| Trouble::Told(no, vec![with_room(no, block)]))
+    })?;
     Ok(format!("removed {}, {}\n", labels::show(&label), taken(count)))
+}
+
+/// A no in words; that there is no room with how much there is and what dropping marks would free, in the block that was judged.
+fn with_room(no: No, block: &[u8]) -> String {
+    match no {
+        No::NO_ROOM => format!("{}: {}", no.words(), map::room(block)),
+        _ => no.words(),
+    }
 }
 
 /// How many cells a command took, in words.

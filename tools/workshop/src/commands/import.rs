@@ -1,6 +1,6 @@
 //! The import of a list: all rows are entered in one run, or none of them.
 
-use super::{counted, replaces};
+use super::{counted, replaces, with_room};
 use crate::block_file;
 use crate::dates;
 use crate::entries::{self, Entry};
@@ -48,7 +48,7 @@ fn enter_all(block: &mut [u8], rows: &[Row], list: &Path) -> Result<Done, Troubl
     proved::validate(block)?;
     let mut done = Done::default();
     for row in rows {
-        done.enter(block, row).map_err(|no| Trouble::Told(no, vec![at(list, row.line, &no.words())]))?;
+        done.enter(block, row).map_err(|no| Trouble::Told(no, vec![at(list, row.line, &with_room(no, block))]))?;
     }
     Ok(done)
 }

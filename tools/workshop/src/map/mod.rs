@@ -74,6 +74,11 @@ pub fn fullness(block: &[u8]) -> String {
     text::fullness(&Reached::of(Block(block)))
 }
 
+/// How many cells of a block are free, and how many more would be without each slot in use.
+pub fn room(block: &[u8]) -> String {
+    text::room(&Reached::of(Block(block)))
+}
+
 /// The bytes of a block that the library has found sound: only such a block is mapped.
 fn sound(file: &Path) -> Result<Vec<u8>, Trouble> {
     let bytes = block_file::read(file)?;

@@ -35,6 +35,19 @@ pub fn fullness(reached: &Reached) -> String {
     format!("cells: {} usable, {} used, {} free", reached.block.usable(), reached.used(), reached.free())
 }
 
+/// How many cells are free, and what dropping each slot in use would free.
+pub fn room(reached: &Reached) -> String {
+    let free = reached.free();
+    let are = if free == 1 { "is" } else { "are" };
+    let slots = tables(reached).into_iter().skip(1).map(|(name, _, alone)| format!("{name} frees {alone}"));
+    let slots: Vec<String> = slots.collect();
+    if slots.is_empty() {
+        format!("{free} {are} free")
+    } else {
+        format!("{free} {are} free; dropping {}", slots.join(", "))
+    }
+}
+
 /// The whole map.
 pub fn map(reached: &Reached) -> String {
     [summary(reached).join("\n") + "\n", LEGEND.to_string(), grid(reached), kinds(reached), holders(reached)].join("\n")
