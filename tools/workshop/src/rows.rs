@@ -124,9 +124,9 @@ fn read_label(field: &[u8]) -> Result<Vec<u8>, Misread> {
     let refused = |message: &str| Err(Misread(message.to_string()));
     match std::str::from_utf8(field) {
         Err(_) => refused("the label is no UTF-8 text: save the list as UTF-8, or write the label as hex:43484131"),
-        Ok(text) if !is_seen_whole(text) => refused(
-            "the label has a character that cannot be seen, or a space at an end: write it as hex:...",
-        ),
+        Ok(text) if !is_seen_whole(text) => {
+            refused("the label has a character that cannot be seen, or a space at an end: write it as hex:...")
+        }
         Ok(_) => match labels::read(field)? {
             label if proved::is_label(&label) => Ok(label),
             _ => refused(No::BAD_LABEL.meaning()),

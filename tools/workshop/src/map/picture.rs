@@ -3,7 +3,7 @@
 use super::contents;
 use super::reached::{Holding, Reached, What};
 use super::reading::{Kind, Reading};
-use super::text;
+use super::text::{self, Table};
 use std::path::Path;
 
 /// The space around everything, in which the numbers of the rows stand too.
@@ -170,8 +170,9 @@ fn legend_rows(reached: &Reached) -> Vec<Vec<(Option<What>, String)>> {
     let holders = ["present only", "present and slots", "slots only"];
     let holders =
         Holding::ALL.into_iter().zip(holders).map(|(holding, words)| (used(Kind::Chain, holding), words.to_string()));
-    let tables =
-        text::tables(reached).into_iter().map(|(name, cells, alone)| (None, format!("{name}: {cells} ({alone})")));
+    let tables = text::tables(reached)
+        .into_iter()
+        .map(|Table { name, cells, alone }| (None, format!("{name}: {cells} ({alone})")));
     let mut rows: Vec<_> = kinds.chunks(LEGEND_COLUMNS).map(<[_]>::to_vec).collect();
     rows.extend([others, holders.collect()]);
     rows.extend([
