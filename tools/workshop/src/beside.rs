@@ -44,6 +44,9 @@ pub fn write(path: &Path, block: &[u8], old: Option<&File>) -> io::Result<()> {
 pub fn clear(path: &Path) -> io::Result<PathBuf> {
     let beside = name(path)?;
     match fs::remove_file(&beside) {
+        Err(reason) if reason.kind() == io::ErrorKind::InvalidFilename => {
+            Err(explained("its name is too long, since a change writes .NAME.new beside it", &reason))
+        }
         Err(reason) if reason.kind() != io::ErrorKind::NotFound => {
             Err(explained("what stands beside it as .NAME.new cannot be removed", &reason))
         }

@@ -4,6 +4,7 @@ use crate::beside;
 use crate::entries::Entry;
 use crate::proved::{Store, CELL_SIZE, MOST_CELLS_LENT};
 use crate::trouble::Trouble;
+use crate::visible::file_name;
 use std::fs::{self, File, Metadata, OpenOptions};
 use std::io::{self, Read, Seek, SeekFrom, Write};
 use std::path::{Path, PathBuf};
@@ -45,7 +46,7 @@ pub fn create(path: &Path, block: &[u8]) -> Result<(), Trouble> {
     let failed = |reason| unwritten(path, &reason);
     let folder = lock_folder(path).map_err(failed)?;
     if fs::symlink_metadata(path).is_ok() {
-        return Err(Trouble::File(format!("{} is there already and was left as it is", path.display())));
+        return Err(Trouble::File(format!("{} is there already and was left as it is", file_name(path))));
     }
     beside::write(path, block, None).and_then(|()| folder.sync_all()).map_err(failed)
 }
@@ -128,10 +129,10 @@ fn lock_folder(path: &Path) -> io::Result<File> {
 
 /// Says which file could not be read, and why.
 pub fn unread(path: &Path, reason: &io::Error) -> Trouble {
-    Trouble::File(format!("cannot read {}: {reason}", path.display()))
+    Trouble::File(format!("cannot read {}: {reason}", file_name(path)))
 }
 
 /// Says which file could not be written, and why.
 fn unwritten(path: &Path, reason: &io::Error) -> Trouble {
-    Trouble::File(format!("cannot write {}: {reason}", path.display()))
+    Trouble::File(format!("cannot write {}: {reason}", file_name(path)))
 }

@@ -92,8 +92,8 @@ fn misused(name: &str) -> Trouble {
 
 /// Makes a fresh block in a new file; a count that is too large is lent as one that is just too large.
 fn new(file: &Path, cells: &OsStr, edition: Option<&OsString>) -> Result<String, Trouble> {
-    let cells = words::whole_number(cells, "count of cells")?;
-    let edition = edition.map_or(Ok(USUAL_EDITION), |given| words::whole_number(given, "edition"))?;
+    let cells = words::whole_number(cells, "count of cells", 16)?;
+    let edition = edition.map_or(Ok(USUAL_EDITION), |given| words::whole_number(given, "edition", 2))?;
     let lent = usize::try_from(cells).unwrap_or(MOST_CELLS_LENT).min(MOST_CELLS_LENT);
     let mut block = vec![0; lent * CELL_SIZE];
     proved::format(&mut block, edition)?;
@@ -163,7 +163,7 @@ fn next(file: &Path, label: &OsStr) -> Result<String, Trouble> {
 
 /// Marks, goes back or drops: one call on a slot, and the file is written only when it is done.
 fn slot_change(file: &Path, slot: &OsStr, call: SlotCall, done: &str) -> Result<String, Trouble> {
-    let slot = words::whole_number(slot, "slot")?;
+    let slot = words::whole_number(slot, "slot", 2)?;
     block_file::alter(file, |block| call(block, slot))?;
     Ok(format!("{done} {slot}\n"))
 }

@@ -1,5 +1,7 @@
 //! Characters that can be seen, and so be typed again by who sees them.
 
+use std::path::Path;
+
 /// Characters that count as letters or signs and yet show nothing.
 const BLANKS: [char; 5] = ['\u{115F}', '\u{1160}', '\u{2800}', '\u{3164}', '\u{FFA0}'];
 
@@ -26,6 +28,15 @@ pub fn quoted(text: &str) -> String {
         shown += &part;
     }
     format!("'{shown}'")
+}
+
+/// The name of a file, for messages: as it is where all of it can be seen, else in quotes as above, but whole.
+pub fn file_name(path: &Path) -> String {
+    let name = path.to_string_lossy();
+    if name.chars().all(is_visible) {
+        return name.into_owned();
+    }
+    format!("'{}'", name.chars().map(shown_in_message).collect::<String>())
 }
 
 /// A character of a text in a message.

@@ -9,6 +9,7 @@ use crate::map;
 use crate::proved;
 use crate::rows::{self, Row};
 use crate::trouble::{No, Trouble};
+use crate::visible::file_name;
 use std::fs::File;
 use std::io::{self, Read};
 use std::path::Path;
@@ -39,7 +40,7 @@ fn read_list(list: &Path) -> io::Result<Vec<u8>> {
 
 /// A message about a line of a list.
 fn at(list: &Path, line: usize, message: &str) -> String {
-    format!("{}:{line}: {message}", list.display())
+    format!("{}:{line}: {message}", file_name(list))
 }
 
 /// Enters rows one after the other. The first that has no room ends it: whether those behind it would have had room cannot be

@@ -40,7 +40,7 @@ fn columns(records: &[Record]) -> String {
 
 /// Prints all labels in pages of a size: what each page tells of itself, and below it its labels with their values.
 pub fn print(file: &Path, size: &OsStr) -> Result<String, Trouble> {
-    let size = words::whole_number(size, "size of a page")?;
+    let size = words::whole_number(size, "size of a page", 4_096)?;
     let block = block_file::read(file)?;
     let mut printed = String::new();
     for (place, page) in pages::all(&block, size)?.iter().enumerate() {
