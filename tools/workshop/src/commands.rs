@@ -83,8 +83,7 @@ pub fn perform(arguments: &[OsString]) -> Result<String, Trouble> {
 
 /// Says how a command is given, or that there is no such command.
 fn misused(name: &str) -> Trouble {
-    let start = format!("workshop {name} ");
-    match USAGE.lines().find(|line| line.starts_with(&start)) {
+    match help::usage_lines(name).lines().next() {
         Some(line) => Trouble::Usage(format!("'{name}' is given so: {}", line.split("   ").next().unwrap_or(line))),
         None => Trouble::Usage(format!("there is no command {}; see: workshop help", quoted(name))),
     }

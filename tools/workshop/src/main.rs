@@ -3,6 +3,7 @@
 mod access_list;
 mod beside;
 mod block_file;
+mod columns;
 mod commands;
 mod csv;
 mod dates;

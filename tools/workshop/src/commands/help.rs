@@ -129,7 +129,7 @@ pub fn show(command: &OsStr) -> Result<String, Trouble> {
 }
 
 /// The lines of the usage that are about a command: the one that begins with it and those that are set in below.
-fn usage_lines(name: &str) -> String {
+pub fn usage_lines(name: &str) -> String {
     let start = format!("workshop {name} ");
     let from_it = USAGE.lines().skip_while(|line| !line.starts_with(&start));
     let its_own = from_it.enumerate().take_while(|(place, line)| *place == 0 || line.starts_with(' '));
