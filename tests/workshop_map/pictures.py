@@ -65,15 +65,16 @@ def check_legend(root):
     """The legend has each kind, each holder and the ticks; each kind has a fill of its own, and holders look different."""
     keys = [group for group in root.iter(f"{SVG}g") if group.get("class").split()[0] == "key"]
     names = [tuple(group.get("class").split()[1:]) for group in keys]
-    for wanted in [(kind, "present") for kind in KINDS] + [("C", holder) for holder in HOLDERS] + [("free",), ("fixed",)]:
-        assert wanted in names, f"the legend has no {wanted}"
-    assert [1, 2, 3] in [ticked(group) for group in keys], "the legend has no ticks"
+    others, holders = [("free",), ("fixed",), ("fixed",)], [("C", holder) for holder in HOLDERS]
+    wanted = [(kind, "present") for kind in KINDS] + others + holders + [("C", "both")]
+    assert names == wanted, f"the legend has {names} and not {wanted}"
+    assert ticked(keys[-1]) == [1, 2, 3], "the legend has no ticks"
     style = dict(re.findall(r"^(\S+) rect\{(.*)\}$", root.find(f"{SVG}style").text, re.MULTILINE))
     fills = [re.search(r"fill:([^;]*)", style[f".{name}"]).group(1) for name in [*KINDS, "free", "fixed"]]
     assert len(set(fills)) == len(fills), f"two kinds have the same fill: {fills}"
     round_corners = {names[place][-1]: group.find(f"{SVG}rect").get("rx") for place, group in enumerate(keys)}
     looks = [(style.get(f".{holder}"), round_corners[holder] != "0") for holder in HOLDERS]
-    assert len({look[0] for look in looks}) == len({look for look in looks}) == 3, f"two holders look the same: {looks}"
+    assert len({look[0] for look in looks}) == len(set(looks)) == 3, f"two holders look the same: {looks}"
 
 
 def check_picture(file):

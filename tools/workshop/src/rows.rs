@@ -43,8 +43,8 @@ fn label_field(label: &[u8]) -> String {
     }
 }
 
-/// Reads all rows of a list, or tells all that is wrong with it. Where the first row is wrong it is no such list, and its rows would
-/// only be wrong in the same way, one by one.
+/// Reads all rows of a list, or tells all that is wrong with it. Where the first row is wrong it is no such list, and its rows
+/// would only be wrong in the same way, one by one.
 pub fn read(bytes: &[u8]) -> Result<Vec<Row>, Vec<Fault>> {
     let mut rows = csv::read(bytes).into_iter();
     let mut list = List::default();

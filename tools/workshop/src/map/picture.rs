@@ -1,5 +1,5 @@
-//! The map of a block as a picture: a square for each cell, with its letter and a tick for each slot that holds it, and its contents
-//! where the mouse points at it.
+//! The map of a block as a picture: a square for each cell, with its letter and a tick for each slot that holds it, and its
+//! contents where the mouse points at it.
 
 use super::block::SLOTS;
 use super::contents;
