@@ -1,4 +1,4 @@
-"""The picture of a block: well-formed, with one square for each cell, and each square as the signs of the map say."""
+"""The picture of a block: well-formed, with one square for each cell, each square as the signs of the map say, and a legend."""
 
 import os
 import re
@@ -6,8 +6,11 @@ import shutil
 import sys
 import xml.etree.ElementTree as ElementTree
 
+import retold
 from tool import ask
 
+KINDS = "CSHMEPQR"
+HOLDERS = ["present", "both", "slots"]
 SVG = "{http://www.w3.org/2000/svg}"
 
 # A name with every sign that means something in the file of a picture, and one that may not stand in it at all.
@@ -42,10 +45,42 @@ def check_square(cell, group, sign, side):
         assert classes[-1] == wanted, f"cell {cell} is drawn as held by {classes[-1]}: {title}"
 
 
+def ticked(group):
+    """The slots that a square has ticks for, each at its place from left to right."""
+    ticks = [tick for tick in group.findall(f"{SVG}path") if "tick" in tick.get("class").split()]
+    places = [float(re.match(r"M(\S+) ", tick.get("d")).group(1)) for tick in ticks]
+    assert places == sorted(set(places)), "ticks lie over each other or in the wrong order"
+    return [int(tick.get("class").split()[1].removeprefix("slot")) for tick in ticks]
+
+
+def check_ticks(groups, text):
+    """The ticks of each square are the slots that the lines of the map say hold its cell."""
+    held = retold.cell_lines(text)[0]
+    for cell, group in enumerate(groups):
+        slots = [slot for slot in (1, 2, 3) if (f"slot {slot}", cell) in held]
+        assert ticked(group) == slots, f"cell {cell} has ticks for {ticked(group)} and is held by {slots}"
+
+
+def check_legend(root):
+    """The legend has each kind, each holder and the ticks; each kind has a fill of its own, and holders look different."""
+    keys = [group for group in root.iter(f"{SVG}g") if group.get("class").split()[0] == "key"]
+    names = [tuple(group.get("class").split()[1:]) for group in keys]
+    others, holders = [("free",), ("fixed",), ("fixed",)], [("C", holder) for holder in HOLDERS]
+    wanted = [(kind, "present") for kind in KINDS] + others + holders + [("C", "both")]
+    assert names == wanted, f"the legend has {names} and not {wanted}"
+    assert ticked(keys[-1]) == [1, 2, 3], "the legend has no ticks"
+    style = dict(re.findall(r"^(\S+) rect\{(.*)\}$", root.find(f"{SVG}style").text, re.MULTILINE))
+    fills = [re.search(r"fill:([^;]*)", style[f".{name}"]).group(1) for name in [*KINDS, "free", "fixed"]]
+    assert len(set(fills)) == len(fills), f"two kinds have the same fill: {fills}"
+    round_corners = {names[place][-1]: group.find(f"{SVG}rect").get("rx") for place, group in enumerate(keys)}
+    looks = [(style.get(f".{holder}"), round_corners[holder] != "0") for holder in HOLDERS]
+    assert len({look[0] for look in looks}) == len(set(looks)) == 3, f"two holders look the same: {looks}"
+
+
 def check_picture(file):
     """The picture of the block of a file against its map."""
     picture = file + ".svg"
-    text = ask("map", file, "--svg", picture)[1]
+    text = ask("map", file, "--cells", "--svg", picture)[1]
     root = ElementTree.parse(picture).getroot()
     groups = [group for group in root.iter(f"{SVG}g") if group.get("class").split()[0] == "cell"]
     shown = signs(text)
@@ -55,6 +90,8 @@ def check_picture(file):
     assert len(places) == len(groups), f"squares of {file} lie over each other"
     for cell, (group, sign) in enumerate(zip(groups, shown)):
         check_square(cell, group, sign, side)
+    check_ticks(groups, text)
+    check_legend(root)
     assert root.find(f"{SVG}title").text == os.path.basename(file).replace("\x01", "\ufffd")
     with open(picture, encoding="utf-8") as written:
         assert "href" not in written.read(), f"{picture} rests on something outside"

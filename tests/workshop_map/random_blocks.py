@@ -88,12 +88,24 @@ class Blocks:
         self.changes += 1
         if status == NO_ROOM:
             self.refused += 1
+            self.room_told(free, printed)
             return False
         assert taken(printed) == needed, f"{command} {words} takes {taken(printed)} cells here and {needed} in a larger block"
         shutil.move(TRIAL, LARGE)
         if self.random.random() < 0.4:
             self.newly_reached(needed, command, *words)
         return True
+
+    def room_told(self, free, printed):
+        """A no for room tells the cells that check says are free, and for each slot how many more they are when it is dropped."""
+        freed = []
+        for slot in sorted(self.slots):
+            shutil.copy(SMALL, TRIAL)
+            ask("drop", TRIAL, slot)
+            freed.append(f"slot {slot} frees {checked(TRIAL)[1] - free}")
+        dropping = f"; dropping {', '.join(freed)}" if freed else ""
+        told = f": {free} {'is' if free == 1 else 'are'} free{dropping}\n"
+        assert printed.endswith(told), f"the no is {printed} and not {told}"
 
     @staticmethod
     def newly_reached(needed, command, *words):

@@ -8,11 +8,11 @@ TOOL = os.environ["WORKSHOP"]
 
 
 def ask(*words, allowed=()):
-    """Runs a command and gives its exit status and what it prints; a no that is not expected breaks the test off."""
+    """Runs a command and gives its exit status and what it prints, or the no; one that is not expected breaks the test off."""
     run = subprocess.run([TOOL, *words], capture_output=True, text=True)
     if run.returncode not in (0, *allowed):
         raise AssertionError(f"{words} ended with {run.returncode}: {run.stdout}{run.stderr}")
-    return run.returncode, run.stdout
+    return run.returncode, run.stderr if run.returncode else run.stdout
 
 
 def checked(file):

@@ -1,8 +1,9 @@
 //! The one other file that a change writes: the block anew, beside its file and under a fixed name, until it takes its place.
 //! Who calls these functions holds the folder, so what already stands at that name was left by a run that was killed.
 
+use crate::access_list;
 use std::ffi::OsString;
-use std::fs::{self, File, Metadata, OpenOptions};
+use std::fs::{self, File, OpenOptions};
 use std::io::{self, Write};
 use std::os::unix::fs::{fchown, MetadataExt, OpenOptionsExt};
 use std::path::{Path, PathBuf};
@@ -17,8 +18,8 @@ const USUAL_RIGHTS: u32 = 0o666;
 const OWN_RIGHTS: u32 = 0o600;
 
 /// Writes a block beside its file and renames it, so that a power loss leaves either the old or the new one. It gets the owner,
-/// group and rights of the file that it replaces, or nothing is done.
-pub fn write(path: &Path, block: &[u8], old: Option<&Metadata>) -> io::Result<()> {
+/// group, rights and access list of the file that it replaces, or nothing is done.
+pub fn write(path: &Path, block: &[u8], old: Option<&File>) -> io::Result<()> {
     let beside = clear(path)?;
     let rights = if old.is_some() { OWN_RIGHTS } else { USUAL_RIGHTS };
     let mut file = OpenOptions::new()
@@ -43,6 +44,9 @@ pub fn write(path: &Path, block: &[u8], old: Option<&Metadata>) -> io::Result<()
 pub fn clear(path: &Path) -> io::Result<PathBuf> {
     let beside = name(path)?;
     match fs::remove_file(&beside) {
+        Err(reason) if reason.kind() == io::ErrorKind::InvalidFilename => {
+            Err(explained("its name is too long, since a change writes .NAME.new beside it", &reason))
+        }
         Err(reason) if reason.kind() != io::ErrorKind::NotFound => {
             Err(explained("what stands beside it as .NAME.new cannot be removed", &reason))
         }
@@ -50,14 +54,16 @@ pub fn clear(path: &Path) -> io::Result<PathBuf> {
     }
 }
 
-/// Gives a new file the owner and group of the old one, and then its rights, since a change of owner may cost some.
-fn take_over(file: &File, old: &Metadata) -> io::Result<()> {
-    let new = file.metadata()?;
-    if (new.uid(), new.gid()) != (old.uid(), old.gid()) {
-        fchown(file, Some(old.uid()), Some(old.gid()))
+/// Gives a new file the owner and group of the old one, and then its rights, since a change of owner may cost some. The access
+/// list comes before the rights: without it, what it allows at most would for a moment be the rights of the group.
+fn take_over(file: &File, old: &File) -> io::Result<()> {
+    let (known, new) = (old.metadata()?, file.metadata()?);
+    if (new.uid(), new.gid()) != (known.uid(), known.gid()) {
+        fchown(file, Some(known.uid()), Some(known.gid()))
             .map_err(|reason| explained("its owner and group cannot be kept", &reason))?;
     }
-    file.set_permissions(old.permissions())
+    access_list::take_over(file, old).map_err(|reason| explained("its access list cannot be kept", &reason))?;
+    file.set_permissions(known.permissions())
 }
 
 /// The name beside a file. A file that has such a name itself is not taken: a change of the other file would remove it.

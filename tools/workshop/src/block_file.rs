@@ -3,14 +3,29 @@
 use crate::beside;
 use crate::entries::Entry;
 use crate::proved::{Store, CELL_SIZE, MOST_CELLS_LENT};
-use crate::trouble::{No, Trouble};
-use std::fs::{self, File, OpenOptions};
+use crate::trouble::Trouble;
+use crate::visible::file_name;
+use std::fs::{self, File, Metadata, OpenOptions};
 use std::io::{self, Read, Seek, SeekFrom, Write};
 use std::path::{Path, PathBuf};
 
 /// Reads the block of a file, while no run of this tool stores an entry in it.
 pub fn read(path: &Path) -> Result<Vec<u8>, Trouble> {
-    File::open(path).and_then(|file| read_unstored(&file)).map_err(|reason| unread(path, &reason))
+    regular(path)
+        .and_then(|_| File::open(path))
+        .and_then(|file| read_unstored(&file))
+        .map_err(|reason| unread(path, &reason))
+}
+
+/// What there is to know of a file before it is opened. Anything else than a regular file is refused: to open a pipe could wait
+/// for ever, and a device is no place for a block.
+fn regular(path: &Path) -> io::Result<Metadata> {
+    let found = fs::metadata(path)?;
+    if found.is_file() {
+        Ok(found)
+    } else {
+        Err(io::Error::new(io::ErrorKind::InvalidInput, "it is no regular file"))
+    }
 }
 
 /// Reads the block of a file that is open, while no run of this tool stores an entry in it.
@@ -31,20 +46,18 @@ pub fn create(path: &Path, block: &[u8]) -> Result<(), Trouble> {
     let failed = |reason| unwritten(path, &reason);
     let folder = lock_folder(path).map_err(failed)?;
     if fs::symlink_metadata(path).is_ok() {
-        return Err(Trouble::File(format!("{} is there already and was left as it is", path.display())));
+        return Err(Trouble::File(format!("{} is there already and was left as it is", file_name(path))));
     }
     beside::write(path, block, None).and_then(|()| folder.sync_all()).map_err(failed)
 }
 
-/// Reads, alters and replaces the block of a file, which keeps its owner and its access rights; a link is followed to the file
+/// Reads, alters and replaces the block of a file, which keeps its owner and who may use it; a link is followed to the file
 /// itself. No other run of this tool alters the file in between, so that neither loses what the other did.
 pub fn alter<T, E: Into<Trouble>>(path: &Path, change: impl FnOnce(&mut [u8]) -> Result<T, E>) -> Result<T, Trouble> {
     let held = hold(path)?;
     let mut block = read_unstored(&held.file).map_err(|reason| unread(path, &reason))?;
     let done = change(&mut block).map_err(E::into)?;
-    held.file
-        .metadata()
-        .and_then(|old| beside::write(&held.place, &block, Some(&old)))
+    beside::write(&held.place, &block, Some(&held.file))
         .and_then(|()| held.folder.sync_all())
         .map_err(|reason| unwritten(path, &reason))?;
     Ok(done)
@@ -52,7 +65,7 @@ pub fn alter<T, E: Into<Trouble>>(path: &Path, change: impl FnOnce(&mut [u8]) ->
 
 /// Asks for an entry into a file's block, makes its stores in the file itself and gives it to be told. Links and other runs are
 /// met as above, and runs that only read are kept off too.
-pub fn store(path: &Path, plan: impl FnOnce(&[u8]) -> Result<Entry, No>) -> Result<Entry, Trouble> {
+pub fn store(path: &Path, plan: impl FnOnce(&[u8]) -> Result<Entry, Trouble>) -> Result<Entry, Trouble> {
     let held = hold(path)?;
     let failed = |reason| unwritten(path, &reason);
     held.file.lock().map_err(failed)?;
@@ -80,7 +93,7 @@ fn hold(path: &Path) -> Result<Held, Trouble> {
 /// Opens a file for reading and writing. One that nobody has the right to write is write-protected, and that is asked first:
 /// an administrator could open it all the same.
 fn open_writable(place: &Path) -> io::Result<File> {
-    if fs::metadata(place)?.permissions().readonly() {
+    if regular(place)?.permissions().readonly() {
         return Err(io::Error::new(io::ErrorKind::PermissionDenied, "it is write-protected"));
     }
     OpenOptions::new().read(true).write(true).open(place)
@@ -116,10 +129,10 @@ fn lock_folder(path: &Path) -> io::Result<File> {
 
 /// Says which file could not be read, and why.
 pub fn unread(path: &Path, reason: &io::Error) -> Trouble {
-    Trouble::File(format!("cannot read {}: {reason}", path.display()))
+    Trouble::File(format!("cannot read {}: {reason}", file_name(path)))
 }
 
 /// Says which file could not be written, and why.
 fn unwritten(path: &Path, reason: &io::Error) -> Trouble {
-    Trouble::File(format!("cannot write {}: {reason}", path.display()))
+    Trouble::File(format!("cannot write {}: {reason}", file_name(path)))
 }

@@ -43,7 +43,8 @@ workshop help [COMMAND]          show this, or one command with an example
 workshop version                 show the version
 A DATE is written 2025-03-07. A LABEL is text, or hex:43484131.
 Exit status: 0 done, 1 to 15 the number of the no, 64 the command was not understood,
-65 a list has bad rows, 74 trouble with a file, also where it is write-protected.
+65 a list has bad rows, 74 trouble with a file, also where it is write-protected
+or where only printing failed, which then says that the command was carried out.
 ";
 
 /// What the commands that alter a slot have in common.
@@ -82,8 +83,7 @@ pub fn perform(arguments: &[OsString]) -> Result<String, Trouble> {
 
 /// Says how a command is given, or that there is no such command.
 fn misused(name: &str) -> Trouble {
-    let start = format!("workshop {name} ");
-    match USAGE.lines().find(|line| line.starts_with(&start)) {
+    match help::usage_lines(name).lines().next() {
         Some(line) => Trouble::Usage(format!("'{name}' is given so: {}", line.split("   ").next().unwrap_or(line))),
         None => Trouble::Usage(format!("there is no command {}; see: workshop help", quoted(name))),
     }
@@ -91,8 +91,8 @@ fn misused(name: &str) -> Trouble {
 
 /// Makes a fresh block in a new file; a count that is too large is lent as one that is just too large.
 fn new(file: &Path, cells: &OsStr, edition: Option<&OsString>) -> Result<String, Trouble> {
-    let cells = words::whole_number(cells, "count of cells")?;
-    let edition = edition.map_or(Ok(USUAL_EDITION), |given| words::whole_number(given, "edition"))?;
+    let cells = words::whole_number(cells, "count of cells", 16)?;
+    let edition = edition.map_or(Ok(USUAL_EDITION), |given| words::whole_number(given, "edition", 2))?;
     let lent = usize::try_from(cells).unwrap_or(MOST_CELLS_LENT).min(MOST_CELLS_LENT);
     let mut block = vec![0; lent * CELL_SIZE];
     proved::format(&mut block, edition)?;
@@ -104,16 +104,32 @@ fn new(file: &Path, cells: &OsStr, edition: Option<&OsString>) -> Result<String,
 fn enter(file: &Path, label: &OsStr, date: &OsStr) -> Result<String, Trouble> {
     let label = words::label(label)?;
     let date = dates::read_date(words::text(date)?)?;
-    let entry = block_file::store(file, |block| Entry::of(block, &label, dates::pack(date)))?;
-    let replaced = entry.replaced.map(|value| format!(", replaces {}", dates::show_value(value))).unwrap_or_default();
-    Ok(format!("entered {} {date}{replaced}, {}\n", labels::show(&label), taken(entry.cells())))
+    let entry = block_file::store(file, |block| {
+        Entry::of(block, &label, dates::pack(date)).map_err(|no| Trouble::Told(no, vec![with_room(no, block)]))
+    })?;
+    Ok(format!("entered {} {date}{}, {}\n", labels::show(&label), replaces(&entry), taken(entry.cells())))
+}
+
+/// The value that an entry replaces, in words behind the new one.
+fn replaces(entry: &Entry) -> String {
+    entry.replaced.map(|value| format!(", replaces {}", dates::show_value(value))).unwrap_or_default()
 }
 
 /// Removes a label, whatever its value.
 fn remove(file: &Path, label: &OsStr) -> Result<String, Trouble> {
     let label = words::label(label)?;
-    let count = block_file::alter(file, |block| proved::remove(block, &label))?;
+    let count = block_file::alter(file, |block| {
+        proved::remove(block, &label).map_err(|no| Trouble::Told(no, vec![with_room(no, block)]))
+    })?;
     Ok(format!("removed {}, {}\n", labels::show(&label), taken(count)))
+}
+
+/// A no in words; that there is no room with how much there is and what dropping marks would free, in the block that was judged.
+fn with_room(no: No, block: &[u8]) -> String {
+    match no {
+        No::NO_ROOM => format!("{}: {}", no.words(), map::room(block)),
+        _ => no.words(),
+    }
 }
 
 /// How many cells a command took, in words.
@@ -146,7 +162,7 @@ fn next(file: &Path, label: &OsStr) -> Result<String, Trouble> {
 
 /// Marks, goes back or drops: one call on a slot, and the file is written only when it is done.
 fn slot_change(file: &Path, slot: &OsStr, call: SlotCall, done: &str) -> Result<String, Trouble> {
-    let slot = words::whole_number(slot, "slot")?;
+    let slot = words::whole_number(slot, "slot", 2)?;
     block_file::alter(file, |block| call(block, slot))?;
     Ok(format!("{done} {slot}\n"))
 }

@@ -16,7 +16,7 @@ type Front<'a, T> = Result<(T, &'a [u8]), &'static str>;
 
 /// Reads all rows. Behind one that is malformed reading goes on at the next line, so that each of several is found.
 pub fn read(bytes: &[u8]) -> Vec<Row> {
-    let mut rest = bytes.strip_prefix(BYTE_ORDER_MARK).unwrap_or(bytes);
+    let mut rest = unmarked(bytes);
     let mut rows = Vec::new();
     let mut line = 1;
     while !rest.is_empty() {
@@ -30,6 +30,17 @@ pub fn read(bytes: &[u8]) -> Vec<Row> {
         rest = past;
     }
     rows
+}
+
+/// The first line without its end, to be shown where it is not the row that was expected.
+pub fn first_line(bytes: &[u8]) -> &[u8] {
+    let line = unmarked(bytes).split(|byte| *byte == b'\n').next().unwrap_or(b"");
+    line.strip_suffix(b"\r").unwrap_or(line)
+}
+
+/// The bytes behind the mark that some programs put first.
+fn unmarked(bytes: &[u8]) -> &[u8] {
+    bytes.strip_prefix(BYTE_ORDER_MARK).unwrap_or(bytes)
 }
 
 /// The bytes past the first line.

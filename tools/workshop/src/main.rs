@@ -1,7 +1,9 @@
 //! The workshop's command line for a cartridge register in a file, over the proved library.
 
+mod access_list;
 mod beside;
 mod block_file;
+mod columns;
 mod commands;
 mod csv;
 mod dates;
@@ -39,11 +41,14 @@ fn tell(trouble: &Trouble) {
     let _ = io::stderr().write_all(trouble.lines().as_bytes());
 }
 
-/// Prints lines; a closed output is a trouble of its own and no reason to break off.
+/// Prints what a command gives. A reader that has seen enough is no trouble; any other failure is one, but comes too late to undo
+/// the command.
 fn print(lines: &str) -> Result<(), Trouble> {
     let mut output = io::stdout().lock();
-    output
-        .write_all(lines.as_bytes())
-        .and_then(|()| output.flush())
-        .map_err(|reason| Trouble::File(format!("cannot print: {reason}")))
+    match output.write_all(lines.as_bytes()).and_then(|()| output.flush()) {
+        Err(reason) if reason.kind() != io::ErrorKind::BrokenPipe => {
+            Err(Trouble::File(format!("cannot print: {reason}; the command was carried out")))
+        }
+        _ => Ok(()),
+    }
 }

@@ -278,3 +278,11 @@ pub fn is_date(date: Date) -> bool {
         .and_then(|()| verdict(&block, b"A", date, Reading::Celsius(0.0), sheet));
     answer == Err(No::MISSING)
 }
+
+/// Asks the library whether these bytes can be a label, so that their rule too stands only in proved code: a fresh block has no
+/// label, so that a look-up is 11 (no such label) for one that could be held, and the lower 3 for anything else.
+pub fn is_label(label: &[u8]) -> bool {
+    let mut block = [0; 4 * CELL_SIZE];
+    let answer = format(&mut block, USUAL_EDITION).and_then(|()| get(&block, label));
+    answer == Err(No::MISSING)
+}

@@ -4,7 +4,9 @@ use crate::csv;
 use crate::dates::{self, Date};
 use crate::labels;
 use crate::pages::Record;
-use crate::trouble::Misread;
+use crate::proved;
+use crate::trouble::{Misread, No};
+use crate::visible::{is_visible, quoted};
 use std::collections::HashMap;
 
 /// The columns of a list, as its first row has them.
@@ -36,19 +38,22 @@ pub fn write(records: &[Record]) -> String {
 /// A label as a field: its text, or its digits where a person could not read the text or a spreadsheet would reckon with it.
 fn label_field(label: &[u8]) -> String {
     match labels::text(label) {
-        Some(text) if !text.starts_with(FORMULA_STARTS) => csv::field(text).into_owned(),
+        Some(text) if !text.starts_with(FORMULA_STARTS) && is_seen_whole(text) => csv::field(text).into_owned(),
         _ => labels::marked_digits(label),
     }
 }
 
-/// Reads all rows of a list, or tells all that is wrong with it.
+/// Reads all rows of a list, or tells all that is wrong with it. Where the first row is wrong it is no such list, and its rows
+/// would only be wrong in the same way, one by one.
 pub fn read(bytes: &[u8]) -> Result<Vec<Row>, Vec<Fault>> {
     let mut rows = csv::read(bytes).into_iter();
     let mut list = List::default();
-    if !rows.next().is_some_and(|row| is_header(&row)) {
-        list.tell(1, format!("the first row has to be: {}", COLUMNS.join(",")));
+    if rows.next().is_some_and(|row| is_header(&row)) {
+        rows.for_each(|row| list.add(row));
+    } else {
+        let found = quoted(&String::from_utf8_lossy(csv::first_line(bytes)));
+        list.tell(1, format!("the first row is {found} and has to be: {}", COLUMNS.join(",")));
     }
-    rows.for_each(|row| list.add(row));
     if list.faults.is_empty() {
         Ok(list.rows)
     } else {
@@ -113,11 +118,23 @@ fn miscounted(fields: &[Vec<u8>]) -> String {
     format!("the row has {found} and not two, a label and a date with a comma between")
 }
 
-/// Reads the label of a row as one of a command is read, but as text alone: bytes of another encoding would be another label.
+/// Reads the label of a row as one of a command is read, but as text that can be seen whole: bytes of another encoding, and what
+/// only a scanner or a spreadsheet put there, would make it another label.
 fn read_label(field: &[u8]) -> Result<Vec<u8>, Misread> {
-    if std::str::from_utf8(field).is_err() {
-        let message = "the label is no UTF-8 text: save the list as UTF-8, or write the label as hex:43484131";
-        return Err(Misread(message.to_string()));
+    let refused = |message: &str| Err(Misread(message.to_string()));
+    match std::str::from_utf8(field) {
+        Err(_) => refused("the label is no UTF-8 text: save the list as UTF-8, or write the label as hex:43484131"),
+        Ok(text) if !is_seen_whole(text) => {
+            refused("the label has a character that cannot be seen, or a space at an end: write it as hex:...")
+        }
+        Ok(_) => match labels::read(field)? {
+            label if proved::is_label(&label) => Ok(label),
+            _ => refused(No::BAD_LABEL.meaning()),
+        },
     }
-    labels::read(field)
+}
+
+/// Whether who sees a text sees all of it: no character that cannot be seen, and no space at an end.
+fn is_seen_whole(text: &str) -> bool {
+    text.chars().all(is_visible) && !text.starts_with(' ') && !text.ends_with(' ')
 }

@@ -17,7 +17,7 @@ const MEANINGS: [&str; 15] = [
     "the value is over 2,147,483,647",
     "the slot is not 1, 2 or 3",
     "the slot holds no mark",
-    "there are not enough free cells for this; dropping a mark may free some",
+    "there are not enough free cells for this",
     "the sheet is wrong: a gate limit is outside -100 to 400, low is above high, the section is outside 0.5 to 100 \
      or the length outside 1 to 10,000",
     "the reading is outside -100 to 400 degrees",
@@ -66,6 +66,9 @@ impl No {
     /// The label is empty or too long.
     pub const BAD_LABEL: No = No(3);
 
+    /// There are not enough free cells.
+    pub const NO_ROOM: No = No(7);
+
     /// No such label, or no next one.
     pub const MISSING: No = No(11);
 
@@ -75,11 +78,15 @@ impl No {
     /// Today is after the expiry day.
     pub const EXPIRED: No = No(13);
 
+    /// What it means.
+    pub fn meaning(self) -> &'static str {
+        let place = usize::from(self.0).wrapping_sub(1);
+        MEANINGS.get(place).unwrap_or(&"the library gave an answer that this tool does not know")
+    }
+
     /// The number and its meaning.
     pub fn words(self) -> String {
-        let place = usize::from(self.0).wrapping_sub(1);
-        let meaning = MEANINGS.get(place).unwrap_or(&"the library gave an answer that this tool does not know");
-        format!("no {}: {meaning}", self.0)
+        format!("no {}: {}", self.0, self.meaning())
     }
 }
 

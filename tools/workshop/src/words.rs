@@ -17,14 +17,15 @@ pub fn label(argument: &OsStr) -> Result<Vec<u8>, Misread> {
     labels::read(argument.as_bytes())
 }
 
-/// A whole number such as a slot, an edition or a count of cells; which of them are valid is for the library to say.
-pub fn whole_number(argument: &OsStr, name: &str) -> Result<u32, Misread> {
+/// A whole number such as a slot, an edition or a count of cells, with one of them as an example; which of them are valid is for
+/// the library to say.
+pub fn whole_number(argument: &OsStr, name: &str, example: u32) -> Result<u32, Misread> {
     let given = text(argument)?;
-    let refusal = || Misread(format!("{} is no {name}: write a whole number, as in 2", quoted(given)));
+    let refusal = |why: &str| Misread(format!("{} is no {name}: {why}, as in {example}", quoted(given)));
     if given.is_empty() || !given.bytes().all(|byte| byte.is_ascii_digit()) {
-        return Err(refusal());
+        return Err(refusal("write a whole number"));
     }
-    given.parse().map_err(|_| refusal())
+    given.parse().map_err(|_| refusal("it is too large, write a smaller number"))
 }
 
 /// A number that stands alone, such as a section or a length.

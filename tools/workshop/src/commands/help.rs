@@ -23,7 +23,8 @@ const TOPICS: [Topic; 16] = [
         command: "enter",
         more: "A label that is held already gets the new day, and the old one is told. A label with spaces or other signs that
 a shell would take for something else goes in single quotes: 'batch 7'. A write-protected file is refused, as in
-every command that alters it.",
+every command that alters it. A register that belongs to somebody else can be entered into where its rights allow
+it, but not marked, removed from or imported into where its owner cannot be kept.",
         example: "enter register.block CHA1 2025-03-07",
     },
     Topic {
@@ -34,9 +35,12 @@ every command that alters it.",
     CHA1,2025-03-07
     batch 7,2025-09-30
 
-Every bad row is told with its line, and then none is entered; nor is any where a label is refused or there is no
-room for all. A label that has just that day already is left out and counted as unchanged, so that a list can be
-imported again and takes no cells. As ROWS.csv, /dev/stdin is what another program prints.",
+Every bad row is told with its line, and then none is entered; nor is any where there is no room for all. A label
+with a character that cannot be seen, or with a space at an end, is a bad row unless it is written as hex:43484131,
+since a scanner or a spreadsheet may have put that there. Each day that is replaced is told. A label that has just
+that day already is left out and counted as unchanged, so that a list can be imported again and takes no cells. As
+ROWS.csv, /dev/stdin is what another program prints. A spreadsheet turns 0012 into 12, which is another label: have it
+take the column of labels as text.",
         example: "import register.block cartridges.csv",
     },
     Topic {
@@ -48,8 +52,9 @@ imported again and takes no cells. As ROWS.csv, /dev/stdin is what another progr
         command: "list",
         more: "What is shown of a label can be given to a command again. With --csv it is a list that import reads; there a label
 is written by its digits, as in hex:43484131, where it is no text that can be seen whole, or where it begins with
-= + - or @ and a spreadsheet would take it for a formula. With --json each label has its text (null where it is
-none), its digits, its day (null where the value held is none) and the value held.",
+= + - or @ and a spreadsheet would take it for a formula. A value that is no date is written as its number there,
+which import refuses; and a spreadsheet that saves the list turns the label 0012 into 12. With --json each label has
+its text (null where it is none), its digits, its day (null where the value held is none) and the value held.",
         example: "list register.block --csv",
     },
     Topic {
@@ -124,7 +129,7 @@ pub fn show(command: &OsStr) -> Result<String, Trouble> {
 }
 
 /// The lines of the usage that are about a command: the one that begins with it and those that are set in below.
-fn usage_lines(name: &str) -> String {
+pub fn usage_lines(name: &str) -> String {
     let start = format!("workshop {name} ");
     let from_it = USAGE.lines().skip_while(|line| !line.starts_with(&start));
     let its_own = from_it.enumerate().take_while(|(place, line)| *place == 0 || line.starts_with(' '));

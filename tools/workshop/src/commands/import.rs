@@ -1,12 +1,15 @@
 //! The import of a list: all rows are entered in one run, or none of them.
 
-use super::{counted, taken};
+use super::{counted, replaces, with_room};
 use crate::block_file;
 use crate::dates;
 use crate::entries::{self, Entry};
+use crate::labels;
+use crate::map;
 use crate::proved;
 use crate::rows::{self, Row};
 use crate::trouble::{No, Trouble};
+use crate::visible::file_name;
 use std::fs::File;
 use std::io::{self, Read};
 use std::path::Path;
@@ -19,8 +22,10 @@ pub fn import(file: &Path, list: &Path) -> Result<String, Trouble> {
     let bytes = read_list(list).map_err(|reason| block_file::unread(list, &reason))?;
     let rows = rows::read(&bytes)
         .map_err(|faults| Trouble::Rows(faults.iter().map(|fault| at(list, fault.line, &fault.message)).collect()))?;
-    let done = block_file::alter(file, |block| enter_all(block, &rows).map_err(|refusal| refusal.told(list)))?;
-    Ok(format!("imported {}, {}\n", counted(rows.len() as u32, "label"), done.words()))
+    block_file::alter(file, |block| {
+        let done = enter_all(block, &rows, list)?;
+        Ok::<String, Trouble>(format!("{}{}\n", done.words(), map::fullness(block)))
+    })
 }
 
 /// Reads a list whole.
@@ -35,62 +40,26 @@ fn read_list(list: &Path) -> io::Result<Vec<u8>> {
 
 /// A message about a line of a list.
 fn at(list: &Path, line: usize, message: &str) -> String {
-    format!("{}:{line}: {message}", list.display())
+    format!("{}:{line}: {message}", file_name(list))
 }
 
-/// A no of an import, with the lines that it is about; none where it is about the block.
-struct Refusal {
-    no: No,
-    lines: Vec<usize>,
-}
-
-impl From<No> for Refusal {
-    /// A no about the block.
-    fn from(no: No) -> Refusal {
-        Refusal { no, lines: Vec::new() }
-    }
-}
-
-impl Refusal {
-    /// Tells the no with each line that it is about.
-    fn told(self, list: &Path) -> Trouble {
-        if self.lines.is_empty() {
-            return Trouble::Refused(self.no);
-        }
-        let words = self.no.words();
-        Trouble::Told(self.no, self.lines.iter().map(|line| at(list, *line, &words)).collect())
-    }
-}
-
-/// Enters rows one after the other, after all of their labels were judged. The first that has no room ends it: whether those
-/// behind it would have had room cannot be said.
-fn enter_all(block: &mut [u8], rows: &[Row]) -> Result<Done, Refusal> {
+/// Enters rows one after the other. The first that has no room ends it: whether those behind it would have had room cannot be
+/// said.
+fn enter_all(block: &mut [u8], rows: &[Row], list: &Path) -> Result<Done, Trouble> {
     proved::validate(block)?;
-    judge_labels(block, rows)?;
     let mut done = Done::default();
     for row in rows {
-        done.enter(block, row).map_err(|no| Refusal { no, lines: vec![row.line] })?;
+        done.enter(block, row).map_err(|no| Trouble::Told(no, vec![at(list, row.line, &with_room(no, block))]))?;
     }
     Ok(done)
 }
 
-/// Finds every row whose label the library does not take.
-fn judge_labels(block: &[u8], rows: &[Row]) -> Result<(), Refusal> {
-    let refused = rows.iter().filter(|row| entries::held(block, &row.label) == Err(No::BAD_LABEL));
-    let lines: Vec<usize> = refused.map(|row| row.line).collect();
-    if lines.is_empty() {
-        Ok(())
-    } else {
-        Err(Refusal { no: No::BAD_LABEL, lines })
-    }
-}
-
-/// What was entered so far: labels that got another value, labels that had just theirs, and the cells taken.
+/// What was entered so far: labels that are new, those that got another value, in a line each, and those that had just theirs.
 #[derive(Default)]
 struct Done {
-    replaced: u32,
+    new: u32,
+    replaced: Vec<String>,
     unchanged: u32,
-    cells: u32,
 }
 
 impl Done {
@@ -103,14 +72,18 @@ impl Done {
         }
         let entry = Entry::of(block, &row.label, value)?;
         entry.stores.iter().for_each(|store| store.make(block));
-        self.replaced += u32::from(entry.replaced.is_some());
-        self.cells += entry.cells();
+        match entry.replaced {
+            None => self.new += 1,
+            Some(_) => self.replaced.push(format!("{} {}{}\n", labels::show(&row.label), row.date, replaces(&entry))),
+        }
         Ok(())
     }
 
-    /// What was done, in words; unchanged labels only where there are any.
+    /// What was done, in words: each value that was replaced, since nothing else tells it any more, and how many there are of all.
     fn words(&self) -> String {
-        let unchanged = if self.unchanged == 0 { String::new() } else { format!("{} unchanged, ", self.unchanged) };
-        format!("{} replaced, {unchanged}{}", self.replaced, taken(self.cells))
+        let replaced = self.replaced.len() as u32;
+        let all = counted(self.new + replaced + self.unchanged, "label");
+        let counts = format!("{} new, {replaced} replaced, {} unchanged", self.new, self.unchanged);
+        format!("{}imported {all}: {counts}\n", self.replaced.concat())
     }
 }

@@ -2,6 +2,7 @@
 
 use super::{counted, misused};
 use crate::block_file;
+use crate::columns::{under_each_other, Side};
 use crate::dates;
 use crate::json;
 use crate::labels;
@@ -13,7 +14,7 @@ use std::ffi::{OsStr, OsString};
 use std::path::Path;
 
 /// A line of a table: a label and its value, in words.
-type Line = (String, String);
+type Line = [String; 2];
 
 /// The bytes of each page by which a list is made.
 const LIST_PAGE: u32 = 4_096;
@@ -33,14 +34,14 @@ pub fn list(file: &Path, form: Option<&OsString>) -> Result<String, Trouble> {
 
 /// All labels with their values in columns, under their names.
 fn columns(records: &[Record]) -> String {
-    let names = ("label".to_string(), "expires".to_string());
+    let names = ["label", "expires"].map(String::from);
     let lines: Vec<Line> = [names].into_iter().chain(records.iter().map(line)).collect();
-    table(&lines)
+    under_each_other(Side::Left, &lines)
 }
 
 /// Prints all labels in pages of a size: what each page tells of itself, and below it its labels with their values.
 pub fn print(file: &Path, size: &OsStr) -> Result<String, Trouble> {
-    let size = words::whole_number(size, "size of a page")?;
+    let size = words::whole_number(size, "size of a page", 4_096)?;
     let block = block_file::read(file)?;
     let mut printed = String::new();
     for (place, page) in pages::all(&block, size)?.iter().enumerate() {
@@ -48,19 +49,13 @@ pub fn print(file: &Path, size: &OsStr) -> Result<String, Trouble> {
         let remain = if page.told.more { "more remain" } else { "none remain" };
         printed += &format!("page {}: {records}, {} of {size} bytes used, {remain}\n", place + 1, page.told.used);
         let lines: Vec<Line> =
-            page.records.iter().map(line).map(|(label, value)| (format!("  {label}"), value)).collect();
-        printed += &table(&lines);
+            page.records.iter().map(line).map(|[label, value]| [format!("  {label}"), value]).collect();
+        printed += &under_each_other(Side::Left, &lines);
     }
     Ok(printed)
 }
 
 /// A label and its value, in words.
 fn line(record: &Record) -> Line {
-    (labels::show(&record.label), dates::show_value(record.value))
-}
-
-/// Sets lines of two columns under each other; their widths count characters.
-fn table(lines: &[Line]) -> String {
-    let width = lines.iter().map(|(left, _)| left.chars().count()).max().unwrap_or(0);
-    lines.iter().map(|(left, right)| format!("{left:width$}  {right}\n")).collect()
+    [labels::show(&record.label), dates::show_value(record.value)]
 }

@@ -3,12 +3,13 @@
 use super::block::{Block, Pointer, SLOTS};
 use super::reached::{Reached, What, ROOTS};
 use super::reading::{links, Kind, Link, Reading, Target};
+use crate::columns::{under_each_other, Side};
 use crate::{dates, labels};
 
 /// Of a cell its number, what it is, who holds it and what it holds.
 pub type Line = [String; 4];
 
-/// All cells in lines under each other. Free cells in a row share a line.
+/// All cells in lines under each other, their numbers to the right. Free cells in a row share a line.
 pub fn table(reached: &Reached) -> String {
     let mut rows: Vec<Line> = vec![["cell", "kind", "held by", "holds"].map(String::from)];
     let mut cell = 0;
@@ -20,17 +21,7 @@ pub fn table(reached: &Reached) -> String {
         }));
         cell += free.max(1);
     }
-    set_under_each_other(&rows)
-}
-
-/// Sets lines under each other, the numbers to the right.
-fn set_under_each_other(rows: &[Line]) -> String {
-    let width = |column: usize| rows.iter().map(|row| row[column].len()).max().unwrap_or(0);
-    let [number, kind, holders] = [0, 1, 2].map(width);
-    let show = |[first, second, third, fourth]: &Line| {
-        format!("{first:>number$}  {second:kind$}  {third:holders$}  {fourth}").trim_end().to_string() + "\n"
-    };
-    rows.iter().map(show).collect()
+    under_each_other(Side::Right, &rows)
 }
 
 /// What there is to say of a cell: one line, or where roots read it in different ways one for each way.

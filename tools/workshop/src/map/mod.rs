@@ -69,6 +69,16 @@ pub fn check(file: &Path) -> Result<String, Trouble> {
     Ok(format!("{summary}\nlabels held: {}\n", pages::count(&bytes)?))
 }
 
+/// How full a block is, as check tells it.
+pub fn fullness(block: &[u8]) -> String {
+    text::fullness(&Reached::of(Block(block)))
+}
+
+/// How many cells of a block are free, and how many more would be without each slot in use.
+pub fn room(block: &[u8]) -> String {
+    text::room(&Reached::of(Block(block)))
+}
+
 /// The bytes of a block that the library has found sound: only such a block is mapped.
 fn sound(file: &Path) -> Result<Vec<u8>, Trouble> {
     let bytes = block_file::read(file)?;

@@ -1,9 +1,11 @@
-//! The map of a block as a picture: a square for each cell, with its letter, and its contents where the mouse points at it.
+//! The map of a block as a picture: a square for each cell, with its letter and a tick for each slot that holds it, and its
+//! contents where the mouse points at it.
 
+use super::block::SLOTS;
 use super::contents;
 use super::reached::{Holding, Reached, What};
 use super::reading::{Kind, Reading};
-use super::text;
+use super::text::{self, Table};
 use std::path::Path;
 
 /// The space around everything, in which the numbers of the rows stand too.
@@ -21,8 +23,8 @@ const LEGEND_SIDE: usize = 20;
 /// The entries of the legend in a line.
 const LEGEND_COLUMNS: usize = 4;
 
-/// The lines of the legend.
-const LEGEND_ROWS: usize = 6;
+/// The least height of a tick, so that it is seen in the smallest squares too.
+const LEAST_TICK: usize = 4;
 
 /// How letters, colours and borders look. Kinds differ in lightness too, and the letters tell them apart without any colour.
 const STYLE: &str = "\
@@ -45,7 +47,14 @@ rect{stroke:#777;stroke-width:1}
 .fixed text,.S text,.H text,.R text{fill:#fff}
 .both rect{stroke:#000;stroke-width:2.5}
 .slots rect{stroke:#000}
+.tick{fill:#fff;stroke:#000;stroke-width:1}
 ";
+
+/// What a square shows: what the cell is, and for each slot whether it holds it.
+type Shown = (What, [bool; SLOTS]);
+
+/// A square of the legend, if there is one, and the words beside it.
+type Key = (Option<Shown>, String);
 
 /// The squares in a row and the side of a square, by the number of cells, so that a letter fits and the whole fits a screen.
 fn measures(cells: usize) -> (usize, usize) {
@@ -61,7 +70,8 @@ pub fn svg(reached: &Reached, file: &Path) -> String {
     let cells = reached.block.cells();
     let (columns, side) = measures(cells);
     let bottom = TOP + cells.div_ceil(columns) * side + LINE;
-    let height = bottom + LEGEND_ROWS * LINE + LINE / 2;
+    let rows = legend_rows(reached);
+    let height = bottom + rows.len() * LINE + LINE / 2;
     let name = escaped(&file.file_name().unwrap_or(file.as_os_str()).to_string_lossy());
     let width = columns * side + 2 * MARGIN;
     format!(
@@ -71,7 +81,7 @@ pub fn svg(reached: &Reached, file: &Path) -> String {
         headline(reached, &name),
         numbers(cells, columns, side),
         squares(reached, columns, side),
-        legend(reached, bottom, columns * side)
+        legend(&rows, bottom, columns * side)
     )
 }
 
@@ -96,7 +106,7 @@ fn numbers(cells: usize, columns: usize, side: usize) -> String {
 fn squares(reached: &Reached, columns: usize, side: usize) -> String {
     let each = |(cell, what): (usize, What)| {
         let (x, y) = (MARGIN + cell % columns * side, TOP + cell / columns * side);
-        square("cell", what, &tooltip(reached, cell), (x, y, side))
+        square("cell", (what, reached.in_slots(cell)), &tooltip(reached, cell), (x, y, side))
     };
     reached.all().enumerate().map(each).collect()
 }
@@ -115,20 +125,33 @@ fn tooltip(reached: &Reached, cell: usize) -> String {
     escaped(&lines.join("\n"))
 }
 
-/// A square with its letter, at a place and of a side; it is round where slots alone hold the cell, which small letters tell too.
-fn square(class: &str, what: What, title: &str, (x, y, side): (usize, usize, usize)) -> String {
+/// A square with its letter and ticks, at a place and of a side; it is round where slots alone hold the cell, which small letters
+/// tell too.
+fn square(class: &str, (what, slots): Shown, title: &str, (x, y, side): (usize, usize, usize)) -> String {
     let (left, above, inner) = (x + 2, y + 2, side - 4);
     let round = if matches!(what, What::Used(_, Holding::Slots)) { inner / 2 } else { 0 };
     format!(
         "<g class=\"{class} {}\"><title>{title}</title>\
          <rect x=\"{left}\" y=\"{above}\" width=\"{inner}\" height=\"{inner}\" rx=\"{round}\"/>\
-         <text x=\"{}\" y=\"{}\" style=\"font-size:{}px\">{}</text></g>\n",
+         <text x=\"{}\" y=\"{}\" style=\"font-size:{}px\">{}</text>{}</g>\n",
         classes(what),
         x + side / 2,
         y + side / 2 + side / 5,
         side * 3 / 5,
-        text::sign(what)
+        text::sign(what),
+        ticks(slots, left, above, inner)
     )
+}
+
+/// A tick across the lower edge of a square for each slot that holds its cell: at the left for slot 1, in the middle for 2, at the
+/// right for 3.
+fn ticks(slots: [bool; SLOTS], left: usize, above: usize, inner: usize) -> String {
+    let (width, height) = (inner / 4, LEAST_TICK.max(inner / 8));
+    let tick = |place: usize| {
+        let (x, y) = (left + place * (inner - width) / (SLOTS - 1), above + inner - height / 2);
+        format!("<path class=\"tick slot{}\" d=\"M{x} {y}h{width}v{height}h-{width}z\"/>", place + 1)
+    };
+    (0..SLOTS).filter(|place| slots[*place]).map(tick).collect()
 }
 
 /// The names by which a square gets its colour and border.
@@ -143,42 +166,60 @@ fn classes(what: What) -> String {
 }
 
 /// What the squares mean and how many there are of each, from a height on.
-fn legend(reached: &Reached, top: usize, width: usize) -> String {
-    let mut shown = String::new();
-    for (row, entries) in legend_rows(reached).iter().enumerate() {
-        for (column, (what, words)) in entries.iter().enumerate() {
+fn legend(rows: &[Vec<Key>], top: usize, width: usize) -> String {
+    let mut lines = String::new();
+    for (row, keys) in rows.iter().enumerate() {
+        for (column, (shown, words)) in keys.iter().enumerate() {
             let (x, y) = (MARGIN + column * width / LEGEND_COLUMNS, top + row * LINE);
-            shown += &what.map_or(String::new(), |what| square("key", what, words, (x, y, LEGEND_SIDE)));
-            shown += &text_at("line", if what.is_some() { x + LEGEND_SIDE + 6 } else { x }, y + 15, words);
+            lines += &shown.map_or(String::new(), |shown| square("key", shown, words, (x, y, LEGEND_SIDE)));
+            lines += &text_at("line", if shown.is_some() { x + LEGEND_SIDE + 6 } else { x }, y + 15, words);
         }
     }
-    shown
+    lines
 }
 
 /// The rows of the legend: the kinds, what is no node, who holds a cell, and how many cells each table has.
-fn legend_rows(reached: &Reached) -> Vec<Vec<(Option<What>, String)>> {
-    let used = |kind, holding| Some(What::Used(Reading { kind, from: 0 }, holding));
-    let kinds = Kind::ALL.map(|kind| {
-        let count: usize = Holding::ALL.iter().map(|holding| text::count(reached, kind, *holding)).sum();
-        (used(kind, Holding::Present), format!("{}: {count}", kind.name()))
-    });
-    let others = vec![
-        (Some(What::Free), format!("free: {}", reached.free())),
-        (Some(What::NeverUsed), "never used".to_string()),
-        (Some(What::Trailer), "trailer".to_string()),
+fn legend_rows(reached: &Reached) -> Vec<Vec<Key>> {
+    let others = [
+        (What::Free, format!("free: {}", reached.free())),
+        (What::NeverUsed, "never used".to_string()),
+        (What::Trailer, "trailer".to_string()),
     ];
-    let holders = ["present only", "present and slots", "slots only"];
-    let holders =
-        Holding::ALL.into_iter().zip(holders).map(|(holding, words)| (used(Kind::Chain, holding), words.to_string()));
-    let tables =
-        text::tables(reached).into_iter().map(|(name, cells, alone)| (None, format!("{name}: {cells} ({alone})")));
-    let mut rows: Vec<_> = kinds.chunks(LEGEND_COLUMNS).map(<[_]>::to_vec).collect();
-    rows.extend([others, holders.collect()]);
-    rows.extend([
-        vec![(None, "Cells of each table, and in brackets those that no other table has:".to_string())],
-        tables.collect(),
-    ]);
+    let others = others.map(|(what, words)| (Some((what, [false; SLOTS])), words));
+    let tables = text::tables(reached);
+    let tables: Vec<Key> =
+        tables.iter().map(|Table { name, cells, alone }| (None, format!("{name}: {cells} ({alone})"))).collect();
+    let mut rows: Vec<Vec<Key>> = kind_keys(reached).chunks(LEGEND_COLUMNS).map(<[_]>::to_vec).collect();
+    rows.extend([others.to_vec(), holder_keys()]);
+    rows.push(vec![(None, "Cells of each table, and in brackets those that nobody else holds:".to_string())]);
+    rows.extend(tables.chunks(LEGEND_COLUMNS).map(<[_]>::to_vec));
     rows
+}
+
+/// The kinds with how many cells there are of each.
+fn kind_keys(reached: &Reached) -> Vec<Key> {
+    let key = |kind: Kind| {
+        let count: usize = Holding::ALL.iter().map(|holding| text::count(reached, kind, *holding)).sum();
+        (Some((used(kind, Holding::Present), [false; SLOTS])), format!("{}: {count}", kind.name()))
+    };
+    Kind::ALL.map(key).to_vec()
+}
+
+/// Who holds a cell, and the ticks that tell which slots do.
+fn holder_keys() -> Vec<Key> {
+    let words = ["present only", "present and slots", "slots only"];
+    let mut keys: Vec<Key> = Holding::ALL
+        .into_iter()
+        .zip(words)
+        .map(|(holding, words)| (Some((used(Kind::Chain, holding), [false; SLOTS])), words.to_string()))
+        .collect();
+    keys.push((Some((used(Kind::Chain, Holding::Both), [true; SLOTS])), "ticks: in slot 1, 2, 3".to_string()));
+    keys
+}
+
+/// A cell of a kind that is held so.
+fn used(kind: Kind, holding: Holding) -> What {
+    What::Used(Reading { kind, from: 0 }, holding)
 }
 
 /// A line of text at a place.

@@ -56,6 +56,11 @@ impl<'a> Reached<'a> {
         }
     }
 
+    /// For each slot whether it holds a cell.
+    pub fn in_slots(&self, cell: usize) -> [bool; SLOTS] {
+        [1, 2, 3].map(|slot| self.by_root[slot][cell].is_some())
+    }
+
     /// What every cell is, from cell 0 on.
     pub fn all(&self) -> impl Iterator<Item = What> + '_ {
         (0..self.block.cells()).map(|cell| self.what(cell))

@@ -25,9 +25,31 @@ pub fn summary(reached: &Reached) -> [String; 3] {
     let slots = if slots.is_empty() { "none".to_string() } else { slots.join(", ") };
     [
         format!("sound, {} cells, edition {}", block.cells(), block.edition()),
-        format!("cells: {} usable, {} used, {} free", block.usable(), reached.used(), reached.free()),
+        fullness(reached),
         format!("slots in use: {slots}"),
     ]
+}
+
+/// How many cells can hold a node, and how many of them do.
+pub fn fullness(reached: &Reached) -> String {
+    format!("cells: {} usable, {} used, {} free", reached.block.usable(), reached.used(), reached.free())
+}
+
+/// How many cells are free, and what dropping each slot in use would free.
+pub fn room(reached: &Reached) -> String {
+    let free = reached.free();
+    let are = if free == 1 { "is" } else { "are" };
+    let slots: Vec<String> = reached
+        .slots()
+        .into_iter()
+        .map(|slot| table(reached, holder_name(slot), &[slot]))
+        .map(|Table { name, alone, .. }| format!("{name} frees {alone}"))
+        .collect();
+    if slots.is_empty() {
+        format!("{free} {are} free")
+    } else {
+        format!("{free} {are} free; dropping {}", slots.join(", "))
+    }
 }
 
 /// The whole map.
@@ -89,21 +111,46 @@ fn columns(name: &str, [present, both, slots, all]: [&str; 4]) -> String {
     format!("{name:12}{present:>14}{both:>8}{slots:>12}{all:>8}\n")
 }
 
-/// The tables by name, with how many cells each holds and how many of them no other does: those would come free with it.
-pub fn tables(reached: &Reached) -> Vec<(&'static str, usize, usize)> {
-    let holds = |place: usize, cell: usize| reached.by_root[place][cell].is_some();
-    let alone = |cell: &usize| (0..ROOTS).filter(|place| holds(*place, *cell)).count() == 1;
-    let shown = (0..ROOTS).filter(|place| *place == 0 || reached.slots().contains(place));
-    let numbers = |place: usize| {
-        let cells = (0..reached.block.cells()).filter(|cell| holds(place, *cell));
-        (holder_name(place), cells.clone().count(), cells.filter(alone).count())
-    };
-    shown.map(numbers).collect()
+/// A table, or all slots together: its name, how many cells it holds, and how many of them nobody else does.
+pub struct Table {
+    pub name: &'static str,
+    pub cells: usize,
+    pub alone: usize,
 }
 
-/// How many cells each table holds, in lines.
+/// The present table, that of each slot in use, and where there are several all slots together: what two of them share comes free
+/// only with both.
+pub fn tables(reached: &Reached) -> Vec<Table> {
+    let slots = reached.slots();
+    let mut tables = vec![table(reached, holder_name(0), &[0])];
+    tables.extend(slots.iter().map(|slot| table(reached, holder_name(*slot), &[*slot])));
+    if slots.len() > 1 {
+        tables.push(table(reached, "all slots", &slots));
+    }
+    tables
+}
+
+/// The cells of some roots together.
+fn table(reached: &Reached, name: &'static str, roots: &[usize]) -> Table {
+    let holds = |root: usize, cell: usize| reached.by_root[root][cell].is_some();
+    let cells = (0..reached.block.cells()).filter(|cell| roots.iter().any(|root| holds(*root, *cell)));
+    let alone = |cell: &usize| !(0..ROOTS).any(|root| !roots.contains(&root) && holds(root, *cell));
+    Table { name, cells: cells.clone().count(), alone: cells.filter(alone).count() }
+}
+
+/// How many cells each table holds, in lines. The cells of a slot alone would be free without it; the present table cannot be
+/// dropped.
 fn holders(reached: &Reached) -> String {
-    let head = format!("{:12}{:>14}{:>8}\n", "table", "only this", "cells");
-    let line = |(name, cells, alone)| format!("{name:12}{alone:>14}{cells:>8}\n");
-    head + &tables(reached).into_iter().map(line).collect::<String>()
+    let columns =
+        |name: &str, alone: &str, freed: &str, cells: &str| format!("{name:12}{alone:>14}{freed:>19}{cells:>8}\n");
+    let head = columns("table", "only this", "freed if dropped", "cells");
+    let lines = tables(reached).into_iter().enumerate().map(|(place, Table { name, cells, alone })| {
+        let (alone, cells) = (alone.to_string(), cells.to_string());
+        if place == 0 {
+            columns(name, &alone, "", &cells)
+        } else {
+            columns(name, "", &alone, &cells)
+        }
+    });
+    head + &lines.collect::<String>()
 }
