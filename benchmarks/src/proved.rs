@@ -3,9 +3,9 @@
 use crate::plain::{Next, Page};
 
 extern "C" {
-    fn exports_format(block: *mut u8, block_len: usize, edition: u32) -> u8;
-    fn exports_validate(block: *const u8, block_len: usize) -> u8;
-    fn exports_insert(
+    fn register_format(block: *mut u8, block_len: usize, edition: u32) -> u8;
+    fn register_validate(block: *const u8, block_len: usize) -> u8;
+    fn register_insert(
         block: *mut u8,
         block_len: usize,
         key: *const u8,
@@ -13,7 +13,7 @@ extern "C" {
         value: u32,
         count: *mut u32,
     ) -> u8;
-    fn exports_write_list(
+    fn register_write_list(
         block: *const u8,
         block_len: usize,
         key: *const u8,
@@ -23,9 +23,9 @@ extern "C" {
         list_len: usize,
         records: *mut u32,
     ) -> u8;
-    fn exports_remove(block: *mut u8, block_len: usize, key: *const u8, key_len: usize, count: *mut u32) -> u8;
-    fn exports_get(block: *const u8, block_len: usize, key: *const u8, key_len: usize, value: *mut u32) -> u8;
-    fn exports_next_key(
+    fn register_remove(block: *mut u8, block_len: usize, key: *const u8, key_len: usize, count: *mut u32) -> u8;
+    fn register_get(block: *const u8, block_len: usize, key: *const u8, key_len: usize, value: *mut u32) -> u8;
+    fn register_next_key(
         block: *const u8,
         block_len: usize,
         key: *const u8,
@@ -33,7 +33,7 @@ extern "C" {
         size: *mut u32,
         key_out: *mut u8,
     ) -> u8;
-    fn exports_page(
+    fn register_page(
         block: *const u8,
         block_len: usize,
         key: *const u8,
@@ -44,7 +44,7 @@ extern "C" {
         used: *mut u32,
         more: *mut u32,
     ) -> u8;
-    fn exports_snapshot(block: *mut u8, block_len: usize, slot: u32) -> u8;
+    fn register_snapshot(block: *mut u8, block_len: usize, slot: u32) -> u8;
     fn exports_is_valid_order(word: u16) -> u8;
 }
 
@@ -57,20 +57,20 @@ pub fn is_valid_order(word: u16) -> bool {
 /// Makes the block a fresh one of an edition: the answer number.
 pub fn format(block: &mut [u8], edition: u32) -> u8 {
     // The pointer comes with the length of its own slice.
-    unsafe { exports_format(block.as_mut_ptr(), block.len(), edition) }
+    unsafe { register_format(block.as_mut_ptr(), block.len(), edition) }
 }
 
 /// Whether the block is sound, as an answer number.
 pub fn validate(block: &[u8]) -> u8 {
     // The pointer comes with the length of its own slice.
-    unsafe { exports_validate(block.as_ptr(), block.len()) }
+    unsafe { register_validate(block.as_ptr(), block.len()) }
 }
 
 /// Looks a key up: the answer number and the value.
 pub fn get(block: &[u8], key: &[u8]) -> (u8, u32) {
     let mut value = 0;
     // Each pointer comes with the length of its own slice, and no slice overlaps another.
-    let answer = unsafe { exports_get(block.as_ptr(), block.len(), key.as_ptr(), key.len(), &mut value) };
+    let answer = unsafe { register_get(block.as_ptr(), block.len(), key.as_ptr(), key.len(), &mut value) };
     (answer, value)
 }
 
@@ -80,7 +80,7 @@ pub fn next_key(block: &[u8], key: &[u8]) -> Next {
     let out = next.key.as_mut_ptr();
     // Each pointer comes with the length of its own slice, and no slice overlaps another.
     next.answer =
-        unsafe { exports_next_key(block.as_ptr(), block.len(), key.as_ptr(), key.len(), &mut next.size, out) };
+        unsafe { register_next_key(block.as_ptr(), block.len(), key.as_ptr(), key.len(), &mut next.size, out) };
     next
 }
 
@@ -89,7 +89,7 @@ pub fn page(block: &[u8], after: &[u8], buffer: &mut [u8]) -> Page {
     let (mut page, mut more) = (Page::default(), 0);
     // Each pointer comes with the length of its own slice, and no slice overlaps another.
     page.answer = unsafe {
-        exports_page(
+        register_page(
             block.as_ptr(),
             block.len(),
             after.as_ptr(),
@@ -109,7 +109,7 @@ pub fn page(block: &[u8], after: &[u8], buffer: &mut [u8]) -> Page {
 pub fn insert(block: &mut [u8], key: &[u8], value: u32) -> (u8, u32) {
     let mut count = 0;
     // Each pointer comes with the length of its own slice, and no slice overlaps another.
-    let answer = unsafe { exports_insert(block.as_mut_ptr(), block.len(), key.as_ptr(), key.len(), value, &mut count) };
+    let answer = unsafe { register_insert(block.as_mut_ptr(), block.len(), key.as_ptr(), key.len(), value, &mut count) };
     (answer, count)
 }
 
@@ -118,7 +118,7 @@ pub fn write_list(block: &[u8], key: &[u8], value: u32, list: &mut [u8]) -> (u8,
     let mut records = 0;
     // Each pointer comes with the length of its own slice, and no slice overlaps another.
     let answer = unsafe {
-        exports_write_list(
+        register_write_list(
             block.as_ptr(),
             block.len(),
             key.as_ptr(),
@@ -136,12 +136,12 @@ pub fn write_list(block: &[u8], key: &[u8], value: u32, list: &mut [u8]) -> (u8,
 pub fn remove(block: &mut [u8], key: &[u8]) -> (u8, u32) {
     let mut count = 0;
     // Each pointer comes with the length of its own slice, and no slice overlaps another.
-    let answer = unsafe { exports_remove(block.as_mut_ptr(), block.len(), key.as_ptr(), key.len(), &mut count) };
+    let answer = unsafe { register_remove(block.as_mut_ptr(), block.len(), key.as_ptr(), key.len(), &mut count) };
     (answer, count)
 }
 
 /// Sets a snapshot's slot to the present root: the answer number.
 pub fn snapshot(block: &mut [u8], slot: u32) -> u8 {
     // The pointer comes with the length of its own slice.
-    unsafe { exports_snapshot(block.as_mut_ptr(), block.len(), slot) }
+    unsafe { register_snapshot(block.as_mut_ptr(), block.len(), slot) }
 }

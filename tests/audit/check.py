@@ -16,7 +16,18 @@ CALLS = {
     "crates/write_lists/src/write_list.rt": ["write_list"],
     "crates/snapshots/src/lib.rt": ["snapshot", "restore", "release"],
     "crates/dosing/src/verdict.rt": ["verdict"],
-    "crates/firmware/src/lib.rt": ["register_insert", "register_write_list", "register_get", "register_verdict"],
+    "crates/firmware/src/lib.rt": ["register_insert", "register_get", "register_verdict"],
+    "crates/exports/src/calls.rt": [
+        "register_format",
+        "register_validate",
+        "register_remove",
+        "register_snapshot",
+        "register_restore",
+        "register_release",
+        "register_next_key",
+    ],
+    "crates/exports/src/page.rt": ["register_page"],
+    "crates/exports/src/write_list.rt": ["register_write_list"],
 }
 DEFINITION = re.compile(r"(?:unfoldable|abbrev|pub record|pub data)\b(?! mutual)")
 IMPORT = re.compile(r"^(?:ghost )?use Rattle·\w+(?:·specs)?\.specs\.(?P<module>[\w.]+)\.\{(?P<names>[^}]*)\}", re.M)

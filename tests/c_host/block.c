@@ -1,5 +1,6 @@
 /* Checks that are counted, and a block in margins. */
 #include "block.h"
+#include "register.h"
 
 #include <stdio.h>
 #include <stdlib.h>
@@ -41,6 +42,11 @@ void fresh_of(struct block *block, size_t cells, uint32_t edition) {
     memset(bytes(block), 0, block->size);
     put_word(block, trailer(block) + 0x14, (uint32_t)cells);
     put_word(block, trailer(block) + 0x1C, edition);
+}
+
+void enter(struct block *block, const void *key, size_t key_size, uint32_t value) {
+    uint32_t count;
+    CHECK(register_insert(bytes(block), block->size, key, key_size, value, &count) == REGISTER_DONE);
 }
 
 /* The next of a row of numbers, by three shifts. */

@@ -28,6 +28,9 @@ void put_word(struct block *block, size_t at, uint32_t word);
 size_t trailer(const struct block *block);
 uint32_t root(struct block *block);
 
+/* Enters a key with its value, which must be taken. */
+void enter(struct block *block, const void *key, size_t key_size, uint32_t value);
+
 /* Makes a block of random bytes under a valid trailer, every second one with bytes that are mostly small; drawn from the same first state,
    the blocks are the same in every run. */
 #define FIRST_STATE 2463534242u

@@ -2,7 +2,7 @@
 #ifndef DRIVER_H
 #define DRIVER_H
 
-#include "exports.h"
+#include "block.h"
 
 enum { RECORD = 8, MOST_LIST = 1024 };
 
@@ -20,8 +20,7 @@ struct list {
 };
 extern struct list list;
 
-/* Asks for the list of an entry into a buffer of so many bytes; the block stays, and of the buffer all but the list. Both libraries
- * give the same. */
+/* Asks for the list of an entry into a buffer of so many bytes; the block stays, and of the buffer all but the list. */
 uint8_t ask(struct block *block, struct entry entry, size_t size);
 
 /* Asks for a list that must be given, into a buffer with room for it. */

@@ -2,7 +2,7 @@
  * the next. What the file then holds is judged, and another driver goes on from it. */
 #define _DEFAULT_SOURCE
 #include "driver.h"
-#include "register.h"
+#include "register_service.h"
 
 #include <arpa/inet.h>
 #include <fcntl.h>
@@ -94,7 +94,7 @@ struct shown {
 static struct shown show(struct block *block) {
     struct shown shown;
     memset(&shown, 0, sizeof shown);
-    uint8_t answer = exports_page(bytes(block), block->size, NULL, 0, shown.bytes, sizeof shown.bytes, &shown.records,
+    uint8_t answer = register_page(bytes(block), block->size, NULL, 0, shown.bytes, sizeof shown.bytes, &shown.records,
                                   &shown.used, &shown.more);
     CHECK(answer == REGISTER_DONE && shown.more == 0);
     return shown;
@@ -105,7 +105,7 @@ static struct shown show_slot(const struct block *block, uint32_t slot) {
     static struct block copy;
     copy = *block;
     bool held = bytes(&copy)[trailer(&copy) + 0x10] >> (slot - 1) & 1;
-    CHECK(exports_restore(bytes(&copy), copy.size, slot) == (held ? REGISTER_DONE : 6));
+    CHECK(register_restore(bytes(&copy), copy.size, slot) == (held ? REGISTER_DONE : REGISTER_EMPTY_SLOT));
     return held ? show(&copy) : (struct shown){0};
 }
 
@@ -114,13 +114,13 @@ static bool same(struct shown one, struct shown other) { return memcmp(&one, &ot
 /* A look-up in what was found has the answer and the value that it had before. */
 static void check_look_up(const uint8_t *key, size_t key_size) {
     uint32_t old, new;
-    uint8_t answer = exports_get(bytes(&before), before.size, key, key_size, &old);
-    CHECK(exports_get(bytes(&found), found.size, key, key_size, &new) == answer && new == old);
+    uint8_t answer = register_get(bytes(&before), before.size, key, key_size, &old);
+    CHECK(register_get(bytes(&found), found.size, key, key_size, &new) == answer && new == old);
 }
 
 /* What was found is sound and shows the table of before, label by label, and each slot the one that it had. */
 static void check_old(struct entry entry) {
-    CHECK(exports_validate(bytes(&found), found.size) == REGISTER_DONE);
+    CHECK(register_validate(bytes(&found), found.size) == REGISTER_DONE);
     struct shown shown = show(&before);
     CHECK(same(show(&found), shown));
     for (size_t at = 0; at < shown.used; at += 5u + shown.bytes[at]) check_look_up(shown.bytes + at + 1, shown.bytes[at]);
@@ -228,7 +228,7 @@ static void make_scene(const struct scene *scene, uint32_t edition) {
     for (size_t i = 0; i < sizeof scene->steps / sizeof *scene->steps; i++) {
         struct step step = scene->steps[i];
         if (step.key) enter(&before, step.key, strlen(step.key), step.value);
-        if (step.slot) CHECK(exports_snapshot(bytes(&before), before.size, step.slot) == REGISTER_DONE);
+        if (step.slot) CHECK(register_snapshot(bytes(&before), before.size, step.slot) == REGISTER_DONE);
     }
 }
 

@@ -1,6 +1,6 @@
 /* The host: its calls on the functions of firmware, and the run of its tests. */
 #include "host.h"
-#include "register.h"
+#include "register_service.h"
 
 #include <stdio.h>
 #include <string.h>
@@ -67,12 +67,20 @@ uint8_t answer_of_verdict(struct block *block, struct question question) {
     return verdict(block, question, &dose);
 }
 
+uint8_t answer_on_day(struct block *block, struct question question, uint32_t year, uint32_t month, uint32_t day) {
+    question.year = year;
+    question.month = month;
+    question.day = day;
+    return answer_of_verdict(block, question);
+}
+
 int main(void) {
     test_samples();
     test_insert_and_get();
     test_verdict();
     test_hostile_bytes();
     test_wear();
+    test_dates();
     printf("c_host: %lu checks passed\n", checks_passed());
     return 0;
 }

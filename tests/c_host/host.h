@@ -25,11 +25,13 @@ uint8_t answer_of_insert(struct block *block, const void *key, size_t key_size, 
 uint8_t answer_of_list(struct block *block, const void *key, size_t key_size, uint32_t value);
 uint8_t answer_of_get(struct block *block, const void *key, size_t key_size);
 uint8_t answer_of_verdict(struct block *block, struct question question);
+uint8_t answer_on_day(struct block *block, struct question question, uint32_t year, uint32_t month, uint32_t day);
 
 void test_samples(void);
 void test_insert_and_get(void);
 void test_verdict(void);
 void test_hostile_bytes(void);
 void test_wear(void);
+void test_dates(void);
 
 #endif

@@ -1,13 +1,13 @@
-/* The second host: it prints registers in pages, by the library that has every call, and holds each byte of the buffer to what
+/* The second host: it prints registers in pages, by the service library, and holds each byte of the buffer to what
  * is expected. */
-#include "exports.h"
-#include "register.h"
+#include "block.h"
+#include "register_service.h"
 
 #include <stdio.h>
 #include <string.h>
 
-/* The answer to a short buffer, the least buffer that is taken, the longest key, and the most bytes lent here. */
-enum { SHORT_BUFFER = 15, LEAST = 53, LONGEST_KEY = 48, MOST = 4096 };
+/* The least buffer that is taken, the longest key, and the most bytes lent here. */
+enum { LEAST = REGISTER_PAGE_SIZE, LONGEST_KEY = REGISTER_KEY_LIMIT, MOST = 4096 };
 
 static struct block block;
 
@@ -23,7 +23,7 @@ static const uint8_t *buffer(void) { return page.room + MARGIN; }
 static uint8_t print_page(const void *key, size_t key_size, size_t size) {
     memset(&page, FILLER, sizeof page);
     keep(&block);
-    uint8_t answer = exports_page(bytes(&block), block.size, key, key_size, page.room + MARGIN, size, &page.records, &page.used,
+    uint8_t answer = register_page(bytes(&block), block.size, key, key_size, page.room + MARGIN, size, &page.records, &page.used,
                                   &page.more);
     CHECK(kept(&block));
     if (answer != REGISTER_DONE) CHECK(page.records == 0 && page.used == 0 && page.more == 0);
@@ -53,9 +53,9 @@ static void sample_g(void) {
     CHECK(printed("C", 1, LEAST, 1, records + 12, 8, 0));
     CHECK(printed("CHA", 3, LEAST, 0, "", 0, 0));
     CHECK(printed("CHA1", 4, LEAST, 0, "", 0, 0));
-    for (size_t size = 0; size < LEAST; size++) CHECK(print_page("", 0, size) == SHORT_BUFFER);
+    for (size_t size = 0; size < LEAST; size++) CHECK(print_page("", 0, size) == REGISTER_SHORT_BUFFER);
     uint32_t numbers[3] = {7, 7, 7};
-    CHECK(exports_page(bytes(&block), block.size, NULL, 0, NULL, 0, numbers, numbers + 1, numbers + 2) == SHORT_BUFFER);
+    CHECK(register_page(bytes(&block), block.size, NULL, 0, NULL, 0, numbers, numbers + 1, numbers + 2) == REGISTER_SHORT_BUFFER);
     CHECK(numbers[0] == 0 && numbers[1] == 0 && numbers[2] == 0);
 }
 
@@ -100,9 +100,9 @@ static size_t walk(uint8_t *records) {
     uint8_t key[LONGEST_KEY];
     uint32_t size = 0, value;
     size_t used = 0;
-    while (exports_next_key(bytes(&block), block.size, key, size, &size, records + used + 1) == REGISTER_DONE) {
+    while (register_next_key(bytes(&block), block.size, key, size, &size, records + used + 1) == REGISTER_DONE) {
         memcpy(key, records + used + 1, size);
-        CHECK(exports_get(bytes(&block), block.size, key, size, &value) == REGISTER_DONE);
+        CHECK(register_get(bytes(&block), block.size, key, size, &value) == REGISTER_DONE);
         records[used] = (uint8_t)size;
         for (size_t i = 0; i < 4; i++) records[used + 1 + size + i] = (uint8_t)(value >> (24 - 8 * i));
         used += size + 5;
@@ -167,7 +167,7 @@ static void order(void) {
             put_word(&block, trailer(&block), 0x3B);
             CHECK(print_page(long_key, key_size, size) == REGISTER_UNSOUND);
             fresh(&block, 4);
-            uint8_t answer = key_size > 48 ? REGISTER_BAD_KEY : size < LEAST ? SHORT_BUFFER : REGISTER_DONE;
+            uint8_t answer = key_size > 48 ? REGISTER_BAD_KEY : size < LEAST ? REGISTER_SHORT_BUFFER : REGISTER_DONE;
             CHECK(print_page(long_key, key_size, size) == answer);
         }
     }
@@ -177,11 +177,11 @@ static void order(void) {
 
 /* A page is refused just as the judgement of the block says, and else done. */
 static void check_judged(void) {
-    uint8_t judged = exports_validate(bytes(&block), block.size);
+    uint8_t judged = register_validate(bytes(&block), block.size);
     CHECK(judged == REGISTER_DONE || judged == REGISTER_UNSOUND);
     CHECK(print_page("", 0, LEAST) == judged);
     CHECK(print_page("A", 1, MOST) == judged);
-    CHECK(print_page("", 0, LEAST - 1) == (judged == REGISTER_DONE ? SHORT_BUFFER : judged));
+    CHECK(print_page("", 0, LEAST - 1) == (judged == REGISTER_DONE ? REGISTER_SHORT_BUFFER : judged));
 }
 
 /* Every byte of a small register in every other value. */
@@ -209,6 +209,7 @@ static void random_blocks(void) {
 }
 
 int main(void) {
+    CHECK(REGISTER_PAGE_SIZE == 53 && REGISTER_KEY_LIMIT == 48);
     sample_g();
     sizes();
     empty_register();

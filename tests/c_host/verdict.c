@@ -45,11 +45,7 @@ static uint8_t with_bead(float section, float length) {
 }
 
 static uint8_t on_day(uint32_t year, uint32_t month, uint32_t day) {
-    struct question q = good;
-    q.year = year;
-    q.month = month;
-    q.day = day;
-    return answer_of_verdict(&block, q);
+    return answer_on_day(&block, good, year, month, day);
 }
 
 /* What a held value gets on a day. */

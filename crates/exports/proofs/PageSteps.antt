@@ -13,7 +13,7 @@ use Rattle.pages.specs.declared.page.PageAnswer.{PageAnswer}
 use Rattle.pages.specs.Answers.{pageOutcome}
 use Rattle.pages.specs.Page.{Page, page}
 use Rattle.pages.proofs.Bounds.{page-inside, page-counted}
-use Rattle.exports.specs.Code.PageNumbers.{countable, numbersOf, pageNumbers}
+use Rattle.exports.specs.PageNumbers.{countable, numbersOf, pageNumbers}
 
 -- what can be counted: all, or the most that there is a number for
 countable-all : (size : ℕ) → size ≤ 4294967295 → countable size ≡ size

@@ -4,7 +4,7 @@ use mathlib.Core.List.{List, []}
 use Prim.Native.Nat.{ℕ, _≤_}
 use lib.ListN.{length}
 use Rattle.pages.specs.Page.{page}
-use Rattle.exports.specs.Code.PageNumbers.{numbersOf, pageNumbers}
+use Rattle.exports.specs.PageNumbers.{numbersOf, pageNumbers}
 use Rattle.exports.proofs.PageSteps as steps
 
 pub page-counted : (b key buffer : List ℕ) → length buffer ≤ 4294967295 → pageNumbers b key buffer ≡ numbersOf (page b key buffer) []

@@ -1,1 +1,2 @@
+pub mod PageNumbers
 pub mod Code

@@ -18,7 +18,7 @@ use store::removing::remove;
 
 // Makes a block fresh, of an edition.
 #[no_mangle]
-pub extern "C" fn exports_format(block: &mut [u8], edition: u32) -> u8
+pub extern "C" fn register_format(block: &mut [u8], edition: u32) -> u8
     ensures { λ r. ⌜ format (now (block .entry)) edition ≡ record { answer = r; block = now (block .exit) } ⌝ }
 {
     change_number(format(block, edition))
@@ -26,7 +26,7 @@ pub extern "C" fn exports_format(block: &mut [u8], edition: u32) -> u8
 
 // Whether a block is valid in size and sound.
 #[no_mangle]
-pub extern "C" fn exports_validate(block: &[u8]) -> u8
+pub extern "C" fn register_validate(block: &[u8]) -> u8
     ensures { λ r. ⌜ validate (now (block .entry)) ≡ r ⌝ }
 {
     change_number(validate(block))
@@ -34,7 +34,7 @@ pub extern "C" fn exports_validate(block: &[u8]) -> u8
 
 // Removes a key from a block, and counts the cells allocated.
 #[no_mangle]
-pub extern "C" fn exports_remove(block: &mut [u8], key: &[u8], count: &mut u32) -> u8
+pub extern "C" fn register_remove(block: &mut [u8], key: &[u8], count: &mut u32) -> u8
     ensures { λ r. ⌜ remove (now (block .entry)) (now (key .entry)) ≡ record { answer = r; count = now (count .exit); block = now (block .exit) } ⌝ }
 {
     match remove(block, key) {
@@ -51,7 +51,7 @@ pub extern "C" fn exports_remove(block: &mut [u8], key: &[u8], count: &mut u32) 
 
 // Keeps the root in a slot.
 #[no_mangle]
-pub extern "C" fn exports_snapshot(block: &mut [u8], slot: u32) -> u8
+pub extern "C" fn register_snapshot(block: &mut [u8], slot: u32) -> u8
     ensures { λ r. ⌜ snapshot (now (block .entry)) slot ≡ record { answer = r; block = now (block .exit) } ⌝ }
 {
     change_number(snapshot(block, slot))
@@ -59,7 +59,7 @@ pub extern "C" fn exports_snapshot(block: &mut [u8], slot: u32) -> u8
 
 // Makes the root that a slot holds the present one.
 #[no_mangle]
-pub extern "C" fn exports_restore(block: &mut [u8], slot: u32) -> u8
+pub extern "C" fn register_restore(block: &mut [u8], slot: u32) -> u8
     ensures { λ r. ⌜ restore (now (block .entry)) slot ≡ record { answer = r; block = now (block .exit) } ⌝ }
 {
     change_number(restore(block, slot))
@@ -67,7 +67,7 @@ pub extern "C" fn exports_restore(block: &mut [u8], slot: u32) -> u8
 
 // Gives up what a slot holds.
 #[no_mangle]
-pub extern "C" fn exports_release(block: &mut [u8], slot: u32) -> u8
+pub extern "C" fn register_release(block: &mut [u8], slot: u32) -> u8
     ensures { λ r. ⌜ release (now (block .entry)) slot ≡ record { answer = r; block = now (block .exit) } ⌝ }
 {
     change_number(release(block, slot))
@@ -75,7 +75,7 @@ pub extern "C" fn exports_release(block: &mut [u8], slot: u32) -> u8
 
 // The least key that is greater than a given one, in 48 bytes.
 #[no_mangle]
-pub extern "C" fn exports_next_key(
+pub extern "C" fn register_next_key(
     block: &[u8],
     key: &[u8],
     size: &mut u32,

@@ -1,5 +1,6 @@
-// Every call over numbers and bytes, for tests and tools, and a list of them; firmware has its own four.
+// The calls over numbers and bytes that firmware does not have, for service tools and memory drivers, and for tests the runner of a
+// list of calls.
 mod calls;
-mod firmware_calls;
 mod lists;
 mod page;
+mod write_list;

@@ -1,7 +1,7 @@
 // A page of a block.
 ghost use mathlib.Core.Path.{_≡_};
 ghost use mathlib.Core.Bool.{cond};
-ghost use Rattle.exports.specs.Code.PageNumbers.{countable, pageNumbers};
+ghost use Rattle.exports.specs.PageNumbers.{countable, pageNumbers};
 use blocks::answer::change_number;
 use pages::page::page;
 
@@ -28,7 +28,7 @@ fn bit(yes: bool) -> u32
 // Writes the records after a key into a buffer, in order: the records written, the bytes used and whether more remain. Of a buffer
 // longer than 4,294,967,295 bytes it takes the first so many.
 #[no_mangle]
-pub extern "C" fn exports_page(
+pub extern "C" fn register_page(
     block: &[u8],
     key: &[u8],
     buffer: &mut [u8],

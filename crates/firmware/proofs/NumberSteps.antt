@@ -10,8 +10,6 @@ use Rattle.blocks.specs.declared.answer.Refusal.{Refusal}
 use Rattle.blocks.specs.declared.answer.CountAnswer.{CountAnswer}
 use Rattle.blocks.specs.Answers.{refusalNumber, countedOutcome}
 use Rattle.blocks.specs.Read.{Found}
-use Rattle.write_lists.specs.Answers.{listOutcome}
-use Rattle.write_lists.specs.WriteList.{WriteList}
 use Rattle.dosing.specs.declared.temperature.Reading.{Reading}
 use Rattle.dosing.specs.declared.temperature.TemperatureGate.{TemperatureGate}
 use Rattle.dosing.specs.Temperature.{whole}
@@ -38,16 +36,6 @@ module _ (inserted : Counted) (answer : CountAnswer) (block : List ℕ) (told : 
       → inserted ≡ record { answer = r; count = 0; block = block }
   inserted-refused refusal r is number =
       told ∙ ap (λ (a : CountAnswer). countedOutcome a block) is ∙ (λ i. record { answer = sym number i; count = 0; block = block })
-
--- a write list by its number and records
-module _ (listing : WriteList) (answer : CountAnswer) (list : List ℕ) (told : listing ≡ listOutcome answer list) where
-  pub listed-done : (n : ℕ) → answer ≡ CountAnswer.Done n → listing ≡ record { answer = 0; records = n; list = list }
-  listed-done n is = told ∙ ap (λ (a : CountAnswer). listOutcome a list) is
-
-  pub listed-refused : (refusal : Refusal) (r : ℕ) → answer ≡ CountAnswer.Refused refusal → r ≡ refusalNumber refusal
-      → listing ≡ record { answer = r; records = 0; list = list }
-  listed-refused refusal r is number =
-      told ∙ ap (λ (a : CountAnswer). listOutcome a list) is ∙ (λ i. record { answer = sym number i; records = 0; list = list })
 
 abbrev refusedVerdict : ℕ → Verdict
 refusedVerdict n = record { answer = n; dose = whole (pos 0) }

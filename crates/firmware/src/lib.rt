@@ -1,7 +1,6 @@
 // The calls for controller firmware in C, over numbers and bytes: the result is the answer number of the field's table, and
 // what stands beside it goes through a reference, zero where the answer is no.
 ghost use mathlib.Core.Path.{_≡_};
-ghost use Rattle.write_lists.specs.WriteList.{writeList};
 ghost use Rattle.firmware.specs.Choices.{ours};
 ghost use Rattle.firmware.specs.NumberCalls.{getNumbers, insertNumbers, verdictNumbers};
 use blocks::answer::CountAnswer;
@@ -16,7 +15,6 @@ use dosing::sheet::ProductSheet;
 use dosing::verdict::VerdictAnswer;
 use dosing::verdict::verdict;
 use store::inserting::insert;
-use write_lists::write_list::write_list;
 
 mod named;
 
@@ -35,29 +33,6 @@ pub extern "C" fn register_insert(block: &mut [u8], key: &[u8], value: u32, coun
         }
         CountAnswer::Refused(refusal) => {
             *count = 0;
-            number(refusal)
-        }
-    }
-}
-
-// Writes an insertion as records of stores into a list buffer, for the memory driver, and counts them; the block is only read.
-#[no_mangle]
-pub extern "C" fn register_write_list(
-    block: &[u8],
-    key: &[u8],
-    value: u32,
-    list: &mut [u8],
-    records: &mut u32,
-) -> u8
-    ensures { λ r. ⌜ writeList (now (block .entry)) (now (key .entry)) value (now (list .entry)) ≡ record { answer = r; records = now (records .exit); list = now (list .exit) } ⌝ }
-{
-    match write_list(block, key, value, list) {
-        CountAnswer::Done(listed) => {
-            *records = listed;
-            0
-        }
-        CountAnswer::Refused(refusal) => {
-            *records = 0;
             number(refusal)
         }
     }

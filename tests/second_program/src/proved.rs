@@ -8,9 +8,9 @@ use crate::verdict::Question;
 use crate::write_list::Asked;
 
 extern "C" {
-    fn exports_format(block: *mut u8, block_len: usize, edition: u32) -> u8;
-    fn exports_validate(block: *const u8, block_len: usize) -> u8;
-    fn exports_insert(
+    fn register_format(block: *mut u8, block_len: usize, edition: u32) -> u8;
+    fn register_validate(block: *const u8, block_len: usize) -> u8;
+    fn register_insert(
         block: *mut u8,
         block_len: usize,
         key: *const u8,
@@ -18,9 +18,9 @@ extern "C" {
         value: u32,
         count: *mut u32,
     ) -> u8;
-    fn exports_remove(block: *mut u8, block_len: usize, key: *const u8, key_len: usize, count: *mut u32) -> u8;
-    fn exports_get(block: *const u8, block_len: usize, key: *const u8, key_len: usize, value: *mut u32) -> u8;
-    fn exports_next_key(
+    fn register_remove(block: *mut u8, block_len: usize, key: *const u8, key_len: usize, count: *mut u32) -> u8;
+    fn register_get(block: *const u8, block_len: usize, key: *const u8, key_len: usize, value: *mut u32) -> u8;
+    fn register_next_key(
         block: *const u8,
         block_len: usize,
         key: *const u8,
@@ -28,7 +28,7 @@ extern "C" {
         size: *mut u32,
         key_out: *mut u8,
     ) -> u8;
-    fn exports_page(
+    fn register_page(
         block: *const u8,
         block_len: usize,
         key: *const u8,
@@ -39,7 +39,7 @@ extern "C" {
         used: *mut u32,
         more: *mut u32,
     ) -> u8;
-    fn exports_write_list(
+    fn register_write_list(
         block: *const u8,
         block_len: usize,
         key: *const u8,
@@ -49,10 +49,10 @@ extern "C" {
         list_len: usize,
         records: *mut u32,
     ) -> u8;
-    fn exports_snapshot(block: *mut u8, block_len: usize, slot: u32) -> u8;
-    fn exports_restore(block: *mut u8, block_len: usize, slot: u32) -> u8;
-    fn exports_release(block: *mut u8, block_len: usize, slot: u32) -> u8;
-    fn exports_verdict(
+    fn register_snapshot(block: *mut u8, block_len: usize, slot: u32) -> u8;
+    fn register_restore(block: *mut u8, block_len: usize, slot: u32) -> u8;
+    fn register_release(block: *mut u8, block_len: usize, slot: u32) -> u8;
+    fn register_verdict(
         block: *const u8,
         block_len: usize,
         label: *const u8,
@@ -152,20 +152,20 @@ fn perform_lent(block: &mut [u8], call: &Call) -> Outcome {
     // Each pointer comes with the length of its own slice, and no slice overlaps another.
     outcome.answer = unsafe {
         match call {
-            Call::Insert { key, value } => exports_insert(start, size, key.as_ptr(), key.len(), *value, number),
-            Call::Remove { key } => exports_remove(start, size, key.as_ptr(), key.len(), number),
-            Call::Get { key } => exports_get(start, size, key.as_ptr(), key.len(), number),
+            Call::Insert { key, value } => register_insert(start, size, key.as_ptr(), key.len(), *value, number),
+            Call::Remove { key } => register_remove(start, size, key.as_ptr(), key.len(), number),
+            Call::Get { key } => register_get(start, size, key.as_ptr(), key.len(), number),
             Call::NextKey { key } => {
                 outcome.key = [FILLER; 48];
-                exports_next_key(start, size, key.as_ptr(), key.len(), number, outcome.key.as_mut_ptr())
+                register_next_key(start, size, key.as_ptr(), key.len(), number, outcome.key.as_mut_ptr())
             }
             Call::Page(asked) => return page(start, size, asked),
             Call::WriteList(asked) => return write_list(start, size, asked),
-            Call::Format { edition } => without_value(number, exports_format(start, size, *edition)),
-            Call::Validate => without_value(number, exports_validate(start, size)),
-            Call::Snapshot { slot } => without_value(number, exports_snapshot(start, size, *slot)),
-            Call::Restore { slot } => without_value(number, exports_restore(start, size, *slot)),
-            Call::Release { slot } => without_value(number, exports_release(start, size, *slot)),
+            Call::Format { edition } => without_value(number, register_format(start, size, *edition)),
+            Call::Validate => without_value(number, register_validate(start, size)),
+            Call::Snapshot { slot } => without_value(number, register_snapshot(start, size, *slot)),
+            Call::Restore { slot } => without_value(number, register_restore(start, size, *slot)),
+            Call::Release { slot } => without_value(number, register_release(start, size, *slot)),
             Call::Verdict(question) => {
                 let (answer, dose) = verdict(start, size, question);
                 outcome.dose = dose.to_bits();
@@ -188,7 +188,7 @@ unsafe fn page(start: *const u8, size: usize, asked: &Page) -> Outcome {
     let (records, page) = (&mut outcome.number, &mut outcome.page);
     (page.used, page.more) = (*records, *records);
     (outcome.answer, outcome.buffer) = lend(buffer, |bytes, room| {
-        exports_page(start, size, key.as_ptr(), key.len(), bytes, room, records, &mut page.used, &mut page.more)
+        register_page(start, size, key.as_ptr(), key.len(), bytes, room, records, &mut page.used, &mut page.more)
     });
     outcome
 }
@@ -199,7 +199,7 @@ unsafe fn write_list(start: *const u8, size: usize, asked: &Asked) -> Outcome {
     let mut outcome = unanswered();
     let records = &mut outcome.number;
     (outcome.answer, outcome.buffer) = lend(buffer, |bytes, room| {
-        exports_write_list(start, size, key.as_ptr(), key.len(), *value, bytes, room, records)
+        register_write_list(start, size, key.as_ptr(), key.len(), *value, bytes, room, records)
     });
     outcome
 }
@@ -222,7 +222,7 @@ fn without_value(number: &mut u32, answer: u8) -> u8 {
 /// The library's verdict and dose.
 unsafe fn verdict(start: *const u8, size: usize, question: &Question) -> (u8, f32) {
     let mut dose = f32::from_be_bytes([FILLER; 4]);
-    let answer = exports_verdict(
+    let answer = register_verdict(
         start,
         size,
         question.label.as_ptr(),

@@ -1,7 +1,8 @@
 //! Dates: year, month and day as kinds of their own, the ISO 8601 form, and the number that a block holds.
 
 use crate::proved;
-use crate::trouble::Trouble;
+use crate::trouble::Misread;
+use crate::visible::quoted;
 use std::fmt;
 
 #[derive(Clone, Copy, Debug, PartialEq)]
@@ -26,8 +27,8 @@ impl fmt::Display for Date {
 }
 
 /// Reads the form 2025-03-07 and no other, since 07/03 can be read both ways.
-pub fn read_form(text: &str) -> Result<Date, Trouble> {
-    let refusal = || Trouble::Usage(format!("'{text}' is no ISO 8601 date: write year-month-day, as in 2025-03-07"));
+pub fn read_form(text: &str) -> Result<Date, Misread> {
+    let refusal = || Misread(format!("{} is no ISO 8601 date: write year-month-day, as in 2025-03-07", quoted(text)));
     let parts: Vec<&str> = text.split('-').collect();
     let [year, month, day] = parts[..] else {
         return Err(refusal());
@@ -39,12 +40,12 @@ pub fn read_form(text: &str) -> Result<Date, Trouble> {
 }
 
 /// Reads a date that is to be held; what is no date in the library's eyes must not get into a block as one.
-pub fn read_date(text: &str) -> Result<Date, Trouble> {
+pub fn read_date(text: &str) -> Result<Date, Misread> {
     let date = read_form(text)?;
     if proved::is_date(date) {
         Ok(date)
     } else {
-        Err(Trouble::Usage(format!("'{text}' is no day of the calendar from 2000-01-01 to 2199-12-31")))
+        Err(Misread(format!("{} is no day of the calendar from 2000-01-01 to 2199-12-31", quoted(text))))
     }
 }
 

@@ -39,6 +39,11 @@ pub fn all(block: &[u8], size: u32) -> Result<Vec<Page>, No> {
     }
 }
 
+/// How many labels a block shows: the records of one page with room for all.
+pub fn count(block: &[u8]) -> Result<u32, No> {
+    Ok(all(block, MOST_LENT as u32)?.iter().map(|page| page.told.records).sum())
+}
+
 /// The records that some bytes are, one behind the other.
 fn read_records(bytes: &[u8]) -> Vec<Record> {
     let mut records = Vec::new();

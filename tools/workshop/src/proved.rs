@@ -4,9 +4,9 @@ use crate::dates::{Date, Day, Month, Year};
 use crate::trouble::No;
 
 extern "C" {
-    fn exports_format(block: *mut u8, block_size: usize, edition: u32) -> u8;
-    fn exports_validate(block: *const u8, block_size: usize) -> u8;
-    fn exports_write_list(
+    fn register_format(block: *mut u8, block_size: usize, edition: u32) -> u8;
+    fn register_validate(block: *const u8, block_size: usize) -> u8;
+    fn register_write_list(
         block: *const u8,
         block_size: usize,
         key: *const u8,
@@ -16,9 +16,9 @@ extern "C" {
         list_size: usize,
         records: *mut u32,
     ) -> u8;
-    fn exports_remove(block: *mut u8, block_size: usize, key: *const u8, key_size: usize, count: *mut u32) -> u8;
-    fn exports_get(block: *const u8, block_size: usize, key: *const u8, key_size: usize, value: *mut u32) -> u8;
-    fn exports_next_key(
+    fn register_remove(block: *mut u8, block_size: usize, key: *const u8, key_size: usize, count: *mut u32) -> u8;
+    fn register_get(block: *const u8, block_size: usize, key: *const u8, key_size: usize, value: *mut u32) -> u8;
+    fn register_next_key(
         block: *const u8,
         block_size: usize,
         key: *const u8,
@@ -26,7 +26,7 @@ extern "C" {
         next_size: *mut u32,
         next_key: *mut u8,
     ) -> u8;
-    fn exports_page(
+    fn register_page(
         block: *const u8,
         block_size: usize,
         key: *const u8,
@@ -37,10 +37,10 @@ extern "C" {
         used: *mut u32,
         more: *mut u32,
     ) -> u8;
-    fn exports_snapshot(block: *mut u8, block_size: usize, slot: u32) -> u8;
-    fn exports_restore(block: *mut u8, block_size: usize, slot: u32) -> u8;
-    fn exports_release(block: *mut u8, block_size: usize, slot: u32) -> u8;
-    fn exports_verdict(
+    fn register_snapshot(block: *mut u8, block_size: usize, slot: u32) -> u8;
+    fn register_restore(block: *mut u8, block_size: usize, slot: u32) -> u8;
+    fn register_release(block: *mut u8, block_size: usize, slot: u32) -> u8;
+    fn register_verdict(
         block: *const u8,
         block_size: usize,
         label: *const u8,
@@ -131,12 +131,12 @@ fn result<T>(answer: u8, given: T) -> Result<T, No> {
 
 /// Makes the block a fresh one of an edition.
 pub fn format(block: &mut [u8], edition: u32) -> Result<(), No> {
-    result(unsafe { exports_format(block.as_mut_ptr(), block.len(), edition) }, ())
+    result(unsafe { register_format(block.as_mut_ptr(), block.len(), edition) }, ())
 }
 
 /// Judges whether the block is sound.
 pub fn validate(block: &[u8]) -> Result<(), No> {
-    result(unsafe { exports_validate(block.as_ptr(), block.len()) }, ())
+    result(unsafe { register_validate(block.as_ptr(), block.len()) }, ())
 }
 
 /// Gives the stores that enter a label with its value, in order: eight for each cell that it takes, then the root word. There
@@ -145,7 +145,7 @@ pub fn write_list(block: &[u8], label: &[u8], value: u32) -> Result<Vec<Store>, 
     let mut list = vec![0; block.len() / 4 * STORE_SIZE];
     let mut records = 0;
     let answer = unsafe {
-        exports_write_list(
+        register_write_list(
             block.as_ptr(),
             block.len(),
             label.as_ptr(),
@@ -169,14 +169,14 @@ fn read_store(record: &[u8]) -> Store {
 /// Removes a label and tells how many cells that took.
 pub fn remove(block: &mut [u8], label: &[u8]) -> Result<u32, No> {
     let mut count = 0;
-    let answer = unsafe { exports_remove(block.as_mut_ptr(), block.len(), label.as_ptr(), label.len(), &mut count) };
+    let answer = unsafe { register_remove(block.as_mut_ptr(), block.len(), label.as_ptr(), label.len(), &mut count) };
     result(answer, count)
 }
 
 /// Looks up the value of a label.
 pub fn get(block: &[u8], label: &[u8]) -> Result<u32, No> {
     let mut value = 0;
-    let answer = unsafe { exports_get(block.as_ptr(), block.len(), label.as_ptr(), label.len(), &mut value) };
+    let answer = unsafe { register_get(block.as_ptr(), block.len(), label.as_ptr(), label.len(), &mut value) };
     result(answer, value)
 }
 
@@ -185,7 +185,7 @@ pub fn next_key(block: &[u8], label: &[u8]) -> Result<Vec<u8>, No> {
     let mut size = 0;
     let mut next = [0; LABEL_ROOM];
     let answer = unsafe {
-        exports_next_key(block.as_ptr(), block.len(), label.as_ptr(), label.len(), &mut size, next.as_mut_ptr())
+        register_next_key(block.as_ptr(), block.len(), label.as_ptr(), label.len(), &mut size, next.as_mut_ptr())
     };
     result(answer, next[..size as usize].to_vec())
 }
@@ -194,7 +194,7 @@ pub fn next_key(block: &[u8], label: &[u8]) -> Result<Vec<u8>, No> {
 pub fn page(block: &[u8], label: &[u8], buffer: &mut [u8]) -> Result<Told, No> {
     let (mut records, mut used, mut more) = (0, 0, 0);
     let answer = unsafe {
-        exports_page(
+        register_page(
             block.as_ptr(),
             block.len(),
             label.as_ptr(),
@@ -211,17 +211,17 @@ pub fn page(block: &[u8], label: &[u8], buffer: &mut [u8]) -> Result<Told, No> {
 
 /// Marks the present state in a slot.
 pub fn snapshot(block: &mut [u8], slot: u32) -> Result<(), No> {
-    result(unsafe { exports_snapshot(block.as_mut_ptr(), block.len(), slot) }, ())
+    result(unsafe { register_snapshot(block.as_mut_ptr(), block.len(), slot) }, ())
 }
 
 /// Goes back to the state marked in a slot.
 pub fn restore(block: &mut [u8], slot: u32) -> Result<(), No> {
-    result(unsafe { exports_restore(block.as_mut_ptr(), block.len(), slot) }, ())
+    result(unsafe { register_restore(block.as_mut_ptr(), block.len(), slot) }, ())
 }
 
 /// Drops the mark in a slot, so that its cells can be used again.
 pub fn release(block: &mut [u8], slot: u32) -> Result<(), No> {
-    result(unsafe { exports_release(block.as_mut_ptr(), block.len(), slot) }, ())
+    result(unsafe { register_release(block.as_mut_ptr(), block.len(), slot) }, ())
 }
 
 /// Judges whether the cartridge of a label may be laid today, and gives the dose in millilitres.
@@ -231,7 +231,7 @@ pub fn verdict(block: &[u8], label: &[u8], today: Date, reading: Reading, sheet:
     let (kind, low, high) = gate_numbers(sheet.gate);
     let mut dose = 0.0;
     let answer = unsafe {
-        exports_verdict(
+        register_verdict(
             block.as_ptr(),
             block.len(),
             label.as_ptr(),
@@ -276,5 +276,13 @@ pub fn is_date(date: Date) -> bool {
     let sheet = Sheet { gate: Gate::Any, section: 1.0, length: 1.0 };
     let answer = format(&mut block, USUAL_EDITION)
         .and_then(|()| verdict(&block, b"A", date, Reading::Celsius(0.0), sheet));
+    answer == Err(No::MISSING)
+}
+
+/// Asks the library whether these bytes can be a label, so that their rule too stands only in proved code: a fresh block has no
+/// label, so that a look-up is 11 (no such label) for one that could be held, and the lower 3 for anything else.
+pub fn is_label(label: &[u8]) -> bool {
+    let mut block = [0; 4 * CELL_SIZE];
+    let answer = format(&mut block, USUAL_EDITION).and_then(|()| get(&block, label));
     answer == Err(No::MISSING)
 }

@@ -1,6 +1,6 @@
 -- `countable` meets its contract.
 use borrow.Author.Tests.{le-leb, lt-leb}
-use Rattle.exports.specs.Code.PageNumbers.{countable}
+use Rattle.exports.specs.PageNumbers.{countable}
 use Rattle.exports.proofs.page.countable.Statement.{statement}
 use Rattle.exports.proofs.page.countable.Tie as tie
 
