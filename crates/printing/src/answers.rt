@@ -1,6 +1,7 @@
 // One line for what a call answers, its name first.
 use crate::lines;
 use blocks::answer::{ChangeAnswer, CountAnswer, change_number, count_number};
+use std::io;
 
 // The count of a call that allocates cells, 0 where it was refused.
 fn count_of(answer: CountAnswer) -> u32 {
@@ -11,16 +12,16 @@ fn count_of(answer: CountAnswer) -> u32 {
 }
 
 // How many cells a call allocated.
-pub fn count(name: &[u8], answer: CountAnswer) {
-    lines::number(name, count_of(answer));
+pub fn count(rt: &impl Print, name: &[u8], answer: CountAnswer) -> io::Result<()> {
+    lines::number(rt, name, count_of(answer))
 }
 
 // The answer number of a call that allocates cells.
-pub fn count_answer(name: &[u8], answer: CountAnswer) {
-    lines::number(name, count_number(answer) as u32);
+pub fn count_answer(rt: &impl Print, name: &[u8], answer: CountAnswer) -> io::Result<()> {
+    lines::number(rt, name, count_number(answer) as u32)
 }
 
 // The answer number of a call that changes a block or judges it.
-pub fn change_answer(name: &[u8], answer: ChangeAnswer) {
-    lines::number(name, change_number(answer) as u32);
+pub fn change_answer(rt: &impl Print, name: &[u8], answer: ChangeAnswer) -> io::Result<()> {
+    lines::number(rt, name, change_number(answer) as u32)
 }

@@ -1,3 +1,5 @@
 // What the programs that run samples write.
+#![tactic(auto)]
+
 pub mod answers;
 pub mod lines;

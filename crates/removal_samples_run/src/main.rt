@@ -1,8 +1,11 @@
 // Runs removals from the bench samples of the specification and from splits on the code, and writes what they give.
+#![tactic(auto)]
+
 ghost use Rattle.std.specs.Prelude.{◌≤◌, length};
 
 use printing::{answers, lines};
 use snapshots::{release, snapshot};
+use std::io;
 use store::formatting::format;
 use store::inserting::insert;
 use store::removing::remove;
@@ -21,82 +24,82 @@ fn grown(block: &mut [u8], first: &[u8], others: &[u8])
 }
 
 // Removes a key of one byte; writes how many cells that allocated, and the root.
-fn removed(name: &[u8], block: &mut [u8], key: u8)
+fn removed(rt: &impl Print, name: &[u8], block: &mut [u8], key: u8) -> io::Result<()>
     requires { 32 ≤ length block.old }
 {
     let keys = [key];
     let answer = remove(block, &keys);
-    io::write_all(1, name);
-    answers::count(b" count ", answer);
-    io::write_all(1, name);
-    lines::root(b" root ", block);
+    rt.write_all(name)?;
+    answers::count(rt, b" count ", answer)?;
+    rt.write_all(name)?;
+    lines::root(rt, b" root ", block)
 }
 
 // The only key of sample A, twice.
-fn only_key() {
+fn only_key(rt: &impl Print) -> io::Result<()> {
     let mut block = [0xA5u8; 128];
     grown(&mut block, b"A", b"");
-    answers::count(b"A without 41 count ", remove(&mut block, b"A"));
-    lines::bytes(b"A without 41 block ", &block);
-    answers::count_answer(b"41 once more answer ", remove(&mut block, b"A"));
+    answers::count(rt, b"A without 41 count ", remove(&mut block, b"A"))?;
+    lines::bytes(rt, b"A without 41 block ", &block)?;
+    answers::count_answer(rt, b"41 once more answer ", remove(&mut block, b"A"))
 }
 
 // A key of sample G, whose sparse cell is written anew.
-fn written_anew() {
+fn written_anew(rt: &impl Print) -> io::Result<()> {
     let mut block = [0xA5u8; 256];
     grown(&mut block, b"CHA", b"A5");
-    removed(b"G without 41", &mut block, b'A');
-    lines::cell(b"G without 41 cell 4 ", &block, 4);
+    removed(rt, b"G without 41", &mut block, b'A')?;
+    lines::cell(rt, b"G without 41 cell 4 ", &block, 4)
 }
 
 // Both keys of sample H, each from a block of its own.
-fn prefix_cell() {
+fn prefix_cell(rt: &impl Print) -> io::Result<()> {
     let mut block = [0xA5u8; 256];
     grown(&mut block, b"CHA", b"");
     insert(&mut block, b"C", 5);
     let mut other = block;
-    removed(b"H without 43", &mut block, b'C');
-    lines::cell(b"H without 43 cell 4 ", &block, 4);
+    removed(rt, b"H without 43", &mut block, b'C')?;
+    lines::cell(rt, b"H without 43 cell 4 ", &block, 4)?;
     remove(&mut other, b"CHA");
-    lines::cell(b"H without 43 48 41 cell 4 ", &other, 4);
+    lines::cell(rt, b"H without 43 48 41 cell 4 ", &other, 4)
 }
 
 // The seven children that make a split: one that keeps six of them, and, with an eighth, one that keeps seven.
-fn splits() {
+fn splits(rt: &impl Print) -> io::Result<()> {
     let mut block = [0u8; 512];
     grown(&mut block, b"3", b"5ABCPQ");
     let mut other = block;
-    removed(b"seven without 42", &mut block, b'B');
-    lines::cell(b"seven without 42 cell 13 ", &block, 13);
+    removed(rt, b"seven without 42", &mut block, b'B')?;
+    lines::cell(rt, b"seven without 42 cell 13 ", &block, 13)?;
     insert(&mut other, b"R", 7);
-    removed(b"eight without 33", &mut other, b'3');
+    removed(rt, b"eight without 33", &mut other, b'3')
 }
 
 // A split whose end and mid are emptied.
-fn emptied_cells() {
+fn emptied_cells(rt: &impl Print) -> io::Result<()> {
     let mut block = [0u8; 768];
     grown(&mut block, b"3", b"ABCPQRS");
-    removed(b"emptied", &mut block, b'3');
+    removed(rt, b"emptied", &mut block, b'3')
 }
 
 // A block with no free cell, until a slot is released.
-fn full_block() {
+fn full_block(rt: &impl Print) -> io::Result<()> {
     let mut block = [0u8; 128];
     grown(&mut block, b"A", b"");
     snapshot(&mut block, 1);
     insert(&mut block, b"B", 1);
-    answers::count_answer(b"full 41 answer ", remove(&mut block, b"A"));
-    answers::count_answer(b"full 43 answer ", remove(&mut block, b"C"));
-    answers::count_answer(b"full no bytes answer ", remove(&mut block, b""));
+    answers::count_answer(rt, b"full 41 answer ", remove(&mut block, b"A"))?;
+    answers::count_answer(rt, b"full 43 answer ", remove(&mut block, b"C"))?;
+    answers::count_answer(rt, b"full no bytes answer ", remove(&mut block, b""))?;
     release(&mut block, 1);
-    removed(b"released 41", &mut block, b'A');
+    removed(rt, b"released 41", &mut block, b'A')
 }
 
-fn main() {
-    only_key();
-    written_anew();
-    prefix_cell();
-    splits();
-    emptied_cells();
-    full_block();
+fn main(rt: HostRuntime) -> io::Result<()> {
+    only_key(&rt)?;
+    written_anew(&rt)?;
+    prefix_cell(&rt)?;
+    splits(&rt)?;
+    emptied_cells(&rt)?;
+    full_block(&rt)
 }

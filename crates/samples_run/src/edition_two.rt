@@ -2,39 +2,44 @@
 use crate::insert_byte;
 use blocks::validate::validate;
 use printing::{answers, lines};
+use std::io;
 use store::formatting::format;
 use store::inserting::insert;
 
 // Sample H takes two cells in either edition.
-fn sample_h() {
+fn sample_h(rt: &impl Print) -> io::Result<()> {
     let mut block = [0xA5u8; 256];
     format(&mut block, 2);
     insert(&mut block, b"CHA", 0);
-    answers::count(b"H in edition 2 count ", insert_byte(&mut block, b'C', 5));
+    answers::count(
+        rt,
+        b"H in edition 2 count ",
+        insert_byte(&mut block, b'C', 5),
+    )
 }
 
 // The value of C in the cell of the run below it; the same block judged as one of edition 1.
-fn run_below() {
+fn run_below(rt: &impl Print) -> io::Result<()> {
     let mut block = [0xA5u8; 256];
     format(&mut block, 2);
     insert_byte(&mut block, b'C', 5);
-    answers::count(b"run below C count ", insert(&mut block, b"CHA", 0));
-    lines::cell(b"run below C cell 2 ", &block, 2);
-    lines::root(b"run below C root ", &block);
-    answers::change_answer(b"as edition 2 answer ", validate(&block));
+    answers::count(rt, b"run below C count ", insert(&mut block, b"CHA", 0))?;
+    lines::cell(rt, b"run below C cell 2 ", &block, 2)?;
+    lines::root(rt, b"run below C root ", &block)?;
+    answers::change_answer(rt, b"as edition 2 answer ", validate(&block))?;
     cells::put_word(&mut block, 252, 1);
-    answers::change_answer(b"as edition 1 answer ", validate(&block));
+    answers::change_answer(rt, b"as edition 1 answer ", validate(&block))
 }
 
 // Editions that there are none of.
-fn other_editions() {
+fn other_editions(rt: &impl Print) -> io::Result<()> {
     let mut block = [0u8; 128];
-    answers::change_answer(b"edition 0 answer ", format(&mut block, 0));
-    answers::change_answer(b"edition 3 answer ", format(&mut block, 3));
+    answers::change_answer(rt, b"edition 0 answer ", format(&mut block, 0))?;
+    answers::change_answer(rt, b"edition 3 answer ", format(&mut block, 3))
 }
 
-pub fn cases() {
-    sample_h();
-    run_below();
-    other_editions();
+pub fn cases(rt: &impl Print) -> io::Result<()> {
+    sample_h(rt)?;
+    run_below(rt)?;
+    other_editions(rt)
 }

@@ -6,6 +6,7 @@ use dosing::temperature::{Reading, TemperatureGate, to_celsius};
 use dosing::verdict::{VerdictAnswer, verdict};
 use order_list::is_valid_order;
 use printing::lines;
+use std::io;
 use store::formatting::format;
 
 // One or zero.
@@ -14,19 +15,19 @@ fn flag(holds: bool) -> u32 {
 }
 
 // An order word of sample I, and whether it is one.
-fn order_word(word: u16) {
-    io::write_all(1, b"I ");
-    io::print_hex(1, word as u64, 4);
-    lines::number(b" ", flag(is_valid_order(word)));
+fn order_word(rt: &impl Print, word: u16) -> io::Result<()> {
+    print!(rt; "I ")?;
+    print!(rt; "{word:04x}")?;
+    lines::number(rt, b" ", flag(is_valid_order(word)))
 }
 
 // Sample I.
-pub fn order_words() {
-    order_word(0x0006);
-    order_word(0x0026);
-    order_word(0x8129);
-    order_word(0x0001);
-    order_word(0x0007);
+pub fn order_words(rt: &impl Print) -> io::Result<()> {
+    order_word(rt, 0x0006)?;
+    order_word(rt, 0x0026)?;
+    order_word(rt, 0x8129)?;
+    order_word(rt, 0x0001)?;
+    order_word(rt, 0x0007)
 }
 
 // The answer number of a verdict.
@@ -62,8 +63,14 @@ fn judged(today: Date, gate: TemperatureGate, reading: Reading) -> VerdictAnswer
 }
 
 // Judges that cartridge and writes the answer number.
-fn answered(name: &[u8], today: Date, gate: TemperatureGate, reading: Reading) {
-    lines::number(name, verdict_number(judged(today, gate, reading)));
+fn answered(
+    rt: &impl Print,
+    name: &[u8],
+    today: Date,
+    gate: TemperatureGate,
+    reading: Reading,
+) -> io::Result<()> {
+    lines::number(rt, name, verdict_number(judged(today, gate, reading)))
 }
 
 // A date as the number that a block holds, 0 where it is none.
@@ -75,28 +82,44 @@ fn packed_number(date: Date) -> u32 {
 }
 
 // Samples J, K and L.
-pub fn dates() {
+pub fn dates(rt: &impl Print) -> io::Result<()> {
     let gate = TemperatureGate::Any;
     let room = Reading::Celsius(20.0);
     let expiry = date_of(Year(2025), Month(3), Day(7));
-    lines::number(b"J packed ", packed_number(expiry));
-    answered(b"J that day ", expiry, gate, room);
+    lines::number(rt, b"J packed ", packed_number(expiry))?;
+    answered(rt, b"J that day ", expiry, gate, room)?;
     let next = date_of(Year(2025), Month(3), Day(8));
-    answered(b"J next day ", next, gate, room);
+    answered(rt, b"J next day ", next, gate, room)?;
     let july = date_of(Year(2025), Month(7), Day(3));
-    answered(b"J 3 July 2025 ", july, gate, room);
-    lines::number(b"K 240 ml ", flag(gives(judged(expiry, gate, room), 240.0)));
-    lines::number(b"L 200 degrees ", flag(to_celsius(392.0) == 200.0));
+    answered(rt, b"J 3 July 2025 ", july, gate, room)?;
+    lines::number(
+        rt,
+        b"K 240 ml ",
+        flag(gives(judged(expiry, gate, room), 240.0)),
+    )?;
+    lines::number(rt, b"L 200 degrees ", flag(to_celsius(392.0) == 200.0))
 }
 
 // Limits met exactly, and just missed.
-pub fn limits() {
+pub fn limits(rt: &impl Print) -> io::Result<()> {
     let day = date_of(Year(2025), Month(3), Day(7));
     let gate = TemperatureGate::Between(5.0, 200.0);
-    answered(b"low limit met ", day, gate, Reading::Celsius(5.0));
-    answered(b"high limit met ", day, gate, Reading::Fahrenheit(392.0));
-    answered(b"low limit missed ", day, gate, Reading::Celsius(4.5));
+    answered(rt, b"low limit met ", day, gate, Reading::Celsius(5.0))?;
+    answered(
+        rt,
+        b"high limit met ",
+        day,
+        gate,
+        Reading::Fahrenheit(392.0),
+    )?;
+    answered(rt, b"low limit missed ", day, gate, Reading::Celsius(4.5))?;
     let any = TemperatureGate::Any;
-    answered(b"reading limit met ", day, any, Reading::Celsius(400.0));
-    answered(b"reading limit missed ", day, any, Reading::Celsius(400.5));
+    answered(rt, b"reading limit met ", day, any, Reading::Celsius(400.0))?;
+    answered(
+        rt,
+        b"reading limit missed ",
+        day,
+        any,
+        Reading::Celsius(400.5),
+    )
 }
