@@ -5,7 +5,7 @@ ghost use Rattle.blocks.specs.Answers.{refusal_number, change_number, count_numb
 use nodes::layout::KEY_LIMIT;
 
 // Why a call did nothing, in the order of the answer numbers.
-#[derive(Drop)]
+#[derive(Clone, Copy)]
 pub enum Refusal {
     BadSize,
     Unsound,
@@ -25,28 +25,28 @@ pub enum Refusal {
 }
 
 // The answer of a call that changes a block, or only judges it.
-#[derive(Drop)]
+#[derive(Clone, Copy)]
 pub enum ChangeAnswer {
     Done,
     Refused(Refusal),
 }
 
 // The answer of a call that allocates cells: how many.
-#[derive(Drop)]
+#[derive(Clone, Copy)]
 pub enum CountAnswer {
     Done(u32),
     Refused(Refusal),
 }
 
 // The answer of a look-up.
-#[derive(Drop)]
+#[derive(Clone, Copy)]
 pub enum GetAnswer {
     Value(u32),
     Refused(Refusal),
 }
 
 // The answer of the next key; an enum holds no array, so the key stands beside, zero past its size.
-#[derive(Drop)]
+#[derive(Clone, Copy)]
 pub struct NextAnswer {
     pub answer: ChangeAnswer,
     pub size: usize,

@@ -1,4 +1,6 @@
 // What a block is and shows: its trailer, whether it is sound, and the calls that only read it.
+#![tactic(auto)]
+
 pub mod answer;
 pub mod get;
 pub mod key;

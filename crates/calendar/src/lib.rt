@@ -1,20 +1,22 @@
+#![tactic(auto)]
+
 ghost use Rattle.std.specs.Prelude.{true, ◌≡◌};
 ghost use Rattle.calendar.specs.Date.{is_leap, february_days, days_of_month, date_of, is_date, packed_date, unpacked_date, is_after};
 
 // A year of the Gregorian calendar; any number, until `is_date` has judged it.
-#[derive(Drop)]
+#[derive(Clone, Copy)]
 pub struct Year(pub u32);
 
 // A month, 1 for January; any number until judged.
-#[derive(Drop)]
+#[derive(Clone, Copy)]
 pub struct Month(pub u32);
 
 // A day of its month, from 1 on; any number until judged.
-#[derive(Drop)]
+#[derive(Clone, Copy)]
 pub struct Day(pub u32);
 
 // Three parts that need not be a date, so that what comes in can be judged before it is packed.
-#[derive(Drop)]
+#[derive(Clone, Copy)]
 pub struct Date {
     pub year: Year,
     pub month: Month,

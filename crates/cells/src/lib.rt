@@ -1,4 +1,6 @@
 // Bytes, words and 32-byte cells of a block.
+#![tactic(auto)]
+
 ghost use Rattle.std.specs.Prelude.{◌≡◌, ◌+◌, ◌-◌, ◌*◌, ◌≤◌, length};
 ghost use Rattle.cells.specs.Word.{word_of, word_at, with_word};
 ghost use Rattle.cells.specs.Memory.{memory_of};

@@ -5,7 +5,7 @@ ghost use Rattle.dosing.specs.Sheet.{dose_of, valid_sheet};
 use crate::temperature::{TemperatureGate, is_valid_gate, is_within};
 
 // The bead's section is in square millimetres, its length in millimetres.
-#[derive(Drop)]
+#[derive(Clone, Copy)]
 pub struct ProductSheet {
     pub gate: TemperatureGate,
     pub section: f32,

@@ -3,14 +3,14 @@ ghost use Rattle.std.specs.Prelude.{◌≡◌};
 ghost use Rattle.dosing.specs.Temperature.{celsius, in_gate, on_scale, to_celsius, valid_gate, valid_reading, within};
 
 // A thermometer's number in its own unit.
-#[derive(Drop)]
+#[derive(Clone, Copy)]
 pub enum Reading {
     Celsius(f32),
     Fahrenheit(f32),
 }
 
 // The temperatures, in Celsius, at which a product may be applied.
-#[derive(Drop)]
+#[derive(Clone, Copy)]
 pub enum TemperatureGate {
     Any,
     AtLeast(f32),

@@ -13,7 +13,7 @@ use blocks::get::get;
 use calendar::{Date, is_after, is_date, unpacked};
 
 // The answer of the verdict: the bead's dose in millilitres, or why there is none.
-#[derive(Drop)]
+#[derive(Clone, Copy)]
 pub enum VerdictAnswer {
     Dose(f32),
     Refused(Refusal),

@@ -1,5 +1,7 @@
 // The calls for controller firmware in C, over numbers and bytes: the result is the answer number of the field's table, and
 // what stands beside it goes through a reference, zero where the answer is no.
+#![tactic(auto)]
+
 ghost use Rattle.std.specs.Prelude.{◌≡◌};
 ghost use Rattle.firmware.specs.Choices.{ours};
 ghost use Rattle.firmware.specs.NumberCalls.{get_numbers, insert_numbers, verdict_numbers};

@@ -12,7 +12,7 @@ use store::inserting::insert;
 use store::removing::remove;
 
 // Why a run stopped: the bytes are at their end, they encode no call, or there is no room for one more answer.
-#[derive(Drop)]
+#[derive(Clone, Copy)]
 pub enum Stop {
     AtEnd,
     NoCall,
@@ -20,7 +20,7 @@ pub enum Stop {
 }
 
 // What one step did: nothing where the bytes encode no call, else how many bytes it took and the call's answer number.
-#[derive(Drop)]
+#[derive(Clone, Copy)]
 pub enum Stepped {
     Nothing,
     Did(usize, u8),
@@ -28,7 +28,7 @@ pub enum Stepped {
 
 // What a run did: nothing where the block's size is bad or there is no such edition, else how many calls it ran and why it
 // stopped.
-#[derive(Drop)]
+#[derive(Clone, Copy)]
 pub enum RunAnswer {
     BadSize,
     Ran(usize, Stop),

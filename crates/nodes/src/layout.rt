@@ -21,7 +21,7 @@ pub fn cell_limit() -> usize
     CELL_LIMIT
 }
 
-#[derive(Drop)]
+#[derive(Clone, Copy)]
 pub struct Layout {
     pub edition: u32,
     pub cells: usize,

@@ -18,7 +18,7 @@ use crate::step::{ChildStep, branch_step};
 use cells::{cell, word_at};
 
 // A character with its child word; Broken where a rule is broken on the way to the first that could have one.
-#[derive(Drop)]
+#[derive(Clone, Copy)]
 pub enum Least {
     Found(u8, u32),
     Missing,

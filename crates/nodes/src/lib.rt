@@ -1,4 +1,6 @@
 // Pointers and nodes: what one word names, read from its cells.
+#![tactic(auto)]
+
 pub mod chains;
 pub mod layout;
 pub mod least;

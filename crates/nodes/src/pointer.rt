@@ -7,7 +7,7 @@ use crate::layout::{Layout, is_usable};
 use cells::inverted;
 
 // A leaf holds its value, the others their cell, and a chain also the place of its character.
-#[derive(Drop)]
+#[derive(Clone, Copy)]
 pub enum Pointer {
     Nothing,
     Leaf(u32),

@@ -15,7 +15,7 @@ use crate::split::{is_valid_branch, is_valid_head};
 use cells::{cell, word_at};
 
 // Broken where a rule is broken on the way.
-#[derive(Drop)]
+#[derive(Clone, Copy)]
 pub enum ChildStep {
     Found(u32),
     Missing,

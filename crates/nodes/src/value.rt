@@ -8,7 +8,7 @@ use crate::layout::Layout;
 use crate::pointer::{Pointer, pointer_of};
 use cells::{cell, word_at};
 
-#[derive(Drop)]
+#[derive(Clone, Copy)]
 pub enum Value {
     Held(u32),
     Empty,

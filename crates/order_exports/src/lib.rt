@@ -1,4 +1,6 @@
 // The check of one order word alone, for tests and tools.
+#![tactic(auto)]
+
 ghost use Rattle.std.specs.Prelude.{◌≡◌, cond};
 ghost use Rattle.order_words.specs.Order.{valid_order};
 

@@ -1,4 +1,6 @@
 // The check of an order word: a search in the list of all that are valid.
+#![tactic(auto)]
+
 ghost use Rattle.std.specs.Prelude.{◌≡◌, ◌≤◌};
 ghost use Rattle.order_words.specs.Order.{valid_order};
 ghost use Rattle.order_list.specs.Words.{order_words};

@@ -1,4 +1,6 @@
 // The digits of an order word.
+#![tactic(auto)]
+
 ghost use Rattle.std.specs.Prelude.{◌≡◌, length, get_or};
 ghost use Rattle.order_words.specs.Digits.{order_digits};
 

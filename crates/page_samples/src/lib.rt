@@ -1,1 +1,2 @@
 // Values of pages, under one proof. No code.
+#![tactic(auto)]

@@ -13,7 +13,7 @@ use blocks::validate::validate;
 use nodes::layout::KEY_LIMIT;
 
 // The answer of a page: the records written, the bytes used and whether more remain, zeros beside a refusal.
-#[derive(Drop)]
+#[derive(Clone, Copy)]
 pub struct PageAnswer {
     pub answer: ChangeAnswer,
     pub records: usize,

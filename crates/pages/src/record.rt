@@ -8,7 +8,7 @@ use cells::put_word;
 use nodes::layout::KEY_LIMIT;
 
 // What a page has so far: its records, the bytes that they use, and whether one did not fit.
-#[derive(Drop)]
+#[derive(Clone, Copy)]
 pub struct Progress {
     pub records: usize,
     pub used: usize,

@@ -19,7 +19,7 @@ use nodes::value::{Value, value_at};
 use trees::next_key::put_character;
 
 // Where the walk stands: a word and how many characters lead to it.
-#[derive(Drop)]
+#[derive(Clone, Copy)]
 pub struct Stand {
     pub word: u32,
     pub at: usize,

@@ -1,1 +1,2 @@
 // Values of removals, under one proof. No code.
+#![tactic(auto)]

@@ -1,4 +1,6 @@
 // The staged build of a removal.
+#![tactic(auto)]
+
 pub mod children;
 pub mod left;
 pub mod lose_child;

@@ -1,4 +1,6 @@
 // Snapshots of a block: keeping the root in a slot, returning to it and giving it up.
+#![tactic(auto)]
+
 ghost use Rattle.std.specs.Prelude.{true, ◌≡◌, length};
 ghost use Rattle.blocks.specs.Answers.{change_number, changed_outcome};
 ghost use Rattle.blocks.specs.Code.Fits.{Fits};

@@ -18,7 +18,7 @@ pub const STAGE_CELLS: usize = 4 * KEY_LIMIT + 10;
 pub const STAGE_SIZE: usize = 32 * STAGE_CELLS;
 
 // What a build has made so far: the word of the new node, whether its cell is the newest, and how many cells are staged.
-#[derive(Drop)]
+#[derive(Clone, Copy)]
 pub struct BuildState {
     pub word: u32,
     pub own: bool,

@@ -50,7 +50,7 @@ pub fn commit(
 }
 
 // What is built in the stage, and whether as many cells are free.
-#[derive(Drop)]
+#[derive(Clone, Copy)]
 pub struct Staged {
     pub made: BuildState,
     pub fits: bool,

@@ -13,7 +13,7 @@ use nodes::layout::{CELL_LIMIT, Layout, is_usable, trailer_cells};
 use staging::stage::STAGE_CELLS;
 
 // Whether a block is sound, and how many of its free cells are listed.
-#[derive(Drop)]
+#[derive(Clone, Copy)]
 pub struct FreeList {
     pub sound: bool,
     pub count: usize,

@@ -16,7 +16,7 @@ use staging::stage::{STAGE_CELLS, STAGE_SIZE};
 use updates::build::build;
 
 // What an insertion that is not refused so far goes on with; the free cells are listed beside it.
-#[derive(Drop)]
+#[derive(Clone, Copy)]
 pub struct Ready {
     pub layout: Layout,
     pub free: usize,
@@ -24,7 +24,7 @@ pub struct Ready {
 }
 
 // What judging an insertion tells.
-#[derive(Drop)]
+#[derive(Clone, Copy)]
 pub enum Judged {
     Refused(Refusal),
     Passed(Ready),

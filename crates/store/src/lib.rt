@@ -1,4 +1,6 @@
 // The calls that change a block.
+#![tactic(auto)]
+
 pub mod committing;
 pub mod formatting;
 pub mod free_cells;

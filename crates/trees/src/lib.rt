@@ -1,4 +1,6 @@
 // The tree of one root.
+#![tactic(auto)]
+
 pub mod lookup;
 pub mod next_key;
 pub mod stamps;

@@ -10,7 +10,7 @@ use nodes::layout::Layout;
 use nodes::step::{ChildStep, child_step};
 use nodes::value::{Value, value_at};
 
-#[derive(Drop)]
+#[derive(Clone, Copy)]
 pub enum Lookup {
     Value(u32),
     Missing,

@@ -12,7 +12,7 @@ use nodes::step::{ChildStep, child_step};
 use nodes::value::{Value, value_at};
 
 // Whether there is a key, and how many characters of it were written.
-#[derive(Drop)]
+#[derive(Clone, Copy)]
 pub struct NextStep {
     pub found: bool,
     pub size: usize,

@@ -1,4 +1,6 @@
 // The staged build of a change to one key: the path of the key copied, with a rule at its end.
+#![tactic(auto)]
+
 pub mod build;
 pub mod chain;
 pub mod prefix;

@@ -13,7 +13,7 @@ use staging::new_cells::put_words;
 use staging::stage::{BuildState, STAGE_CELLS, STAGE_SIZE, allocated_as};
 
 // The word of a branch that was made, NONE where all of its words are, and how many cells are staged.
-#[derive(Drop)]
+#[derive(Clone, Copy)]
 pub struct Placed {
     pub word: u32,
     pub count: usize,

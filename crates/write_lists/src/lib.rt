@@ -1,3 +1,5 @@
 // An insertion as a list of stores.
+#![tactic(auto)]
+
 mod listing;
 pub mod write_list;
