@@ -1,0 +1,46 @@
+-- The cells listed so far, and those left to look at, are all that are to be listed; the list ends where it is full.
+use mathlib.Core.Path.{refl}
+use mathlib.Core.Logic.{⊎_elim}
+use Prim.Native.Nat.{◌-◌}
+use native.Mathlib.Omega.{arith}
+use borrow.Author.Tests.{eq-eqb, ne_eqb}
+use Rattle.staging.specs.Code.Stage.{stage_cells}
+use Rattle.store.specs.Code.Unstamped.{ListedMore}
+use Rattle.store.proofs.FreeSteps.{listed_more, walk_kept, walk_dropped, walk_end, walk_full}
+use Rattle.store.proofs.free_cells.list_from.Goals as goal
+use Rattle.store.proofs.free_cells.list_from.Goals.{then-stamps-cell-eq0, else-stamps-cell-eq0}
+
+pub loop-cell-init : goal.loop-cell-init
+loop-cell-init c = (omega arith, omega arith, omega arith, refl)
+
+pub returns-then-count-eq-STAGE_CELLS : goal.returns-then-count-eq-STAGE_CELLS
+unfolding ListedMore
+returns-then-count-eq-STAGE_CELLS c =
+    let turn = c.loop-cell in
+    walk_full _ _ stage_cells turn.numbers turn.count _ turn.cell turn.invariant.3 (omega arith) (omega arith)
+
+pub loop-cell-preserved : goal.loop-cell-preserved
+loop-cell-preserved c =
+    let turn = c.loop-cell in
+    let put = c.put_number.ensures in
+    elim c.if-stamps-cell-eq0.branch [
+      | then-stamps-cell-eq0 w ↦ (
+        omega arith,
+        omega (arith, w.count-is),
+        listed_more turn.numbers _ turn.count _ _ put (omega (arith, w.count-is)) (omega arith),
+        walk_kept _ _ turn.numbers _ turn.count _ _ _ _
+            turn.invariant.3 (eq-eqb _ 0 w.if-stamps-cell-eq0.true) put w.count-is (omega arith) (omega arith),
+      )
+      | else-stamps-cell-eq0 w ↦ (
+        omega arith,
+        omega (arith, w.count-is),
+        listed_more turn.numbers _ turn.count _ _ put (omega (arith, w.count-is)) (omega arith),
+        walk_dropped _ _ turn.numbers _ turn.count _ _ _ _ turn.invariant.3 (ne_eqb _ 0 w.if-stamps-cell-eq0.false) put w.count-is (omega arith),
+      )
+    ]
+
+pub returns : goal.returns
+unfolding ListedMore
+returns c =
+    let turn = c.loop-cell in
+    walk_end _ _ stage_cells turn.numbers turn.count _ turn.cell turn.invariant.3 (omega arith) (omega arith) (omega arith)
