@@ -14,24 +14,21 @@ use store::formatting::format;
 use store::removing::remove;
 
 // Makes a block fresh, of an edition.
-#[unsafe(no_mangle)]
-pub extern "C" fn register_format(block: &mut [u8], edition: u32) -> u8
+pub fn register_format(block: &mut [u8], edition: u32) -> u8
     ensures { format block.old edition ≡ record { answer = result; block = block.new } }
 {
     change_number(format(block, edition))
 }
 
 // Whether a block is valid in size and sound.
-#[unsafe(no_mangle)]
-pub extern "C" fn register_validate(block: &[u8]) -> u8
+pub fn register_validate(block: &[u8]) -> u8
     ensures { validate block.now ≡ result }
 {
     change_number(validate(block))
 }
 
 // Removes a key from a block, and counts the cells allocated.
-#[unsafe(no_mangle)]
-pub extern "C" fn register_remove(block: &mut [u8], key: &[u8], count: &mut u32) -> u8
+pub fn register_remove(block: &mut [u8], key: &[u8], count: &mut u32) -> u8
     ensures { remove block.old key.now ≡ record { answer = result; count = count.new; block = block.new } }
 {
     match remove(block, key) {
@@ -47,37 +44,28 @@ pub extern "C" fn register_remove(block: &mut [u8], key: &[u8], count: &mut u32)
 }
 
 // Keeps the root in a slot.
-#[unsafe(no_mangle)]
-pub extern "C" fn register_snapshot(block: &mut [u8], slot: u32) -> u8
+pub fn register_snapshot(block: &mut [u8], slot: u32) -> u8
     ensures { snapshot block.old slot ≡ record { answer = result; block = block.new } }
 {
     change_number(snapshot(block, slot))
 }
 
 // Makes the root that a slot holds the present one.
-#[unsafe(no_mangle)]
-pub extern "C" fn register_restore(block: &mut [u8], slot: u32) -> u8
+pub fn register_restore(block: &mut [u8], slot: u32) -> u8
     ensures { restore block.old slot ≡ record { answer = result; block = block.new } }
 {
     change_number(restore(block, slot))
 }
 
 // Gives up what a slot holds.
-#[unsafe(no_mangle)]
-pub extern "C" fn register_release(block: &mut [u8], slot: u32) -> u8
+pub fn register_release(block: &mut [u8], slot: u32) -> u8
     ensures { release block.old slot ≡ record { answer = result; block = block.new } }
 {
     change_number(release(block, slot))
 }
 
 // The least key that is greater than a given one, in 48 bytes.
-#[unsafe(no_mangle)]
-pub extern "C" fn register_next_key(
-    block: &[u8],
-    key: &[u8],
-    size: &mut u32,
-    out: &mut [u8; KEY_LIMIT],
-) -> u8
+pub fn register_next_key(block: &[u8], key: &[u8], size: &mut u32, out: &mut [u8; KEY_LIMIT]) -> u8
     ensures { next_key block.now key.now ≡ record { answer = result; size = size.new; key = out.new } }
 {
     let next = next_key(block, key);

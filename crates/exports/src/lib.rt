@@ -2,7 +2,7 @@
 // list of calls.
 #![tactic(auto)]
 
-mod calls;
-mod lists;
-mod page;
-mod write_list;
+pub mod calls;
+pub mod lists;
+pub mod page;
+pub mod write_list;

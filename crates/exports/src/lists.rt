@@ -17,8 +17,7 @@ fn stop_number(stop: Stop) -> u8
 
 // Makes a block fresh, of an edition, and runs the encoded calls on it, each answer number into the next answer byte: how the
 // run ended and how many calls it made.
-#[unsafe(no_mangle)]
-pub extern "C" fn exports_run_calls(
+pub fn exports_run_calls(
     block: &mut [u8],
     edition: u32,
     calls: &[u8],

@@ -27,8 +27,7 @@ fn bit(yes: bool) -> u32
 
 // Writes the records after a key into a buffer, in order: the records written, the bytes used and whether more remain. Of a buffer
 // longer than 4,294,967,295 bytes it takes the first so many.
-#[unsafe(no_mangle)]
-pub extern "C" fn register_page(
+pub fn register_page(
     block: &[u8],
     key: &[u8],
     buffer: &mut [u8],

@@ -6,8 +6,7 @@ use blocks::answer::{CountAnswer, number};
 use write_lists::write_list::write_list;
 
 // Writes an insertion as records of stores into a list buffer, for the memory driver, and counts them; the block is only read.
-#[unsafe(no_mangle)]
-pub extern "C" fn register_write_list(
+pub fn register_write_list(
     block: &[u8],
     key: &[u8],
     value: u32,

@@ -18,8 +18,7 @@ mod named;
 use crate::named::{gate_named, reading_named};
 
 // Inserts a key with its value into a block, and counts the cells allocated.
-#[unsafe(no_mangle)]
-pub extern "C" fn register_insert(block: &mut [u8], key: &[u8], value: u32, count: &mut u32) -> u8
+pub fn register_insert(block: &mut [u8], key: &[u8], value: u32, count: &mut u32) -> u8
     ensures { insert_numbers block.old key.now value ≡ record { answer = result; count = count.new; block = block.new } }
 {
     match insert(block, key, value) {
@@ -35,8 +34,7 @@ pub extern "C" fn register_insert(block: &mut [u8], key: &[u8], value: u32, coun
 }
 
 // The value that a block holds for a key.
-#[unsafe(no_mangle)]
-pub extern "C" fn register_get(block: &[u8], key: &[u8], value: &mut u32) -> u8
+pub fn register_get(block: &[u8], key: &[u8], value: &mut u32) -> u8
     ensures { get_numbers block.now key.now ≡ record { answer = result; value = value.new } }
 {
     match get(block, key) {
@@ -52,8 +50,7 @@ pub extern "C" fn register_get(block: &[u8], key: &[u8], value: &mut u32) -> u8
 }
 
 // Whether a bead may be laid today from the cartridge of a label at a temperature, and its dose in millilitres.
-#[unsafe(no_mangle)]
-pub extern "C" fn register_verdict(
+pub fn register_verdict(
     block: &[u8],
     label: &[u8],
     year: u32,

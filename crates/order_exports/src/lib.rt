@@ -7,8 +7,7 @@ ghost use Rattle.order_words.specs.Order.{valid_order};
 use order_list::is_valid_order;
 
 // Whether an order word is valid: 1, or 0.
-#[unsafe(no_mangle)]
-pub extern "C" fn exports_is_valid_order(word: u16) -> u8
+pub fn exports_is_valid_order(word: u16) -> u8
     ensures { result ≡ cond (valid_order word) 1 0 }
 {
     if is_valid_order(word) {
