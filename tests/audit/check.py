@@ -1,5 +1,5 @@
-"""Checks that definitions and the contracts of the calls rest on no definition that is there for the code alone, and that each
-definition has a line above it that says what it is."""
+"""Checks that definitions and the contracts of the calls rest on no definition that is there for the code alone, that what C calls
+promises what the call of the same name does, and that each definition has a line above it that says what it is."""
 
 import re
 import sys
@@ -30,7 +30,8 @@ CALLS = {
     "crates/exports/src/write_list.rt": ["register_write_list"],
 }
 DEFINITION = re.compile(r"(?:unfoldable|abbrev|pub record|pub data)\b(?! mutual)")
-IMPORT = re.compile(r"^(?:ghost )?use Rattle·\w+(?:·specs)?\.specs\.(?P<module>[\w.]+)\.\{(?P<names>[^}]*)\}", re.M)
+FUNCTION = re.compile(r"^pub (?:extern \"C\" )?fn (\w+)(\(.*?)^\{", re.M | re.S)
+IMPORT = re.compile(r"^(?:ghost )?use Rattle\.\w+\.specs\.(?P<module>[\w.]+)\.\{(?P<names>[^}]*)\}", re.M)
 
 
 def for_code(text):
@@ -77,7 +78,22 @@ def contracts():
                     yield f"{file}: the contract of {function} cites {name}, which is there for the code alone"
 
 
-found = [*definitions(), *unsaid(), *contracts()]
+def heads(crate):
+    """The parameters, result and contract of each function that a crate gives out, however they are broken into lines."""
+    texts = [path.read_text() for path in Path("crates", crate, "src").glob("*.rt")]
+    return {name: re.sub(r",?\s", "", head) for text in texts for name, head in FUNCTION.findall(text)}
+
+
+def exported():
+    """Functions for C that have not, word for word, the parameters and the contract of the call that they make."""
+    for folder in sorted(Path("crates").glob("*_c")):
+        calls = heads(folder.name.removesuffix("_c"))
+        for name, head in heads(folder.name).items():
+            if calls.get(name) != head:
+                yield f"{folder}: {name} has another contract than the call of that name"
+
+
+found = [*definitions(), *unsaid(), *contracts(), *exported()]
 for line in found:
     print(f"audit: {line}")
 if found:

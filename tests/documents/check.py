@@ -33,8 +33,8 @@ def parameters():
         for function, listed in re.findall(r"\b(register_\w+)\(([^;{)]*)\);", text):
             declared[function] = [re.sub(r"\[.*", "", one).split()[-1].lstrip("*") for one in listed.split(",")]
     proved = {}
-    for source in [Path("crates/firmware/src/lib.rt"), *sorted(Path("crates/exports/src").glob("*.rt"))]:
-        for function, listed in re.findall(r"pub extern \"C\" fn (register_\w+)\((.*?)\) -> u8", source.read_text(), re.S):
+    for source in ("crates/firmware_c/src/lib.rt", "crates/exports_c/src/lib.rt"):
+        for function, listed in re.findall(r"pub extern \"C\" fn (register_\w+)\((.*?)\) -> u8", Path(source).read_text(), re.S):
             names = re.findall(r"(\w+): (&(?:mut )?\[u8\])?", listed)
             proved[function] = [RENAMED.get(part, part) for name, lent in names for part in ([name, f"{name}_size"] if lent else [name])]
     for function in sorted(declared.keys() | proved.keys()):

@@ -12,13 +12,13 @@ import sys
 from functools import cache
 from pathlib import Path
 
-CRATES = {line.split(":")[0] for line in Path("crates.txt").read_text().splitlines() if ":" in line}
+CRATES = {line.split(":")[0].split()[0] for line in Path("crates.txt").read_text().splitlines() if ":" in line}
 PLACE = re.compile(r"[\w.]+(?:/[\w.-]+)+")
 FOLDERS = {"specs", "proofs"}
 # words that may stand before the name that a line of antt declares
 BEFORE_NAME = {"pub", "abbrev", "unfoldable", "mutual"}
 NO_NAME = {"use", "let", "module", "unfolding", "open", "λ", "in", "→", "="}
-IMPORT = re.compile(r"^use Rattle·(\w+?)(?:·\w+)?\.(specs|proofs)\.([\w.]+)\.\{([^}]*)\}", re.M)
+IMPORT = re.compile(r"^use Rattle\.(\w+)\.(specs|proofs)\.([\w.]+)\.\{([^}]*)\}", re.M)
 RUST = r"^\s*(?:pub )?(?:unsafe )?(?:extern \"C\" )?(?:fn|struct|enum|const|static|type) (\w+)"
 C_FUNCTION = r"^\w[\w *]*?\b(\w+)\([^;{]*\{"
 
