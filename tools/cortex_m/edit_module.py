@@ -8,7 +8,7 @@ import sys
 
 LAYOUT = 'target datalayout = "e-m:e-p270:32:32-p271:32:32-p272:64:64-i64:64-i128:128-f80:128-n8:16:32:64-S128"\n'
 TARGET = 'target triple = "x86_64-unknown-linux-gnu"\n'
-PROBE = ' "probe-stack"="inline-asm"'
+PROBE = ' "probe-stack"="inline-asm" "stack-probe-size"="3072"'
 PROCESSOR = ' "target-cpu"="x86-64"'
 
 # A function that C calls: numbers of 32 and 64 bits, floats and pointers go in, one byte comes out.
