@@ -57,7 +57,8 @@ fn list_from(
             return count;
         }
         put_number(numbers, count, cell as u16);
-        if stamps[cell] == 0 {
+        let is_free = stamps[cell] == 0;
+        if is_free {
             count += 1;
         }
         cell += 1;
