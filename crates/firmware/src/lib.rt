@@ -1,5 +1,5 @@
-// The calls for controller firmware in C, over numbers and bytes: the result is the answer number of the field's table, and
-// what stands beside it goes through a reference, zero where the answer is no.
+// The calls for controller firmware, over numbers and bytes as C has them: the result is the answer number of the field's table, and
+// what stands beside it goes through a reference, zero where the answer is no. The crate firmware_c exports them.
 #![tactic(auto)]
 
 ghost use Rattle.std.specs.Prelude.{◌≡◌};

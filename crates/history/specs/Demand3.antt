@@ -1,5 +1,5 @@
 -- Demand 3 of 00, with removals as 02, 1 asks, as one statement over every list of calls and any implementation.
-use Rattle.std.specs.Prelude.{◌≡◌, ◌≢◌, true, false, List, ◌∷◌, ◌++◌, ℕ, ◌+◌, ◌≤◌, length}
+use Rattle.std.specs.Prelude.{◌≡◌, ◌≢◌, true, false, List, ◌∷◌, ◌++◌, ℕ, ◌≤◌, length}
 use Rattle.std.proofs.Math.Option.{Option, none, some}
 use Rattle.cells.specs.Memory.{memory_of}
 use Rattle.cells.specs.Occurrences.{occurrences}

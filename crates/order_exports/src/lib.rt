@@ -1,4 +1,4 @@
-// The check of one order word alone, for tests and tools.
+// The check of one order word alone, for tests and tools. The crate order_exports_c exports it to C.
 #![tactic(auto)]
 
 ghost use Rattle.std.specs.Prelude.{◌≡◌, cond};

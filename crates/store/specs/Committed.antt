@@ -1,5 +1,5 @@
 -- A build written into a block, its cells at the numbers of free ones, and what a call that does so answers.
-use Rattle.std.specs.Prelude.{cond, List, [], ◌∷◌, ◌++◌, ℕ, ◌+◌, eqb, length}
+use Rattle.std.specs.Prelude.{cond, List, [], ◌∷◌, ◌++◌, ℕ, eqb, length}
 use Rattle.cells.specs.Writes.{Write, written}
 use Rattle.nodes.specs.Layout.{Layout}
 use Rattle.staging.specs.Numbering.{number_from}

@@ -1,5 +1,4 @@
 -- No entry passed is the word, so what is left of the part decides.
-use Prim.Native.Nat.{◌-◌}
 use mathlib.Core.Path.{ap}
 use native.Mathlib.Omega.{arith}
 use lib.ListN.{get_or}

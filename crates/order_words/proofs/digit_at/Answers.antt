@@ -1,5 +1,4 @@
 -- The digit sought is the one at what is left of its place, in what is left of the word.
-use Prim.Native.Nat.{◌-◌}
 use mathlib.Core.Path.{sym, ◌∙◌}
 use native.Mathlib.Omega.{arith}
 use Rattle.order_words.proofs.Steps.{at_start, at_low, at_step, at_high}

@@ -1,4 +1,3 @@
-use Prim.Native.Nat.{◌-◌}
 use native.Mathlib.Omega.{arith}
 use Rattle.blocks.proofs.NextSteps.{cleared_none, cleared_more, key_size, cleared-padded}
 use Rattle.blocks.proofs.next.padded_key.Goals as goal

@@ -1,5 +1,4 @@
 use mathlib.Core.Path.{sym, ap, ◌∙◌}
-use Prim.Native.Nat.{◌-◌}
 use native.Mathlib.Omega.{arith}
 use Rattle.blocks.specs.Trailer.{zero_from}
 use Rattle.blocks.proofs.TrailerSteps.{zero_none, zero_more, zero_fails}

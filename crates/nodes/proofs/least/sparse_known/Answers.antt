@@ -1,5 +1,5 @@
 -- The children before the i-th have characters below the one sought.
-use Prim.Native.Nat.{◌+◌, ◌-◌}
+use Prim.Native.Nat.{◌+◌}
 use native.Mathlib.Omega.{arith}
 use Rattle.nodes.proofs.SparseNodes.SparseSteps.{position_small}
 use Rattle.nodes.proofs.SparseNodes.SparseLeast.{sparse_least_read, sparse_least_past, sparse_passed}

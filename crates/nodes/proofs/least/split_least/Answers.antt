@@ -1,5 +1,4 @@
 -- The characters passed have no child.
-use Prim.Native.Nat.{◌-◌}
 use mathlib.Core.Path.{refl, sym, ◌∙◌}
 use native.Mathlib.Omega.{arith}
 use Rattle.nodes.proofs.Steps.StepWays.{cell_length}

@@ -1,5 +1,5 @@
 -- The positions left decide, from the bound on, as all do.
-use Prim.Native.Nat.{◌-◌, ◌+◌, ◌%◌}
+use Prim.Native.Nat.{◌+◌, ◌%◌}
 use native.Mathlib.Omega.{arith}
 use Rattle.nodes.proofs.SparseNodes.RisingPointers.{rising_start, rising_low, rising_none, rising_on, rising_end}
 use Rattle.nodes.proofs.sparse.are_rising.Goals as goal

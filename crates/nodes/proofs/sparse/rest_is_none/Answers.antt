@@ -1,7 +1,5 @@
 -- Each word passed from the count on is NONE.
-use Prim.Native.Nat.{◌-◌}
 use mathlib.Core.Path.{sym, ◌∙◌}
-use mathlib.Core.Logic.{⊎_elim}
 use native.Mathlib.Omega.{arith}
 use borrow.Author.Count.{below_more}
 use Rattle.nodes.proofs.Steps.WordRows.{rest_some, rest_none}

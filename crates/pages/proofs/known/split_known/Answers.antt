@@ -1,5 +1,4 @@
 -- The characters passed have no child.
-use Prim.Native.Nat.{◌-◌}
 use native.Mathlib.Omega.{arith}
 use Rattle.pages.proofs.Walking.KnownSplit.{head_word_is, branch_word_is, pass_on, pass_one, no_mid, no_end, child_of_lem, mid_inside, end_inside, known_found, known_none}
 use Rattle.pages.proofs.known.split_known.Goals as goal

@@ -1,6 +1,5 @@
 -- `put_record` meets its contract: the loop's invariant is that so many bytes of the key are copied. Assumes nothing.
 use mathlib.Core.Path.{◌∙◌}
-use Prim.Native.Nat.{◌-◌}
 use native.Mathlib.Omega.{arith}
 use Rattle.pages.proofs.Writing.RecordBytes.{copy_more, copy_length, record_fits, record_over}
 use Rattle.pages.proofs.record.put_record.Goals as goal

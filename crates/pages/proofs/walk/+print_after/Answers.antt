@@ -1,6 +1,5 @@
 -- `print_after` meets its contract: one law for each answer, and what is left of the key falls with each character.
 use borrow.Enum.Refused.{opened}
-use Prim.Native.Nat.{◌-◌}
 use native.Mathlib.Omega.{arith}
 use Rattle.trees.proofs.NextKey.NextAnswers.{next_room}
 use Rattle.pages.proofs.Walking.WalkParts.{still_open}

@@ -1,6 +1,5 @@
 -- The two walks that call each other meet their contracts.
 use borrow.Enum.Refused.{opened}
-use Prim.Native.Nat.{◌-◌}
 use mathlib.Core.Path.{◌∙◌}
 use native.Mathlib.Omega.{arith}
 use Rattle.trees.proofs.NextKey.NextAnswers.{first_grown}

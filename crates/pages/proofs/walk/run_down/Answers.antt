@@ -1,5 +1,4 @@
 -- `run_down` meets its contract: the loop's invariant is that of the way down so far, and the room left falls with each place. Assumes nothing.
-use Prim.Native.Nat.{◌-◌}
 use native.Mathlib.Omega.{arith}
 use Rattle.nodes.proofs.Coded.{coded_chain, chain_facts}
 use Rattle.nodes.proofs.Steps.StepWays.{cell_length}

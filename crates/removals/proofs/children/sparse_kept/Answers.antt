@@ -1,7 +1,7 @@
 -- The children passed stand in the arrays, and no later one has a character below theirs.
 use mathlib.Core.Path.{refl}
 use native.Mathlib.Omega.{arith}
-use Prim.Native.Nat.{◌+◌, ◌-◌}
+use Prim.Native.Nat.{◌+◌}
 use Rattle.nodes.proofs.SparseNodes.SparseSteps.{position_small}
 use Rattle.removals.proofs.Stage.KeptNodes.{sparse_six, sparse_start, sparse_end, sparse_lost, sparse_more}
 use borrow.Author.Rules.{rules}

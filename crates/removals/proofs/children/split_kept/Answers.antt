@@ -1,7 +1,7 @@
 -- The characters passed stand in the arrays, and those from the next one on are the rest of the list.
 use mathlib.Core.Path.{◌≡◌, refl, sym, ap, ◌∙◌}
 use native.Mathlib.Omega.{arith}
-use Prim.Native.Nat.{◌+◌, ◌-◌, ◌*◌, ◌/◌}
+use Prim.Native.Nat.{◌+◌, ◌*◌, ◌/◌}
 use Rattle.cells.specs.Memory.{memory_of}
 use Rattle.nodes.specs.Split.{split_child}
 use Rattle.updates.proofs.Stage.StagedSplits.{head_word_read}

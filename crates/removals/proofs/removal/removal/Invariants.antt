@@ -1,6 +1,6 @@
 -- Up again: what is made so far is the path copied from the word reached by the rest of the key.
 use mathlib.Core.Path.{◌≡◌}
-use Prim.Native.Nat.{◌-◌, ◌≤◌}
+use Prim.Native.Nat.{◌≤◌}
 use lib.ListN.{length, take, drop}
 use Rattle.cells.specs.Memory.{memory_of}
 use Rattle.staging.specs.Numbering.{number_from}

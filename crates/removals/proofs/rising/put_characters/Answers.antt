@@ -1,5 +1,4 @@
 -- The characters written so far, and those left to write, make up the cell.
-use Prim.Native.Nat.{◌-◌}
 use Rattle.removals.proofs.Stage.RisingPuts.{characters_start, characters_more, characters_end}
 use Rattle.removals.proofs.rising.put_characters.Goals as goal
 

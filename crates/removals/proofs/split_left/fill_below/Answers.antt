@@ -1,7 +1,6 @@
 -- The words copied so far stand in the array.
 use mathlib.Core.Path.{refl}
 use native.Mathlib.Omega.{arith}
-use Prim.Native.Nat.{◌-◌}
 use Rattle.cells.specs.Memory.{memory_of}
 use Rattle.nodes.specs.Split.{word_below}
 use Rattle.updates.proofs.Stage.StagedSparse.{fill_next}

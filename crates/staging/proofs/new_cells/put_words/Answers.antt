@@ -1,7 +1,6 @@
 -- The words written so far, and those left to write, make up the cell.
 use mathlib.Core.Path.{refl}
 use native.Mathlib.Omega.{arith}
-use Prim.Native.Nat.{◌-◌}
 use Rattle.staging.proofs.CellPuts.{filling_start, filling_more, filling_end}
 use Rattle.staging.proofs.new_cells.put_words.Goals as goal
 

@@ -1,5 +1,4 @@
 -- The digits are walked from the lowest; as many are left to walk as the measure says.
-use Prim.Native.Nat.{◌-◌}
 use Rattle.staging.proofs.order.+with_digit.Given as goal
 
 abbrev pub decreases-with_digit : goal.decreases-with_digit

@@ -1,6 +1,5 @@
 -- The characters cleared so far, and those left to clear, make up the copy.
 use native.Mathlib.Omega.{arith}
-use Prim.Native.Nat.{◌-◌}
 use Rattle.staging.proofs.SparsePuts.{clearing_start, clearing_more, clearing_end}
 use Rattle.staging.proofs.sparse.clear_characters.Goals as goal
 

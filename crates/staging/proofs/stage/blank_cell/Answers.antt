@@ -1,7 +1,6 @@
 -- The words cleared so far, and those left to clear, make up the cell.
 use mathlib.Core.Path.{refl, sym}
 use native.Mathlib.Omega.{arith}
-use Prim.Native.Nat.{◌-◌}
 use borrow.Author.Rules.{rules}
 use Rattle.staging.proofs.BranchWords.{blank_word}
 use Rattle.staging.proofs.StageWrites.{writes_more, writes_end}

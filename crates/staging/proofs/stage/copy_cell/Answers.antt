@@ -1,7 +1,6 @@
 -- The words copied so far, and those left to copy, make up the cell.
 use mathlib.Core.Path.{refl, ◌∙◌}
 use native.Mathlib.Omega.{arith}
-use Prim.Native.Nat.{◌-◌}
 use borrow.Author.Rules.{rules}
 use Rattle.staging.proofs.StageWrites.{writes_more, writes_end, copied_word}
 use Rattle.staging.proofs.stage.copy_cell.Goals as goal

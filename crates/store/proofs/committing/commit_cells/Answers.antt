@@ -1,6 +1,5 @@
 -- The cells written so far are those of the stage, in the order allocated.
 use mathlib.Core.Path.{refl}
-use Prim.Native.Nat.{◌-◌}
 use native.Mathlib.Omega.{arith}
 use borrow.Author.Rules.{rules}
 use Rattle.store.proofs.CommitSteps.{commit_none, commit_more, commit_all}

@@ -1,7 +1,5 @@
 -- The cells listed so far, and those left to look at, are all that are to be listed; the list ends where it is full.
 use mathlib.Core.Path.{refl}
-use mathlib.Core.Logic.{⊎_elim}
-use Prim.Native.Nat.{◌-◌}
 use native.Mathlib.Omega.{arith}
 use borrow.Author.Tests.{eq-eqb, ne_eqb}
 use Rattle.staging.specs.Code.Stage.{stage_cells}

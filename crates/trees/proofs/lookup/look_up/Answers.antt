@@ -1,7 +1,6 @@
 -- `look_up` meets its contract: the word reached shows the rest of the key as the first word shows the key. Assumes nothing.
 use borrow.Enum.Refused.{opened}
 use mathlib.Core.Path.{sym, ap, ◌∙◌}
-use Prim.Native.Nat.{◌-◌}
 use borrow.Author.Rules.{rules}
 use Rattle.nodes.specs.Code.Coded.{held_of}
 use Rattle.trees.proofs.LookSteps.{look_goes, look_stops, look_ends}

@@ -1,7 +1,6 @@
 -- `next_from` meets its contract: one law for each answer, and what is left of the key falls with each character. Assumes nothing.
 use borrow.Enum.Refused.{opened}
 use mathlib.Core.Path.{refl}
-use Prim.Native.Nat.{◌-◌}
 use native.Mathlib.Omega.{arith}
 use borrow.Author.Rules.{rules}
 use borrow.Author.Tests.{not-true, not-false}

@@ -1,9 +1,7 @@
 -- The checks of a node, of the cells of a split and of a child, which call each other, meet their contracts.
 use borrow.Enum.Refused.{opened}
 use mathlib.Core.Path.{refl, sym, ap, ◌∙◌}
-use mathlib.Core.Logic.{⊎_elim}
 use native.Mathlib.Omega.{arith}
-use borrow.Author.Tests.{not-false}
 use Rattle.nodes.proofs.Coded.{coded_leaf, coded_prefix, prefix_facts}
 use Rattle.trees.specs.Code.Parts.{plain_tree}
 use Rattle.trees.proofs.Validation.Judging.{judged_empty, judged_none, judged_same, judged_from, first_failed, then_second}

@@ -1,6 +1,5 @@
 -- Down by the key: the words of the characters passed stand in the array.
 use native.Mathlib.Omega.{arith}
-use Prim.Native.Nat.{◌-◌}
 use borrow.Author.Rules.{rules}
 use Rattle.updates.proofs.Stage.StagedDescent.{tree_read, down_none, down_more, down_all}
 use Rattle.updates.proofs.build.descend.Goals as goal

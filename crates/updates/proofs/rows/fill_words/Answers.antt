@@ -1,7 +1,7 @@
 -- The words of the characters passed stand in the array.
 use mathlib.Core.Path.{refl}
 use native.Mathlib.Omega.{arith}
-use Prim.Native.Nat.{◌+◌, ◌-◌}
+use Prim.Native.Nat.{◌+◌}
 use borrow.Author.Rules.{rules}
 use Rattle.nodes.specs.Sparse.{sparse_child}
 use Rattle.updates.specs.SetChild.{with_child}

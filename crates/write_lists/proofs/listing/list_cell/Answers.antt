@@ -1,7 +1,6 @@
 -- The records written so far, and those left to write, are those of the cell.
 use mathlib.Core.Path.{refl, ◌∙◌}
 use native.Mathlib.Omega.{arith}
-use Prim.Native.Nat.{◌-◌}
 use borrow.Author.Rules.{rules}
 use Rattle.staging.proofs.StageWrites.{copied_word}
 use Rattle.write_lists.proofs.ListSteps.{cell_none, cell_more, cell_all}

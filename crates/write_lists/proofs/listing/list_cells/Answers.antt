@@ -1,6 +1,5 @@
 -- The records written so far are those of the staged cells, in the order allocated.
 use mathlib.Core.Path.{refl}
-use Prim.Native.Nat.{◌-◌}
 use native.Mathlib.Omega.{arith}
 use borrow.Author.Rules.{rules}
 use Rattle.write_lists.proofs.ListSteps.{cells_none, cells_more, cells_all}
