@@ -47,7 +47,7 @@
 #include <stdint.h>
 
 /* The version of this header and its libraries; everything else that tells a version takes it from here. */
-#define REGISTER_VERSION "0.9.0"
+#define REGISTER_VERSION "0.10.0"
 
 /* Marks a result that must be looked at: the compiler warns where one is dropped. */
 #if defined(__cplusplus) && __cplusplus >= 201703L
