@@ -6,6 +6,7 @@ ghost use Rattle.nodes.specs.Layout.{cell_limit};
 use cells::word_at;
 
 // The child word of a place: the next place, or where the run ends the word behind it.
+#[tactic(auto, using(crate::proofs::Chain::chain_child_inside, crate::proofs::Chain::chain_child_end))]
 pub fn chain_child(bytes: &[u8], cell: usize, place: usize) -> u32
     requires { (length bytes.now ≡ 32) × (cell < cell_limit) × (place < 28) }
     ensures { result ≡ chain_child bytes.now cell place }

@@ -53,7 +53,8 @@ fn list_from(
     let mut count = listed;
     let mut cell = from;
     while cell < end {
-        if count == STAGE_CELLS {
+        let is_full = count == STAGE_CELLS;
+        if is_full {
             return count;
         }
         put_number(numbers, count, cell as u16);

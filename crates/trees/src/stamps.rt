@@ -29,6 +29,7 @@ pub fn stamp_cell(stamps: &mut [u8; CELL_LIMIT], stamp: u8, number: usize, valid
 }
 
 // Gives the cell of a prefix the stamp where the prefix has it for itself: one that is embedded is visited with its node.
+#[tactic(auto, using(nodes::proofs::Steps::StepWays::cell_length, crate::proofs::Validation::Judging::judged_alone, crate::proofs::Validation::Judging::judged_embedded))]
 pub fn stamp_prefix(
     layout: Layout,
     block: &[u8],

@@ -11,9 +11,9 @@ use Rattle.store.proofs.free_cells.list_from.Goals.{then-is_free, else-is_free}
 pub loop-cell-init : goal.loop-cell-init
 loop-cell-init c = (omega arith, omega arith, omega arith, refl)
 
-pub returns-then-count-eq-STAGE_CELLS : goal.returns-then-count-eq-STAGE_CELLS
+pub returns-then-is_full : goal.returns-then-is_full
 unfolding ListedMore
-returns-then-count-eq-STAGE_CELLS c =
+returns-then-is_full c =
     let turn = c.loop-cell in
     walk_full _ _ stage_cells turn.numbers turn.count _ turn.cell turn.invariant.3 (omega arith) (omega arith)
 
