@@ -87,8 +87,10 @@ def heads(crate):
 def exported():
     """Functions for C that have not, word for word, the parameters and the contract of the call that they make."""
     for folder in sorted(Path("crates").glob("*_c")):
-        calls = heads(folder.name.removesuffix("_c"))
-        for name, head in heads(folder.name).items():
+        calls, exports = heads(folder.name.removesuffix("_c")), heads(folder.name)
+        if not exports:
+            yield f"{folder}: no function for C is found"
+        for name, head in exports.items():
             if calls.get(name) != head:
                 yield f"{folder}: {name} has another contract than the call of that name"
 
