@@ -1,7 +1,8 @@
 // Runs removals from the bench samples of the specification and from splits on the code, and writes what they give.
 #![tactic(auto)]
 
-ghost use Rattle.std.specs.Prelude.{◌≤◌, length};
+ghost use Rattle.std.specs.Prelude.{◌≡◌, ◌≤◌, [], ◌∷◌, length};
+ghost use Rattle.store.specs.Remove.{remove};
 
 use printing::{answers, lines};
 use snapshots::{release, snapshot};
@@ -23,9 +24,10 @@ fn grown(block: &mut [u8], first: &[u8], others: &[u8])
     }
 }
 
-// Removes a key of one byte; writes how many cells that allocated, and the root.
+// Removes a key of one byte; writes how many cells that allocated, and the root. The key is removed also where a write fails.
 fn removed(rt: &impl Print, name: &[u8], block: &mut [u8], key: u8) -> io::Result<()>
     requires { 32 ≤ length block.old }
+    ensures { block.new ≡ (remove block.old (key ∷ [])).block }
 {
     let keys = [key];
     let answer = remove(block, &keys);

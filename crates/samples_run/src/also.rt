@@ -1,5 +1,6 @@
 // The cases that the specification lists under "Also run".
-ghost use Rattle.std.specs.Prelude.{◌≤◌, length};
+ghost use Rattle.std.specs.Prelude.{◌≡◌, ◌≤◌, [], ◌∷◌, length};
+ghost use Rattle.store.specs.Insert.{insert};
 
 use crate::insert_byte;
 use blocks::validate::validate;
@@ -30,8 +31,10 @@ pub fn labels(rt: &impl Print) -> io::Result<()> {
     answers::count_answer(rt, b"49 bytes answer ", insert(&mut block, &label, 0))
 }
 
-// Inserts one child and writes how many cells it took.
-fn child(rt: &impl Print, block: &mut [u8], key: u8, value: u32) -> io::Result<()> {
+// Inserts one child and writes how many cells it took. The child is inserted also where the write fails.
+fn child(rt: &impl Print, block: &mut [u8], key: u8, value: u32) -> io::Result<()>
+    ensures { block.new ≡ (insert block.old (key ∷ []) value).block }
+{
     answers::count(rt, b"child count ", insert_byte(block, key, value))
 }
 

@@ -1,6 +1,10 @@
 // Runs the bench samples of the specification and its "Also run" cases on the code, and writes what they give.
 #![tactic(auto)]
 
+ghost use Rattle.std.specs.Prelude.{◌≡◌, [], ◌∷◌};
+ghost use Rattle.blocks.specs.Answers.{counted_outcome};
+ghost use Rattle.store.specs.Insert.{insert};
+
 mod also;
 mod edition_two;
 mod verdicts;
@@ -14,7 +18,9 @@ use store::formatting::format;
 use store::inserting::insert;
 
 // Inserts a key of one byte; it goes by value, which takes less to check than a literal lent at each call.
-pub fn insert_byte(block: &mut [u8], key: u8, value: u32) -> CountAnswer {
+pub fn insert_byte(block: &mut [u8], key: u8, value: u32) -> CountAnswer
+    ensures { insert block.old (key ∷ []) value ≡ counted_outcome result block.new }
+{
     let keys = [key];
     insert(block, &keys, value)
 }
