@@ -1,6 +1,6 @@
 -- Laws of dates: what a valid date keeps to, and that its one number says the same as its three parts. Assumes nothing.
 use Prim.Native.Nat.{ℕ, ◌+◌, ◌*◌, ◌/◌, ◌%◌, ◌<◌, ◌≤◌}
-use mathlib.Core.Bool.{cond, Bool, true, false, not, ◌&&◌, ◌||◌, and-false, or-false}
+use mathlib.Core.Bool.{cond, Bool, true, false, not, ◌&&◌, ◌||◌, or-false}
 use mathlib.Core.Logic.{◌≢◌, ◌⊎◌, inl, inr}
 use mathlib.Core.Path.{◌≡◌, refl, sym, ap, ◌∙◌, subst}
 use native.Mathlib.Decide.{dec_lt, dec_le, ℕ_discrete}
@@ -40,14 +40,6 @@ february_month year month e = simp e
 abbrev pub Short : ℕ → Type 0
 Short m = (m ≡ 4) ⊎ ((m ≡ 6) ⊎ ((m ≡ 9) ⊎ (m ≡ 11)))
 
--- A short month has 30 days.
-pub short_month : (year : Year) (month : Month) → Short month.0 → days_of_month year month ≡ 30
-unfolding days_of_month
-short_month year month (inl e) = simp e
-short_month year month (inr (inl e)) = simp e
-short_month year month (inr (inr (inl e))) = simp e
-short_month year month (inr (inr (inr e))) = simp e
-
 -- Past February and the short months only the range of the months decides.
 other_month :
     (year : Year) (month : Month) → month.0 ≢ 2 → (Short month.0 → ⊥) →
@@ -59,12 +51,6 @@ other_month year month f s =
     let nine = ne_eqb month.0 9 (λ e. s (inr (inr (inl e)))) in
     let eleven = ne_eqb month.0 11 (λ e. s (inr (inr (inr e)))) in
     simp (ne_eqb month.0 2 f, four, six, nine, eleven)
-
--- A month of the twelve that is none of those has 31 days.
-pub long_month :
-    (year : Year) (month : Month) → month.0 ≢ 2 → (Short month.0 → ⊥) →
-    month.0 ≢ 0 → month.0 ≤ 12 → days_of_month year month ≡ 31
-long_month year month f s p q = other_month year month f s ∙ simp (le-leb 1 month.0 (omega arith), le-leb month.0 12 q)
 
 -- Month 0 has no day.
 pub month_zero : (year : Year) (month : Month) → month.0 ≡ 0 → days_of_month year month ≡ 0
@@ -133,28 +119,6 @@ date_within d v =
     let t = tested d v in
     let m = month_of_days d.year d.month (omega (arith, t.1.1)) in
     (t.0, (t.1.0, (m.0, (m.1, (t.1.1.0, omega (arith, t.1.1.1, month_bound d.year d.month))))))
-
--- A year before 2000 makes no date.
-pub year_early : (d : Date) → d.year.0 < 2000 → is_date d ≡ false
-unfolding is_date
-year_early d h = simp (lt-leb 2000 d.year.0 h)
-
--- A year after 2199 makes no date.
-pub year_late : (d : Date) → 2199 < d.year.0 → is_date d ≡ false
-unfolding is_date
-year_late d h = simp (lt-leb d.year.0 2199 h, and-false)
-
--- Day 0 makes no date.
-pub day_none : (d : Date) → d.day.0 < 1 → is_date d ≡ false
-unfolding is_date
-day_none d h = simp (lt-leb 1 d.day.0 h, and-false)
-
--- Within the years, and from day 1 on, the month's length decides.
-pub date_by_day :
-    (d : Date) → 2000 ≤ d.year.0 → d.year.0 ≤ 2199 → 1 ≤ d.day.0 →
-    is_date d ≡ leb d.day.0 (days_of_month d.year d.month)
-unfolding is_date
-date_by_day d p q r = simp (le-leb 2000 d.year.0 p, le-leb d.year.0 2199 q, le-leb 1 d.day.0 r)
 
 -- A valid date's one number leaves the top bit of its word free.
 pub packed_bound : (d : Date) → is_date d ≡ true → packed_date d < 2147483648

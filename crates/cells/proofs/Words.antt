@@ -8,6 +8,8 @@ use native.Mathlib.Nat.{div-div-eq-div-mul, div-add-mod'}
 use native.Mathlib.Omega.{arith}
 use lib.ListN.{length, get_or, set, take, drop, length-set, length-take, length-replicate, get_or-append, get_or-eq_default}
 use lib.Seq.{get_or-set_same, get_or-set_other, set_out, get_or-take, get_or-drop, get_or-append-add}
+use borrow.Rule.Slice.PartMut.{put_mid}
+use Rattle.std.specs.Int.{w32, to_be_bytes}
 use Rattle.cells.specs.Bytes.{IsBytes, zeros}
 use Rattle.cells.specs.Word.{word_of, word_at, with_word}
 
@@ -207,3 +209,25 @@ pub with_word_bytes : (l : List ℕ) (at v : ℕ) → IsBytes l → IsBytes (wit
 unfolding with_word
 with_word_bytes l at v h =
     set_bytes _ _ _ (set_bytes _ _ _ (set_bytes _ _ _ (set_bytes l at _ h (remainder_byte _)) (remainder_byte _)) (remainder_byte _)) (remainder_byte _)
+
+-- four bytes laid over others are set one after the other
+four_laid : (at : ℕ) (l : List ℕ) (a b c d : ℕ) → at + 4 ≤ length l
+    → take at l ++ (a ∷ b ∷ c ∷ d ∷ drop 4 (drop at l)) ≡ set (set (set (set l at a) (suc at) b) (suc (suc at)) c) (suc (suc (suc at))) d
+four_laid zero (p ∷ q ∷ r ∷ s ∷ l) a b c d h = refl
+four_laid zero (p ∷ q ∷ r ∷ []) a b c d h = absurd (omega (arith, h))
+four_laid zero (p ∷ q ∷ []) a b c d h = absurd (omega (arith, h))
+four_laid zero (p ∷ []) a b c d h = absurd (omega (arith, h))
+four_laid zero [] a b c d h = absurd (omega (arith, h))
+four_laid (suc at) [] a b c d h = absurd (omega (arith, h))
+four_laid (suc at) (x ∷ l) a b c d h = ap (λ (t : List ℕ). x ∷ t) (four_laid at l a b c d (omega (arith, h)))
+
+-- the four bytes of a word laid at a position are the word written there
+pub word_laid : (at : ℕ) (bytes : List ℕ) (word : ℕ) (part : List ℕ) → part ≡ to_be_bytes w32 word → at + 4 ≤ length bytes
+    → put_mid at (at + 4 - at) bytes part ≡ with_word bytes at word
+unfolding with_word
+word_laid at bytes word part is fits =
+    let four : at + 4 - at ≡ 4 = omega arith in
+    let one : at + 1 ≡ suc at = omega arith in
+    let two : at + 2 ≡ suc (suc at) = omega arith in
+    let three : at + 3 ≡ suc (suc (suc at)) = omega arith in
+    rw (is, four, one, two, three) (four_laid at bytes _ _ _ _ fits)

@@ -3,3 +3,4 @@ pub mod Word
 pub mod Memory
 pub mod Writes
 pub mod Occurrences
+pub mod Optional

@@ -10,8 +10,5 @@ use order_list::is_valid_order;
 pub fn exports_is_valid_order(word: u16) -> u8
     ensures { result ≡ cond (valid_order word) 1 0 }
 {
-    if is_valid_order(word) {
-        return 1;
-    }
-    0
+    u8::from(is_valid_order(word))
 }

@@ -11,16 +11,15 @@ mod words;
 use crate::words::word_list;
 
 // Whether a word stands in the list, from an index on and before another.
+#[tactic(auto, using(crate::proofs::Search::none_passed, crate::proofs::Search::found_here, crate::proofs::Search::other_passed, crate::proofs::Search::none_found))]
 fn is_listed(list: &[u16; 436], word: u16, from: usize, to: usize) -> bool
     requires { (list.now ≡ order_words) × (from ≤ to) × (to ≤ 436) }
     ensures { result ≡ in_part word from to }
 {
-    let mut i = from;
-    while i < to {
+    for i in from..to {
         if list[i] == word {
             return true;
         }
-        i += 1;
     }
     false
 }

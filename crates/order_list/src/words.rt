@@ -39,6 +39,7 @@ const ORDER_WORDS: [u16; 436] = [
 ];
 
 // The list, as the value that is searched.
+#[tactic(auto, unfolding(crate::specs::Words::order_words))]
 pub fn word_list() -> [u16; 436]
     ensures { result ≡ order_words }
 {

@@ -8,28 +8,16 @@ ghost use Rattle.order_words.specs.Digits.{order_digits};
 pub fn digit_count(word: u16) -> usize
     ensures { result ≡ length (order_digits word) }
 {
-    if word < 1 {
-        return 0;
+    match word {
+        0 => 0,
+        1..=5 => 1,
+        6..=35 => 2,
+        36..=215 => 3,
+        216..=1295 => 4,
+        1296..=7775 => 5,
+        7776..=46655 => 6,
+        _ => 7,
     }
-    if word < 6 {
-        return 1;
-    }
-    if word < 36 {
-        return 2;
-    }
-    if word < 216 {
-        return 3;
-    }
-    if word < 1296 {
-        return 4;
-    }
-    if word < 7776 {
-        return 5;
-    }
-    if word < 46656 {
-        return 6;
-    }
-    7
 }
 
 // The digit at a place counted from the lowest; 0 above the highest.
@@ -40,10 +28,8 @@ pub fn digit_at(word: u16, at: usize) -> usize
         return 0;
     }
     let mut rest = word as usize;
-    let mut passed: usize = 0;
-    while passed < at {
+    for passed in 0..at {
         rest = rest / 6;
-        passed += 1;
     }
     rest % 6
 }

@@ -8,10 +8,10 @@ pub returns-then-at-ge7 : goal.returns-then-at-ge7
 returns-then-at-ge7 c = at_high 7 _ _ c.if-at-ge7.true
 
 pub loop-passed-init : goal.loop-passed-init
-loop-passed-init c = (omega arith, at_start 7 _ _)
+loop-passed-init c = at_start 7 _ _
 
 pub loop-passed-preserved : goal.loop-passed-preserved
-loop-passed-preserved c = (omega arith, c.loop-passed.invariant.1 ∙ at_step _ _ _ _ _ (omega arith) (omega arith))
+loop-passed-preserved c = c.loop-passed.invariant ∙ at_step _ _ _ _ _ (omega arith) (omega arith)
 
 pub returns : goal.returns
-returns c = sym (c.loop-passed.invariant.1 ∙ at_low _ _ _ (omega arith) (omega arith))
+returns c = sym (c.loop-passed.invariant ∙ at_low _ _ _ (omega arith) (omega arith))

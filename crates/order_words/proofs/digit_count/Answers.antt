@@ -4,33 +4,33 @@ use Rattle.order_words.proofs.Coding.{power}
 use Rattle.order_words.proofs.Steps.{count_none, count_between}
 use Rattle.order_words.proofs.digit_count.Goals as goal
 
-pub returns-then-word-lt1 : goal.returns-then-word-lt1
-returns-then-word-lt1 c = count_none 7 _ c.if-word-lt1.true
+pub returns-in-0 : goal.returns-in-0
+returns-in-0 c = count_none 7 _ (omega arith)
 
-pub returns-then-word-lt6 : goal.returns-then-word-lt6
+pub returns-in-1-to-5 : goal.returns-in-1-to-5
 unfolding power
-returns-then-word-lt6 c = count_between 0 7 _ (omega arith) (omega arith) (omega arith)
+returns-in-1-to-5 c = count_between 0 7 _ (omega arith) (omega arith) (omega arith)
 
-pub returns-then-word-lt36 : goal.returns-then-word-lt36
+pub returns-in-6-to-35 : goal.returns-in-6-to-35
 unfolding power
-returns-then-word-lt36 c = count_between 1 7 _ (omega arith) (omega arith) (omega arith)
+returns-in-6-to-35 c = count_between 1 7 _ (omega arith) (omega arith) (omega arith)
 
-pub returns-then-word-lt216 : goal.returns-then-word-lt216
+pub returns-in-36-to-215 : goal.returns-in-36-to-215
 unfolding power
-returns-then-word-lt216 c = count_between 2 7 _ (omega arith) (omega arith) (omega arith)
+returns-in-36-to-215 c = count_between 2 7 _ (omega arith) (omega arith) (omega arith)
 
-pub returns-then-word-lt1296 : goal.returns-then-word-lt1296
+pub returns-in-216-to-1295 : goal.returns-in-216-to-1295
 unfolding power
-returns-then-word-lt1296 c = count_between 3 7 _ (omega arith) (omega arith) (omega arith)
+returns-in-216-to-1295 c = count_between 3 7 _ (omega arith) (omega arith) (omega arith)
 
-pub returns-then-word-lt7776 : goal.returns-then-word-lt7776
+pub returns-in-1296-to-7775 : goal.returns-in-1296-to-7775
 unfolding power
-returns-then-word-lt7776 c = count_between 4 7 _ (omega arith) (omega arith) (omega arith)
+returns-in-1296-to-7775 c = count_between 4 7 _ (omega arith) (omega arith) (omega arith)
 
-pub returns-then-word-lt46656 : goal.returns-then-word-lt46656
+pub returns-in-7776-to-46655 : goal.returns-in-7776-to-46655
 unfolding power
-returns-then-word-lt46656 c = count_between 5 7 _ (omega arith) (omega arith) (omega arith)
+returns-in-7776-to-46655 c = count_between 5 7 _ (omega arith) (omega arith) (omega arith)
 
-pub returns : goal.returns
+pub returns-in_default : goal.returns-in_default
 unfolding power
-returns c = count_between 6 7 _ (omega arith) (omega arith) (omega arith)
+returns-in_default c = count_between 6 7 _ (omega arith) (omega arith) (omega arith)
