@@ -6,6 +6,7 @@ pub mod Chain
 pub mod Read
 pub mod Usable
 pub mod Coded
+pub mod Inside
 pub mod Meaning
 pub mod MeantNode
 pub mod Steps

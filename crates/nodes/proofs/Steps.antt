@@ -7,3 +7,4 @@ pub mod StepRead
 pub mod StepWays
 pub mod ValueWays
 pub mod WordRows
+pub mod WordChains

@@ -6,3 +6,4 @@ pub mod RisingPointers
 pub mod Step
 pub mod Words
 pub mod Covered
+pub mod Cells

@@ -37,6 +37,10 @@ key_limit = 48
 abbrev pub cell_limit : ℕ
 cell_limit = 2048
 
+-- the cells that a word can name: 31 bits, of which 5 are the kind
+abbrev pub cell_numbers : ℕ
+cell_numbers = 67108864
+
 -- a block of six cells of an edition, for the computed examples
 abbrev pub six_of : ℕ → Layout
 six_of edition = record { edition = edition; cells = 6 }

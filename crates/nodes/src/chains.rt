@@ -1,14 +1,14 @@
 // Chains: one character a place.
 ghost use Rattle.std.specs.Prelude.{◌≡◌, ◌<◌, length};
 ghost use Rattle.nodes.specs.Chain.{chain_child};
-ghost use Rattle.nodes.specs.Layout.{cell_limit};
+ghost use Rattle.nodes.specs.Layout.{cell_numbers};
 
-use cells::word_at;
+use cells::{Cell, word_at};
 
 // The child word of a place: the next place, or where the run ends the word behind it.
 #[tactic(auto, using(crate::proofs::Chain::chain_child_inside, crate::proofs::Chain::chain_child_end))]
-pub fn chain_child(bytes: &[u8], cell: usize, place: usize) -> u32
-    requires { (length bytes.now ≡ 32) × (cell < cell_limit) × (place < 28) }
+pub fn chain_child(bytes: &Cell, cell: usize, place: usize) -> u32
+    requires { (cell < cell_numbers) × (place < 28) }
     ensures { result ≡ chain_child bytes.now cell place }
 {
     if place == 27 {

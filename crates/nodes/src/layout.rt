@@ -8,7 +8,7 @@ pub const KEY_LIMIT: usize = 48;
 // The most cells that a block may have.
 pub const CELL_LIMIT: usize = 2048;
 
-// The two limits are those of the definitions.
+// The two limits are those of the definitions; functions, since a constant has no contract that could say so.
 pub fn key_limit() -> usize
     ensures { result ≡ key_limit }
 {
@@ -28,6 +28,7 @@ pub struct Layout {
 }
 
 // How many cells at the end of the block hold the trailer.
+#[tactic(auto, unfolding(crate::specs::Layout::trailer_cells))]
 pub fn trailer_cells(layout: Layout) -> usize
     ensures { result ≡ trailer_cells layout }
 {
@@ -35,6 +36,7 @@ pub fn trailer_cells(layout: Layout) -> usize
 }
 
 // The fewest cells that a block may have.
+#[tactic(auto, unfolding(crate::specs::Layout::trailer_cells))]
 pub fn least_cells(layout: Layout) -> usize
     ensures { result ≡ least_cells layout }
 {
@@ -42,6 +44,7 @@ pub fn least_cells(layout: Layout) -> usize
 }
 
 // Whether a cell of a block is one of the trailer's.
+#[tactic(auto, unfolding(crate::specs::Layout::is_trailer, crate::specs::Layout::trailer_cells))]
 fn is_trailer(layout: Layout, cell: usize) -> bool
     requires { cell < layout.cells }
     ensures { result ≡ is_trailer layout cell }
@@ -50,16 +53,15 @@ fn is_trailer(layout: Layout, cell: usize) -> bool
 }
 
 // Whether there is such an edition.
+#[tactic(auto, unfolding(crate::specs::Layout::valid_edition))]
 pub fn is_valid_edition(edition: u32) -> bool
     ensures { result ≡ valid_edition edition }
 {
-    if edition < 1 {
-        return false;
-    }
-    edition <= 2
+    1 <= edition && edition <= 2
 }
 
 // Whether a prefix may stand in the cell of its node.
+#[tactic(auto, unfolding(crate::specs::Layout::may_embed))]
 pub fn may_embed(layout: Layout) -> bool
     ensures { result ≡ may_embed layout }
 {
@@ -67,14 +69,9 @@ pub fn may_embed(layout: Layout) -> bool
 }
 
 // Whether a cell may hold a node: all but the first and the trailer's may.
+#[tactic(auto, unfolding(crate::specs::Layout::usable, crate::specs::Layout::is_trailer, crate::specs::Layout::trailer_cells))]
 pub fn is_usable(layout: Layout, cell: usize) -> bool
     ensures { result ≡ usable layout cell }
 {
-    if cell < 1 {
-        return false;
-    }
-    if layout.cells <= cell {
-        return false;
-    }
-    !is_trailer(layout, cell)
+    1 <= cell && cell < layout.cells && !is_trailer(layout, cell)
 }

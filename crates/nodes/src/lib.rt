@@ -4,6 +4,7 @@
 pub mod chains;
 pub mod layout;
 pub mod least;
+pub mod memory;
 pub mod pointer;
 pub mod prefix;
 pub mod sparse;

@@ -19,32 +19,28 @@ pub enum Pointer {
 }
 
 // What a kind in a cell names.
+#[tactic(auto, unfolding(crate::specs::Pointer::by_kind))]
 fn by_kind(cell: usize, kind: usize) -> Pointer
     ensures { pointer_of result ≡ by_kind cell kind }
 {
-    if kind < 28 {
-        return Pointer::Chain(cell, kind);
+    match kind {
+        0..=27 => Pointer::Chain(cell, kind),
+        28 => Pointer::Split(cell),
+        30 => Pointer::Sparse(cell),
+        31 => Pointer::Prefix(cell),
+        _ => Pointer::Invalid,
     }
-    if kind == 28 {
-        return Pointer::Split(cell);
-    }
-    if kind == 30 {
-        return Pointer::Sparse(cell);
-    }
-    if kind == 31 {
-        return Pointer::Prefix(cell);
-    }
-    Pointer::Invalid
 }
 
 // What a word names: NONE, a leaf, a kind in a usable cell, or nothing that is valid.
+#[tactic(auto, unfolding(crate::specs::Pointer::pointer))]
 pub fn pointer_of(layout: Layout, word: u32) -> Pointer
     ensures { pointer_of result ≡ pointer layout word }
 {
     if word == 0 {
         return Pointer::Nothing;
     }
-    if 2147483648 <= word {
+    if 0x80000000 <= word {
         return Pointer::Leaf(inverted(word));
     }
     let cell = (word / 32) as usize;
@@ -55,6 +51,7 @@ pub fn pointer_of(layout: Layout, word: u32) -> Pointer
 }
 
 // The word of a leaf: its value with every bit inverted.
+#[tactic(auto, unfolding(crate::specs::Pointer::leaf_word))]
 pub fn leaf_word(value: u32) -> u32
     ensures { result ≡ leaf_word value }
 {

@@ -1,18 +1,16 @@
 // One step down by a character, on any block.
-ghost use Rattle.std.specs.Prelude.{◌≡◌, ◌*◌, ◌<◌, ◌≤◌, length};
-ghost use Rattle.cells.specs.Memory.{memory_of};
-ghost use Rattle.nodes.specs.Layout.{cell_limit};
+ghost use Rattle.std.specs.Prelude.{◌≡◌, ◌<◌, length};
+ghost use Rattle.nodes.specs.Layout.{cell_numbers};
 ghost use Rattle.nodes.specs.Code.Step.{word_step, chain_step, sparse_step, branch_step, split_step, plain_step, prefix_step, child_step};
-ghost use Rattle.nodes.specs.Code.Coded.{pointer_of, Named, step_of};
-ghost use Rattle.nodes.specs.Code.Covered.{Covered};
+ghost use Rattle.nodes.specs.Code.Coded.{pointer_of, step_of};
 
 use crate::chains::chain_child;
-use crate::layout::Layout;
-use crate::pointer::{Pointer, pointer_of};
+use crate::memory::Cells;
+use crate::pointer::Pointer;
 use crate::prefix::{is_valid_prefix, linked_word};
 use crate::sparse::{is_valid_sparse, sparse_child};
 use crate::split::{is_valid_branch, is_valid_head};
-use cells::{cell, word_at};
+use cells::{Cell, word_at};
 
 // Broken where a rule is broken on the way.
 #[derive(Clone, Copy)]
@@ -23,6 +21,7 @@ pub enum ChildStep {
 }
 
 // A child word as a step.
+#[tactic(auto, unfolding(crate::specs::Code::Step::word_step))]
 fn word_step(word: u32) -> ChildStep
     ensures { step_of result ≡ word_step word }
 {
@@ -33,8 +32,9 @@ fn word_step(word: u32) -> ChildStep
 }
 
 // A step at a place of a chain cell.
-fn chain_step(bytes: &[u8], number: usize, place: usize, character: u8) -> ChildStep
-    requires { (length bytes.now ≡ 32) × (number < cell_limit) × (place < 28) }
+#[tactic(auto, unfolding(crate::specs::Code::Step::chain_step, crate::specs::Chain::chain_character))]
+fn chain_step(bytes: &Cell, number: usize, place: usize, character: u8) -> ChildStep
+    requires { (number < cell_numbers) × (place < 28) }
     ensures { step_of result ≡ chain_step bytes.now number place character }
 {
     let child = chain_child(bytes, number, place);
@@ -48,8 +48,8 @@ fn chain_step(bytes: &[u8], number: usize, place: usize, character: u8) -> Child
 }
 
 // A step in a sparse cell.
-fn sparse_step(bytes: &[u8], character: u8) -> ChildStep
-    requires { length bytes.now ≡ 32 }
+#[tactic(auto, unfolding(crate::specs::Code::Step::sparse_step))]
+fn sparse_step(bytes: &Cell, character: u8) -> ChildStep
     ensures { step_of result ≡ sparse_step bytes.now character }
 {
     if !is_valid_sparse(bytes) {
@@ -58,78 +58,90 @@ fn sparse_step(bytes: &[u8], character: u8) -> ChildStep
     word_step(sparse_child(bytes, character))
 }
 
-// A step in the mid or end that a word names.
-pub fn branch_step(layout: Layout, block: &[u8], word: u32, index: usize) -> ChildStep
-    requires { (layout.cells * 32 ≤ length block.now) × (index < 8) }
-    ensures { step_of result ≡ branch_step layout (memory_of block.now) word index }
-{
-    let Pointer::Split(number) = pointer_of(layout, word) else {
-        return ChildStep::Broken;
-    };
-    let bytes = cell(block, number);
-    if !is_valid_branch(bytes) {
-        return ChildStep::Broken;
-    }
-    word_step(word_at(bytes, 4 * index))
-}
+impl<'a> Cells<'a> {
+    ghost use Rattle.nodes.specs.Code.Cells.{memory, Inside};
 
-// A step in a split: through its head, a mid and an end.
-fn split_step(layout: Layout, block: &[u8], number: usize, character: u8) -> ChildStep
-    requires { (layout.cells * 32 ≤ length block.now) × (number < layout.cells) }
-    ensures { step_of result ≡ split_step layout (memory_of block.now) number character }
-{
-    let bytes = cell(block, number);
-    if !is_valid_head(bytes) {
-        return ChildStep::Broken;
+    // A step in the mid or end that a word names.
+    pub fn branch_step(&self, word: u32, index: usize) -> ChildStep
+        requires { index < 8 }
+        ensures { step_of result ≡ branch_step self.now.layout (memory self.now) word index }
+    {
+        let Pointer::Split(number) = self.pointer(word) else {
+            return ChildStep::Broken;
+        };
+        let bytes = self.cell(number);
+        if !is_valid_branch(bytes) {
+            return ChildStep::Broken;
+        }
+        word_step(word_at(bytes, 4 * index))
     }
-    let x = character as usize;
-    let mid = word_at(bytes, 16 + 4 * (x / 64));
-    if mid == 0 {
-        return ChildStep::Missing;
-    }
-    let below = branch_step(layout, block, mid, x / 8 % 8);
-    let ChildStep::Found(end) = below else {
-        return below;
-    };
-    branch_step(layout, block, end, x % 8)
-}
 
-// A step at a chain, sparse or split; any other is broken where one of these is called for.
-fn plain_step(layout: Layout, block: &[u8], pointer: Pointer, character: u8) -> ChildStep
-    requires { Covered layout block.now × Named layout pointer }
-    ensures { step_of result ≡ plain_step layout (memory_of block.now) (pointer_of pointer) character }
-{
-    match pointer {
-        Pointer::Chain(number, place) => chain_step(cell(block, number), number, place, character),
-        Pointer::Sparse(number) => sparse_step(cell(block, number), character),
-        Pointer::Split(number) => split_step(layout, block, number, character),
-        _ => ChildStep::Broken,
+    // A step in a split: through its head, a mid and an end.
+    #[tactic(auto, using(crate::proofs::Steps::StepWays::split_broken, crate::proofs::Steps::StepWays::split_missing, crate::proofs::Steps::StepWays::split_goes))]
+    fn split_step(&self, number: usize, character: u8) -> ChildStep
+        requires { number < self.now.layout.cells }
+        ensures { step_of result ≡ split_step self.now.layout (memory self.now) number character }
+    {
+        let bytes = self.cell(number);
+        if !is_valid_head(bytes) {
+            return ChildStep::Broken;
+        }
+        let x = character as usize;
+        let mid = word_at(bytes, 16 + 4 * (x / 64));
+        if mid == 0 {
+            return ChildStep::Missing;
+        }
+        let below = self.branch_step(mid, x / 8 % 8);
+        let ChildStep::Found(end) = below else {
+            return below;
+        };
+        self.branch_step(end, x % 8)
     }
-}
 
-// A step at a prefix: it is the step at the node linked.
-fn prefix_step(layout: Layout, block: &[u8], number: usize, character: u8) -> ChildStep
-    requires { Covered layout block.now × (number < layout.cells) }
-    ensures { step_of result ≡ prefix_step layout (memory_of block.now) number character }
-{
-    let bytes = cell(block, number);
-    if !is_valid_prefix(layout, bytes) {
-        return ChildStep::Broken;
+    // A step at a chain, sparse or split; any other is broken where one of these is called for.
+    #[tactic(auto, unfolding(crate::specs::Code::Step::plain_step))]
+    fn plain_step(&self, pointer: Pointer, character: u8) -> ChildStep
+        requires { Inside self.now.layout pointer }
+        ensures { step_of result ≡ plain_step self.now.layout (memory self.now) (pointer_of pointer) character }
+    {
+        match pointer {
+            Pointer::Chain(number, place) => chain_step(
+                self.cell(number),
+                number,
+                place,
+                character,
+            ),
+            Pointer::Sparse(number) => sparse_step(self.cell(number), character),
+            Pointer::Split(number) => self.split_step(number, character),
+            _ => ChildStep::Broken,
+        }
     }
-    let linked = pointer_of(layout, linked_word(number, bytes));
-    plain_step(layout, block, linked, character)
-}
 
-// The step from the node that a word names to its child of a character.
-pub fn child_step(layout: Layout, block: &[u8], word: u32, character: u8) -> ChildStep
-    requires { Covered layout block.now }
-    ensures { step_of result ≡ child_step layout (memory_of block.now) word character }
-{
-    let pointer = pointer_of(layout, word);
-    match pointer {
-        Pointer::Nothing => ChildStep::Missing,
-        Pointer::Leaf(_) => ChildStep::Missing,
-        Pointer::Prefix(number) => prefix_step(layout, block, number, character),
-        _ => plain_step(layout, block, pointer, character),
+    // A step at a prefix: it is the step at the node linked.
+    #[tactic(auto, unfolding(crate::specs::Code::Step::prefix_step))]
+    fn prefix_step(&self, number: usize, character: u8) -> ChildStep
+        requires { (number < self.now.layout.cells) × (number < cell_numbers) }
+        ensures { step_of result ≡ prefix_step self.now.layout (memory self.now) number character }
+    {
+        let bytes = self.cell(number);
+        if !is_valid_prefix(self.layout, bytes) {
+            return ChildStep::Broken;
+        }
+        let linked = self.pointer(linked_word(number, bytes));
+        self.plain_step(linked, character)
+    }
+
+    // The step from the node that a word names to its child of a character.
+    #[tactic(auto, unfolding(crate::specs::Code::Step::child_step, crate::specs::Code::Step::step_at))]
+    pub fn child_step(&self, word: u32, character: u8) -> ChildStep
+        ensures { step_of result ≡ child_step self.now.layout (memory self.now) word character }
+    {
+        let pointer = self.pointer(word);
+        match pointer {
+            Pointer::Nothing => ChildStep::Missing,
+            Pointer::Leaf(_) => ChildStep::Missing,
+            Pointer::Prefix(number) => self.prefix_step(number, character),
+            _ => self.plain_step(pointer, character),
+        }
     }
 }

@@ -1,27 +1,24 @@
-// The value at a node, on any block.
-ghost use Rattle.std.specs.Prelude.{◌≡◌, ◌*◌, ◌≤◌, length};
-ghost use Rattle.cells.specs.Memory.{memory_of};
-ghost use Rattle.nodes.specs.Value.{value_of};
-ghost use Rattle.nodes.specs.Code.Coded.{held_of};
+// The value at a node.
+ghost use Rattle.std.specs.Prelude.{◌≡◌};
 
-use crate::layout::Layout;
-use crate::pointer::{Pointer, pointer_of};
-use cells::{cell, word_at};
+use crate::memory::Cells;
+use crate::pointer::Pointer;
+use cells::word_at;
 
-#[derive(Clone, Copy)]
-pub enum Value {
-    Held(u32),
-    Empty,
-}
+impl<'a> Cells<'a> {
+    ghost use Rattle.nodes.specs.Value.{value_of};
+    ghost use Rattle.cells.specs.Optional.{option_of};
+    ghost use Rattle.nodes.specs.Code.Cells.{memory};
 
-// The value at the node that a word names: a leaf's or a prefix's.
-pub fn value_at(layout: Layout, block: &[u8], word: u32) -> Value
-    requires { layout.cells * 32 ≤ length block.now }
-    ensures { held_of result ≡ value_of layout (memory_of block.now) word }
-{
-    match pointer_of(layout, word) {
-        Pointer::Leaf(value) => Value::Held(value),
-        Pointer::Prefix(number) => Value::Held(word_at(cell(block, number), 0)),
-        _ => Value::Empty,
+    // The value at the node that a word names: a leaf's or a prefix's.
+    #[tactic(auto, unfolding(crate::specs::Value::value_of, crate::specs::Value::pointer_value))]
+    pub fn value_at(&self, word: u32) -> Option<u32>
+        ensures { option_of result ≡ value_of self.now.layout (memory self.now) word }
+    {
+        match self.pointer(word) {
+            Pointer::Leaf(value) => Some(value),
+            Pointer::Prefix(number) => Some(word_at(self.cell(number), 0)),
+            _ => None,
+        }
     }
 }

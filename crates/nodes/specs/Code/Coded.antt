@@ -1,6 +1,5 @@
 -- What the values of the code's types stand for, in the terms of the definitions.
 use Rattle.std.specs.Prelude.{◌≡◌, ℕ}
-use Rattle.std.proofs.Math.Option.{Option, none, some}
 use Rattle.nodes.specs.Layout.{Layout}
 use Rattle.nodes.specs.Pointer.{Pointer, pointer}
 use Rattle.nodes.specs.Pointer.Pointer.{nothing, leaf, chain, split, sparse, prefix, invalid}
@@ -10,8 +9,6 @@ use Rattle.nodes.specs.declared.pointer.Pointer.TheVariants.{Nothing, Leaf, Chai
 use Rattle.nodes.specs.declared.step.ChildStep.{ChildStep}
 use Rattle.nodes.specs.declared.step.ChildStep.TheVariants.{Found, Missing, Broken}
 use Rattle.nodes.specs.declared.least.Least.{Least}
-use Rattle.nodes.specs.declared.value.Value.{Value}
-use Rattle.nodes.specs.declared.value.Value.TheVariants.{Held, Empty}
 use Rattle.nodes.specs.declared.pointer.Pointer.{Pointer as CodedPointer}
 
 -- what a word names
@@ -33,11 +30,6 @@ abbrev pub step_of : ChildStep → Step
 step_of (Found w) = found w
 step_of Missing = missing
 step_of Broken = broken
-
--- a value, or none
-abbrev pub held_of : Value → Option ℕ
-held_of (Held v) = some v
-held_of Empty = none
 
 -- the least character with a child
 abbrev pub least_of : Least → LeastChild

@@ -4,13 +4,10 @@ use Rattle.nodes.proofs.Steps.LeastWays.{chain_least_broken, chain_least_none, c
 use Rattle.nodes.proofs.least.chain_least.Goals as goal
 
 pub returns-then-child-eq0 : goal.returns-then-child-eq0
-returns-then-child-eq0 c = chain_least_broken _ _ _ _ _ c.chain_child-child.ensures c.requires.3 c.if-child-eq0.true
-
-pub overflow_cast-character : goal.overflow_cast-character
-overflow_cast-character c = omega (arith, c.shared_slice_known-2-1.given c.args.place)
+returns-then-child-eq0 c = chain_least_broken _ _ _ _ _ c.chain_child-child.ensures c.requires.2 c.if-child-eq0.true
 
 pub returns-then-character-from : goal.returns-then-character-from
-returns-then-character-from c = chain_least_none _ _ _ _ _ c.chain_child-child.ensures c.if-child-eq0.false _ refl c.requires.3 c.if-character-from.true
+returns-then-character-from c = chain_least_none _ _ _ _ _ c.chain_child-child.ensures c.if-child-eq0.false _ refl c.requires.2 c.if-character-from.true
 
 pub returns : goal.returns
-returns c = chain_least_found _ _ _ _ _ c.chain_child-child.ensures c.if-child-eq0.false _ refl (omega (arith, c.shared_slice_known-2-1.given c.args.place)) c.if-character-from.false
+returns c = chain_least_found _ _ _ _ _ c.chain_child-child.ensures c.if-child-eq0.false _ refl (omega arith) c.if-character-from.false

@@ -1,10 +1,6 @@
 -- The positions left decide, from the bound on, as all do.
-use Prim.Native.Nat.{◌-◌}
 use Rattle.nodes.proofs.SparseNodes.RisingPointers.{RisingFrom}
 use Rattle.nodes.proofs.sparse.are_rising.Given as goal
 
 abbrev pub invariant-loop-i : goal.invariant-loop-i
 invariant-loop-i l = RisingFrom l.cell l.rest l.bound l.i
-
-abbrev pub decreases-loop-i : goal.decreases-loop-i
-decreases-loop-i l = l.count - l.i

@@ -1,11 +1,8 @@
 -- The positions from the i-th on give the child that all do.
-use Prim.Native.Nat.{◌-◌, ◌≤◌}
+use Prim.Native.Nat.{◌-◌}
 use mathlib.Core.Path.{◌≡◌}
 use Rattle.nodes.specs.Sparse.{sparse_child, child_from}
 use Rattle.nodes.proofs.sparse.sparse_child.Given as goal
 
 abbrev pub invariant-loop-i : goal.invariant-loop-i
-invariant-loop-i l = (l.i ≤ l.count) × (sparse_child l.cell l.character ≡ child_from l.cell (l.count - l.i) l.i l.character)
-
-abbrev pub decreases-loop-i : goal.decreases-loop-i
-decreases-loop-i l = l.count - l.i
+invariant-loop-i l = (sparse_child l.cell l.character ≡ child_from l.cell (l.i-end - l.i) l.i l.character)
