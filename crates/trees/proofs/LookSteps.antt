@@ -1,11 +1,12 @@
 -- Each way through a look-up: what a step or a value tells of the table of a word that has a tree.
-use mathlib.Core.Path.{◌≡◌, sym, ap, ◌∙◌}
+use mathlib.Core.Path.{◌≡◌, refl, sym, ap, ◌∙◌}
 use mathlib.Core.Logic.{◌≢◌, ⊎_elim}
 use mathlib.Core.List.{List, [], ◌∷◌}
 use mathlib.Core.Option.{Option, none, some}
 use Prim.Native.Nat.{ℕ, suc, ◌+◌, ◌≤◌, ◌<◌}
 use native.Mathlib.Decide.{ℕ_discrete}
 use native.Mathlib.Omega.{arith}
+use borrow.Author.Rules.{rules}
 use lib.ListN.{length, get_or, drop, drop_of_length-le}
 use Rattle.cells.specs.Memory.{Memory}
 use Rattle.nodes.specs.Layout.{Layout}
@@ -14,7 +15,7 @@ use Rattle.nodes.specs.Code.Step.{found, missing, word_step, onward, child_step}
 use Rattle.nodes.specs.Value.{value_of}
 use Rattle.nodes.specs.Code.Coded.{step_of}
 use Rattle.nodes.specs.declared.step.ChildStep.{ChildStep}
-use Rattle.nodes.specs.declared.step.ChildStep.TheVariants.{Found}
+use Rattle.nodes.specs.declared.step.ChildStep.TheVariants.{Found, Missing, Broken}
 use Rattle.nodes.proofs.SparseNodes.Neighbours.{rest_more}
 use Rattle.nodes.proofs.Steps.Rest.{AmongSteps, rest_of_found}
 use Rattle.nodes.proofs.Steps.StepWays.{word_missing, word_found}
@@ -27,6 +28,12 @@ use Rattle.trees.proofs.Tree.{tree_cut, child_tree_lem, lookup_nil, lookup_cons,
 -- the rest of a key past its end is nothing
 pub rest_none : (key : List ℕ) (i : ℕ) → length key ≤ i → drop i key ≡ []
 rest_none key i past = drop_of_length-le key past
+
+-- a step that found no child is one of the others
+pub other_step : (s : ChildStep) → ((v : ℕ) → s ≡ Found v → ⊥) → AmongSteps (1 ∷ 2 ∷ []) s
+other_step (Found v) none_found = absurd (none_found v refl)
+other_step Missing none_found = search rules
+other_step Broken none_found = search rules
 
 -- a word that was found is not NONE
 pub found_word : (u w : ℕ) → found w ≡ word_step u → (u ≢ 0) × (w ≡ u)

@@ -4,6 +4,7 @@ use mathlib.Core.Logic.{◌≢◌}
 use mathlib.Core.List.{List, [], ◌∷◌}
 use mathlib.Core.Option.{Option, none, some, or_else, bind}
 use Prim.Native.Nat.{ℕ, zero, suc, ◌+◌, ◌-◌, ◌≤◌, ◌<◌}
+use borrow.Author.Rules.{rules}
 use native.Mathlib.Decide.{ℕ_discrete}
 use native.Mathlib.Omega.{arith}
 use types.Run.{OneOf, miss}
@@ -52,6 +53,12 @@ least_empty words (suc count) from each =
 -- a least child of one of some cases, each by its place in the list of cases
 abbrev pub AmongLeast : List ℕ → Least → Type 0
 AmongLeast cases s = OneOf cases (tag_of least_type s)
+
+-- a least child that was not found is one of the others
+pub other_least : (s : Least) → ((x v : ℕ) → s ≡ Found x v → ⊥) → AmongLeast (1 ∷ 2 ∷ []) s
+other_least (Found x v) none_found = absurd (none_found x v refl)
+other_least Missing none_found = search rules
+other_least Broken none_found = search rules
 
 -- the least child that the code tells
 pub told_least : (words : ℕ → ℕ) (o : Option ℕ) (x v : ℕ) → least x v ≡ with_child words o → (o ≡ some x) × (v ≡ words x)

@@ -1,20 +1,12 @@
--- What the code has read of a cell: its bytes, its last word, and a test of it.
+-- What the code has read of a cell: its last word, and a test of it.
 use mathlib.Core.Path.{◌≡◌, sym, ap, ◌∙◌}
 use mathlib.Core.Bool.{Bool}
 use mathlib.Core.List.{List}
 use Prim.Native.Nat.{ℕ, ◌+◌, ◌*◌}
 use native.Mathlib.Omega.{arith}
-use lib.ListN.{get_or}
-use mir.Syntax.{w8}
-use mir.Val.{Fits}
-use Rattle.cells.specs.Bytes.{IsBytes}
 use Rattle.cells.specs.Word.{word_at}
 use Rattle.cells.specs.Memory.{memory_of}
-use Rattle.cells.proofs.Memory.{memory_bytes, memory_word}
-
--- the cells of a block of bytes are bytes
-pub cell_bytes : (block : List ℕ) → ((i : ℕ) → Fits w8 (get_or block i 0)) → (number : ℕ) → IsBytes (memory_of block number)
-cell_bytes block each number = memory_bytes block number (record { below = λ i. omega (arith, each i) })
+use Rattle.cells.proofs.Memory.{memory_word}
 
 -- the last word of a cell, read where it stands in the block
 pub last_word : (block : List ℕ) (number word : ℕ) → word ≡ word_at block (number * 32 + 28) → word_at (memory_of block number) 28 ≡ word

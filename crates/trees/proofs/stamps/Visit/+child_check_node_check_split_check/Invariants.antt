@@ -4,25 +4,26 @@ use Prim.Native.Nat.{ℕ, ◌+◌, ◌*◌}
 use mathlib.Core.Path.{◌≡◌}
 use mathlib.Core.List.{[]}
 use mathlib.Core.Option.{some}
-use Prim.Native.Nat.{ℕ, ◌-◌, ◌≤◌}
-use Rattle.cells.specs.Memory.{memory_of}
+use Prim.Native.Nat.{ℕ, ◌-◌}
+use Rattle.nodes.specs.Code.Cells.{memory}
 use Rattle.nodes.specs.Split.{gather}
 use Rattle.trees.specs.Code.Visit.{visit}
 use Rattle.trees.proofs.Validation.Joins.{joined}
 use Rattle.trees.proofs.Validation.SparseTrees.{sparse_tree}
 use mathlib.Core.List.{List, []}
 use mathlib.Core.Option.{Option, some}
-use Prim.Native.Nat.{ℕ, ◌+◌, ◌-◌, ◌≤◌}
+use Prim.Native.Nat.{ℕ, ◌+◌, ◌-◌}
 use Rattle.nodes.specs.Layout.{Layout}
 use Rattle.trees.specs.Code.Parts.{split_branches}
 use Rattle.trees.proofs.Validation.SplitTrees.{row}
-use Rattle.trees.proofs.validate.+child_check_node_check_split_check.Given as goal
+use Rattle.trees.proofs.stamps.Visit.+child_check_node_check_split_check.Given as goal
 
 abbrev midsLeft : Layout → List ℕ → ℕ → ℕ → ℕ → Option (List ℕ)
 midsLeft layout block depth head i = joined (gather (row layout block depth 2 head) (4 - i) i) (some [])
 
 abbrev endsLeft : Layout → List ℕ → ℕ → ℕ → ℕ → ℕ → ℕ → Option (List ℕ)
-endsLeft layout block depth head i ends j = joined (gather (row layout block depth 1 ends) (8 - j) j) (midsLeft layout block depth head (i + 1))
+endsLeft layout block depth head i ends j =
+    joined (gather (row layout block depth 1 ends) (8 - j) j) (midsLeft layout block depth head (i + 1))
 
 abbrev childrenLeft : Layout → List ℕ → ℕ → ℕ → ℕ → ℕ → ℕ → ℕ → ℕ → Option (List ℕ)
 childrenLeft layout block depth head i ends j children k =
@@ -38,13 +39,22 @@ abbrev pub decreases-split_check : goal.decreases-split_check
 decreases-split_check l = l.depth * 3 + 1
 
 abbrev pub invariant-node_check-loop-i : goal.invariant-node_check-loop-i
-invariant-node_check-loop-i l = (l.i ≤ l.i-end) × (visit l.stamp (gather (sparse_tree l.layout (memory_of l.block) l.depth l.number) l.i-end 0) l.initial.stamps ≡ visit l.stamp (joined (gather (sparse_tree l.layout (memory_of l.block) l.depth l.number) (l.i-end - l.i) l.i) (some [])) l.stamps)
+invariant-node_check-loop-i l =
+    visit l.self.stamp (gather (sparse_tree l.self.cells.layout (memory l.self.cells) l.depth l.number) l.i-end 0) l.initial.stamps
+    ≡ visit l.self.stamp (joined (gather (sparse_tree l.self.cells.layout (memory l.self.cells) l.depth l.number) (l.i-end - l.i) l.i)
+    (some [])) l.stamps
 
 abbrev pub invariant-split_check-loop-k : goal.invariant-split_check-loop-k
-invariant-split_check-loop-k l = (l.k ≤ 8) × (visit l.stamp (childrenLeft l.layout l.block l.depth l.head l.i l.ends l.j l.children 0) l.initial.stamps ≡ visit l.stamp (childrenLeft l.layout l.block l.depth l.head l.i l.ends l.j l.children l.k) l.stamps)
+invariant-split_check-loop-k l =
+    visit l.self.stamp (childrenLeft l.self.cells.layout l.self.cells.bytes.now l.depth l.head l.i l.ends l.j l.children 0) l.initial.stamps
+    ≡ visit l.self.stamp (childrenLeft l.self.cells.layout l.self.cells.bytes.now l.depth l.head l.i l.ends l.j l.children l.k) l.stamps
 
 abbrev pub invariant-split_check-loop-j : goal.invariant-split_check-loop-j
-invariant-split_check-loop-j l = (l.j ≤ 8) × (visit l.stamp (endsLeft l.layout l.block l.depth l.head l.i l.ends 0) l.initial.stamps ≡ visit l.stamp (endsLeft l.layout l.block l.depth l.head l.i l.ends l.j) l.stamps)
+invariant-split_check-loop-j l =
+    visit l.self.stamp (endsLeft l.self.cells.layout l.self.cells.bytes.now l.depth l.head l.i l.ends 0) l.initial.stamps
+    ≡ visit l.self.stamp (endsLeft l.self.cells.layout l.self.cells.bytes.now l.depth l.head l.i l.ends l.j) l.stamps
 
 abbrev pub invariant-split_check-loop-i : goal.invariant-split_check-loop-i
-invariant-split_check-loop-i l = (l.i ≤ 4) × (visit l.stamp (split_branches l.layout (memory_of l.block) l.depth l.number) l.initial.stamps ≡ visit l.stamp (midsLeft l.layout l.block l.depth l.head l.i) l.stamps)
+invariant-split_check-loop-i l =
+    visit l.self.stamp (split_branches l.self.cells.layout (memory l.self.cells) l.depth l.number) l.initial.stamps
+    ≡ visit l.self.stamp (midsLeft l.self.cells.layout l.self.cells.bytes.now l.depth l.head l.i) l.stamps
