@@ -1,26 +1,19 @@
 -- The ways through the code of a look-up.
-use mathlib.Core.Path.{◌≡◌, ap, ◌∙◌}
+use mathlib.Core.Path.{◌≡◌, sym, ap, ◌∙◌}
+use Rattle.std.specs.Prelude.{Option as CodedOption, Some, None, ok_or}
+use Rattle.cells.specs.Optional.{option_of}
+use Rattle.blocks.specs.declared.answer.Refusal.TheVariants.{Missing}
+use Rattle.blocks.specs.Answers.{found_outcome}
 use mathlib.Core.Logic.{◌≢◌}
 use mathlib.Core.Bool.{true, false}
 use mathlib.Core.List.{List, [], ◌∷◌}
 use mathlib.Core.Option.{none, some}
 use Prim.Native.Nat.{ℕ}
-use lib.ListN.{length}
-use borrow.Author.Tests.{eq-eqb, ne_eqb}
-use Rattle.blocks.specs.Refusal.{refusal, first_refusal, over_long, bad_key}
+use borrow.Author.Tests.{ne_eqb}
+use Rattle.blocks.specs.Refusal.{refusal, first_refusal, bad_key}
 use Rattle.blocks.specs.Read.{validate, missing, shown, value_or, get_refusals, get}
 use Rattle.blocks.proofs.Refusals.{first_holds, first_fails}
 use Rattle.blocks.proofs.ReadSteps.{block_refused, block_passed}
-
--- a key that is empty, and one that is not
-module _ (key : List ℕ) where
-  pub key_empty : length key ≡ 0 → bad_key key ≡ true
-  unfolding bad_key
-  key_empty e = rw (eq-eqb (length key) 0 e)
-
-  pub key_some : length key ≢ 0 → bad_key key ≡ over_long key
-  unfolding bad_key
-  key_some n = rw (ne_eqb (length key) 0 n)
 
 module _ (b key : List ℕ) where
   pub get_refused : (k : ℕ) → validate b ≡ k → k ≢ 0 → get b key ≡ record { answer = k; value = 0 }
@@ -30,9 +23,9 @@ module _ (b key : List ℕ) where
       rw (answer, ne_eqb k 0 other)
 
   module _ (done : validate b ≡ 0) where
-    pub get-bad_key : bad_key key ≡ true → get b key ≡ record { answer = 3; value = 0 }
+    pub get_bad_key : bad_key key ≡ true → get b key ≡ record { answer = 3; value = 0 }
     unfolding get
-    get-bad_key bad =
+    get_bad_key bad =
         let answer : first_refusal (get_refusals b key) ≡ 3 = block_passed b _ done ∙ first_holds (refusal 3 (bad_key key)) _ bad in
         rw answer
 
@@ -51,3 +44,8 @@ module _ (b key : List ℕ) where
       get_value value e =
           let answer : first_refusal (get_refusals b key) ≡ 0 = asked ∙ first_fails (refusal 11 (missing (shown b key))) [] (ap missing e) in
           rw (answer, e)
+
+      -- a look-up's answer, one that there is or that is missing
+      pub get_ended : (o : CodedOption ℕ) → option_of o ≡ shown b key → get b key ≡ found_outcome (ok_or o Missing)
+      get_ended None e = get_missing (sym e)
+      get_ended (Some value) e = get_value value (sym e)

@@ -23,6 +23,9 @@ use Rattle.blocks.proofs.RefusalSteps.{refused_earlier}
 use Rattle.blocks.proofs.Roots.{root_parts, sound_parts}
 use Rattle.blocks.proofs.ValidateSteps.{layout_fits}
 use Rattle.nodes.specs.Code.Covered.{Covered}
+use Rattle.nodes.specs.Code.Cells.{memory}
+use Rattle.nodes.specs.declared.memory.Cells.{Cells}
+use Rattle.blocks.specs.declared.block.Sound.{Sound}
 
 -- a validation that refuses is the call's answer, whatever else the call asks
 module _ (b : List ℕ) (rest : List Refusal) where
@@ -60,3 +63,13 @@ module _ (b : List ℕ) (done : validate b ≡ 0) where
 
       pub shown_is : (key : List ℕ) → lookup layout (memory_of b) word key ≡ shown b key
       shown_is key = rw (is, e)
+
+-- the same of a sound block by its cells
+module _ (s : Sound) (cells : Cells) (layout_is : cells.layout ≡ s.block.layout) (bytes_are : cells.bytes.now ≡ s.block.bytes.now)
+    (word : ℕ)
+    (is : word ≡ root_word s.block.layout s.block.bytes.now) where
+  pub sound_grown : Grown cells.layout (memory cells) key_limit word
+  sound_grown = rw (layout_is, bytes_are) (root_grown s.block.bytes.now s.valid s.block.layout s.stated word is)
+
+  pub sound_shown : (key : List ℕ) → lookup cells.layout (memory cells) word key ≡ shown s.block.bytes.now key
+  sound_shown key = rw (layout_is, bytes_are) (shown_is s.block.bytes.now s.valid s.block.layout s.stated word is key)

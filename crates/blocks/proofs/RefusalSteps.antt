@@ -4,13 +4,12 @@ use mathlib.Core.Logic.{◌≢◌}
 use mathlib.Core.Bool.{Bool, true, false, not}
 use mathlib.Core.List.{List, [], ◌∷◌, ◌++◌}
 use Prim.Native.Nat.{ℕ}
-use native.Mathlib.Decide.{ℕ_discrete}
 use native.Mathlib.Omega.{arith}
 use borrow.Author.Tests.{ne_eqb}
-use Rattle.blocks.specs.declared.answer.ChangeAnswer.{ChangeAnswer}
+use Rattle.std.specs.Prelude.{Result, Ok, Err}
 use Rattle.blocks.specs.declared.answer.Refusal as declared
 use Rattle.blocks.specs.declared.answer.Refusal.TheVariants.{BadSize, Unsound, BadKey, BadValue, BadSlot, SlotNotInUse, NoRoom, BadSheet, BadReading, BadToday, Missing, HeldNoDate, Expired, OutsideGate, ShortBuffer}
-use Rattle.blocks.specs.Answers.{refusal_number, change_number}
+use Rattle.blocks.specs.Answers.{refusal_number, answer_number, change_number, count_number}
 use Rattle.blocks.specs.Refusal.{Refusal, refusal, first_refusal, changed_by}
 use Rattle.blocks.proofs.Refusals.{NoneApplies, first_holds, first_fails, passed}
 
@@ -32,13 +31,22 @@ refusal_number_lem Expired e = omega (arith, e)
 refusal_number_lem OutsideGate e = omega (arith, e)
 refusal_number_lem ShortBuffer e = omega (arith, e)
 
--- the number of an answer that is refused, and of one that is done
-module _ (answer : ChangeAnswer) where
-  pub refused_number : (why : declared.Refusal) → answer ≡ ChangeAnswer.Refused why → change_number answer ≢ 0
-  refused_number why e zero = refusal_number_lem why (sym (ap (λ (a : ChangeAnswer). change_number a) e) ∙ zero)
+-- the number of an answer that only says that it is done, and of one that counts cells
+pub change_answer : (answer : Result Unit declared.Refusal) → answer_number answer ≡ change_number answer
+change_answer (Ok done) = refl
+change_answer (Err why) = refl
 
-  pub done_number : answer ≡ ChangeAnswer.Done → change_number answer ≡ 0
-  done_number e = ap (λ (a : ChangeAnswer). change_number a) e
+pub count_answer : (answer : Result ℕ declared.Refusal) → answer_number answer ≡ count_number answer
+count_answer (Ok count) = refl
+count_answer (Err why) = refl
+
+-- the number of an answer that is refused, and of one that is done
+module _ (answer : Result Unit declared.Refusal) where
+  pub refused_number : (why : declared.Refusal) → answer ≡ Err why → change_number answer ≢ 0
+  refused_number why e zero = refusal_number_lem why (sym (ap (λ (a : Result Unit declared.Refusal). change_number a) e) ∙ zero)
+
+  pub done_number : answer ≡ Ok tt → change_number answer ≡ 0
+  done_number e = ap (λ (a : Result Unit declared.Refusal). change_number a) e
 
 -- where an earlier refusal applies the later ones do not matter
 pub refused_earlier : (rs more : List Refusal) → first_refusal rs ≢ 0 → first_refusal (rs ++ more) ≡ first_refusal rs
@@ -50,13 +58,6 @@ refused_earlier (r ∷ rs) more n = go r.applies refl (refused_earlier rs more)
     go true holds later = first_holds r (rs ++ more) holds ∙ sym (first_holds r rs holds)
     go false fails later =
         first_fails r (rs ++ more) fails ∙ later (λ e. n (first_fails r rs fails ∙ e)) ∙ sym (first_fails r rs fails)
-
--- where none of all applies, none of the earlier ones does
-pub zero_earlier : (rs more : List Refusal) → first_refusal (rs ++ more) ≡ 0 → first_refusal rs ≡ 0
-zero_earlier rs more e = elim (ℕ_discrete (first_refusal rs) 0) [
-  | yes none ↦ none
-  | no some ↦ sym (refused_earlier rs more some) ∙ e
-]
 
 -- one more refusal, of a test that must hold, after some that do not apply
 module _ (rs : List Refusal) (number : ℕ) (none : NoneApplies rs) where

@@ -1,11 +1,8 @@
 -- What the code's answers mean, by cases: the answer numbers and values of 01.
-use Rattle.std.specs.Prelude.{◌≡◌, refl, List, [], ◌∷◌, map, ℕ}
+use Rattle.std.specs.Prelude.{◌≡◌, refl, List, [], ◌∷◌, map, ℕ, Result, Ok, Err}
 use Rattle.blocks.specs.declared.answer.Refusal.{Refusal}
 use Rattle.blocks.specs.declared.answer.Refusal.TheVariants.{BadSize, Unsound, BadKey, BadValue, BadSlot, SlotNotInUse, NoRoom, BadSheet, BadReading, BadToday, Missing, HeldNoDate, Expired, OutsideGate, ShortBuffer}
-use Rattle.blocks.specs.declared.answer.ChangeAnswer.{ChangeAnswer}
-use Rattle.blocks.specs.declared.answer.CountAnswer.{CountAnswer}
-use Rattle.blocks.specs.declared.answer.GetAnswer.{GetAnswer}
-use Rattle.blocks.specs.declared.answer.NextAnswer.{NextAnswer}
+use Rattle.blocks.specs.declared.answer.NextKey.{NextKey}
 use Rattle.blocks.specs.Refusal.{Changed, Counted}
 use Rattle.blocks.specs.Read.{Found, Next, padded}
 
@@ -27,37 +24,43 @@ refusal_number Expired = 13
 refusal_number OutsideGate = 14
 refusal_number ShortBuffer = 15
 
+-- 01: "0", "done", whatever the call gives then
+abbrev pub answer_number : {Given : Type 0} → Result Given Refusal → ℕ
+answer_number (Ok given) = 0
+answer_number (Err refusal) = refusal_number refusal
+
 -- 01: "0", "done"
-abbrev pub change_number : ChangeAnswer → ℕ
-change_number ChangeAnswer.Done = 0
-change_number (ChangeAnswer.Refused refusal) = refusal_number refusal
+abbrev pub change_number : Result Unit Refusal → ℕ
+change_number (Ok done) = 0
+change_number (Err refusal) = refusal_number refusal
 
 -- the answer of a call that changes a block, with the block that it leaves
-abbrev pub changed_outcome : ChangeAnswer → List ℕ → Changed
+abbrev pub changed_outcome : Result Unit Refusal → List ℕ → Changed
 changed_outcome answer block = record { answer = change_number answer; block = block }
 
 -- the same of an answer that counts cells
-abbrev pub count_number : CountAnswer → ℕ
-count_number (CountAnswer.Done count) = 0
-count_number (CountAnswer.Refused refusal) = refusal_number refusal
+abbrev pub count_number : Result ℕ Refusal → ℕ
+count_number (Ok count) = 0
+count_number (Err refusal) = refusal_number refusal
 
 -- 01: "The answer counts the cells taken." and "A no returns zeros beside its number"
-abbrev pub counted_outcome : CountAnswer → List ℕ → Counted
-counted_outcome (CountAnswer.Done count) block = record { answer = 0; count = count; block = block }
-counted_outcome (CountAnswer.Refused refusal) block = record { answer = refusal_number refusal; count = 0; block = block }
+abbrev pub counted_outcome : Result ℕ Refusal → List ℕ → Counted
+counted_outcome (Ok count) block = record { answer = 0; count = count; block = block }
+counted_outcome (Err refusal) block = record { answer = refusal_number refusal; count = 0; block = block }
 
 -- 01: "A no returns zeros beside its number": the value is 0 then
-abbrev pub found_outcome : GetAnswer → Found
-found_outcome (GetAnswer.Value value) = record { answer = 0; value = value }
-found_outcome (GetAnswer.Refused refusal) = record { answer = refusal_number refusal; value = 0 }
-
--- the answer of the next key; the code fills in the zeros of a no itself
-abbrev pub next_outcome : NextAnswer → Next
-next_outcome next = record { answer = change_number next.answer; size = next.size; key = next.key }
+abbrev pub found_outcome : Result ℕ Refusal → Found
+found_outcome (Ok value) = record { answer = 0; value = value }
+found_outcome (Err refusal) = record { answer = refusal_number refusal; value = 0 }
 
 -- 01: "A no returns zeros beside its number"
 abbrev pub refused_next : ℕ → Next
 refused_next number = record { answer = number; size = 0; key = padded [] }
+
+-- the answer of the next key
+abbrev pub next_outcome : Result NextKey Refusal → Next
+next_outcome (Ok next) = record { answer = 0; size = next.size; key = next.key }
+next_outcome (Err refusal) = refused_next (refusal_number refusal)
 
 -- 01's table, "When the answer is no", top to bottom, and 02, 5: "new answer 15"
 pub answer_numbers :

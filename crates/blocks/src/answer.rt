@@ -1,97 +1,79 @@
 // What the calls answer.
 ghost use Rattle.std.specs.Prelude.{◌≡◌};
-ghost use Rattle.blocks.specs.Answers.{refusal_number, change_number, count_number};
+ghost use Rattle.blocks.specs.Answers.{refusal_number, answer_number, change_number, count_number};
 
 use nodes::layout::KEY_LIMIT;
 
 // Why a call did nothing, in the order of the answer numbers.
 #[derive(Clone, Copy)]
 pub enum Refusal {
-    BadSize,
-    Unsound,
-    BadKey,
-    BadValue,
-    BadSlot,
-    SlotNotInUse,
-    NoRoom,
-    BadSheet,
-    BadReading,
-    BadToday,
-    Missing,
-    HeldNoDate,
-    Expired,
-    OutsideGate,
-    ShortBuffer,
+    BadSize = 1,
+    Unsound = 2,
+    BadKey = 3,
+    BadValue = 4,
+    BadSlot = 5,
+    SlotNotInUse = 6,
+    NoRoom = 7,
+    BadSheet = 8,
+    BadReading = 9,
+    BadToday = 10,
+    Missing = 11,
+    HeldNoDate = 12,
+    Expired = 13,
+    OutsideGate = 14,
+    ShortBuffer = 15,
 }
 
-// The answer of a call that changes a block, or only judges it.
-#[derive(Clone, Copy)]
-pub enum ChangeAnswer {
-    Done,
-    Refused(Refusal),
-}
+// What a call answers: what it gives, or why it did nothing.
+pub type Answer<T> = Result<T, Refusal>;
 
-// The answer of a call that allocates cells: how many.
+// A key that was found; zero past its size, since the call for C gives all 48 bytes.
 #[derive(Clone, Copy)]
-pub enum CountAnswer {
-    Done(u32),
-    Refused(Refusal),
-}
-
-// The answer of a look-up.
-#[derive(Clone, Copy)]
-pub enum GetAnswer {
-    Value(u32),
-    Refused(Refusal),
-}
-
-// The answer of the next key; an enum holds no array, so the key stands beside, zero past its size.
-#[derive(Clone, Copy)]
-pub struct NextAnswer {
-    pub answer: ChangeAnswer,
+pub struct NextKey {
     pub size: usize,
     pub key: [u8; KEY_LIMIT],
 }
 
-// The answer number of a refusal.
+impl From<Refusal> for u8 {
+    ghost use Rattle.blocks.specs.Answers.{refusal_number};
+
+    ghost from_gives = { λ refusal number. number ≡ refusal_number refusal };
+
+    // The answer number of a refusal.
+    fn from(refusal: Refusal) -> u8 {
+        refusal as u8
+    }
+}
+
+// The same, by the name that the calls for C use.
 pub fn number(refusal: Refusal) -> u8
     ensures { result ≡ refusal_number refusal }
 {
-    match refusal {
-        Refusal::BadSize => 1,
-        Refusal::Unsound => 2,
-        Refusal::BadKey => 3,
-        Refusal::BadValue => 4,
-        Refusal::BadSlot => 5,
-        Refusal::SlotNotInUse => 6,
-        Refusal::NoRoom => 7,
-        Refusal::BadSheet => 8,
-        Refusal::BadReading => 9,
-        Refusal::BadToday => 10,
-        Refusal::Missing => 11,
-        Refusal::HeldNoDate => 12,
-        Refusal::Expired => 13,
-        Refusal::OutsideGate => 14,
-        Refusal::ShortBuffer => 15,
+    refusal.into()
+}
+
+// The answer number of a call, whatever it gives where it is done.
+pub fn answer_number<T: Copy>(answer: Answer<T>) -> u8
+    ensures { result ≡ answer_number answer }
+{
+    match answer {
+        Ok(_) => 0,
+        Err(refusal) => refusal.into(),
     }
 }
 
 // The answer number of a call that changes a block, or only judges it.
-pub fn change_number(answer: ChangeAnswer) -> u8
+#[tactic(auto, using(crate::proofs::RefusalSteps::change_answer))]
+pub fn change_number(answer: Answer<()>) -> u8
     ensures { result ≡ change_number answer }
 {
-    match answer {
-        ChangeAnswer::Done => 0,
-        ChangeAnswer::Refused(refusal) => number(refusal),
-    }
+    answer_number(answer)
 }
 
 // The answer number of a call that counts the cells it allocated.
-pub fn count_number(answer: CountAnswer) -> u8
+#[tactic(auto, using(crate::proofs::RefusalSteps::count_answer))]
+pub fn count_number(answer: Answer<u32>) -> u8
     ensures { result ≡ count_number answer }
 {
-    match answer {
-        CountAnswer::Done(_) => 0,
-        CountAnswer::Refused(refusal) => number(refusal),
-    }
+    answer_number(answer)
 }

@@ -3,25 +3,19 @@ ghost use Rattle.std.specs.Prelude.{◌≡◌};
 ghost use Rattle.blocks.specs.Answers.{found_outcome};
 ghost use Rattle.blocks.specs.Read.{get};
 
-use crate::answer::{ChangeAnswer, GetAnswer, Refusal};
+use crate::answer::{Answer, Refusal};
 use crate::key::is_bad_key;
-use crate::trailer_fields::{layout_of, root_word};
-use crate::validate::validate;
-use trees::lookup::{Lookup, look_up};
+use crate::validate::judged;
+use trees::lookup::look_up;
 
 // The value of a key.
-pub fn get(block: &[u8], key: &[u8]) -> GetAnswer
+#[tactic(auto, using(std::proofs::lemmas::Result::err_from_is_err_and, crate::proofs::RefusalSteps::refusal_number_lem, crate::proofs::ReadSteps::sound_grown, crate::proofs::ReadSteps::sound_shown, crate::proofs::GetSteps::get_refused, crate::proofs::GetSteps::get_bad_key, crate::proofs::GetSteps::get_ended))]
+pub fn get(block: &[u8], key: &[u8]) -> Answer<u32>
     ensures { get block.now key.now ≡ found_outcome result }
 {
-    if let ChangeAnswer::Refused(refusal) = validate(block) {
-        return GetAnswer::Refused(refusal);
-    }
+    let block = judged(block)?.block;
     if is_bad_key(key) {
-        return GetAnswer::Refused(Refusal::BadKey);
+        return Err(Refusal::BadKey);
     }
-    let layout = layout_of(block);
-    let Lookup::Value(value) = look_up(layout, block, root_word(layout, block), key) else {
-        return GetAnswer::Refused(Refusal::Missing);
-    };
-    GetAnswer::Value(value)
+    look_up(&block.cells(), block.root_word(), key).ok_or(Refusal::Missing)
 }

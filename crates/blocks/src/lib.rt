@@ -2,6 +2,7 @@
 #![tactic(auto)]
 
 pub mod answer;
+pub mod block;
 pub mod get;
 pub mod key;
 pub mod next;

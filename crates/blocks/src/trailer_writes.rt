@@ -1,50 +1,78 @@
 // The trailer of a block: its fields written.
-ghost use Rattle.std.specs.Prelude.{true, ◌≡◌, length};
-ghost use Rattle.blocks.specs.Trailer.{valid_slot};
-ghost use Rattle.blocks.specs.TrailerWrites.{with_root, with_slot_word, with_slot_bits, with_cells, with_edition};
+ghost use Rattle.std.specs.Prelude.{length};
+ghost use Rattle.cells.specs.Bytes.{IsBytes};
 ghost use Rattle.blocks.specs.Code.Fits.{Fits};
 
 use crate::trailer_fields::{BITS_AT, CELLS_AT, EDITION_AT, slot_at, trailer_at};
 use cells::put_word;
 use nodes::layout::Layout;
 
-// Writes the root word.
-pub fn put_root(layout: Layout, block: &mut [u8], word: u32)
-    requires { Fits layout (length block.old) }
-    ensures { block.new ≡ with_root layout block.old word }
-{
-    put_word(block, trailer_at(layout), word);
+// A block that is lent to be written.
+#[derive(Drop)]
+pub struct BlockMut<'a> {
+    pub layout: Layout,
+    pub bytes: &'a mut [u8],
+    pub ghost fits: { Fits layout (length bytes.now) },
+    pub ghost are_bytes: { IsBytes bytes.now },
 }
 
-// Writes the word of a slot.
-pub fn put_slot_word(layout: Layout, block: &mut [u8], slot: usize, word: u32)
-    requires { Fits layout (length block.old) × (valid_slot layout slot ≡ true) }
-    ensures { block.new ≡ with_slot_word layout block.old slot word }
-{
-    put_word(block, slot_at(layout, slot), word);
-}
+impl<'a> BlockMut<'a> {
+    ghost use Rattle.std.specs.Prelude.{true, ◌≡◌};
+    ghost use Rattle.blocks.specs.Trailer.{valid_slot};
+    ghost use Rattle.blocks.specs.TrailerWrites.{with_root, with_slot_word, with_slot_bits, with_cells, with_edition};
+    ghost use Rattle.blocks.specs.Code.Written.{Written};
 
-// Writes the bits of the slots in use.
-pub fn put_slot_bits(layout: Layout, block: &mut [u8], bits: u8)
-    requires { Fits layout (length block.old) }
-    ensures { block.new ≡ with_slot_bits layout block.old bits }
-{
-    let at = trailer_at(layout) + BITS_AT;
-    block[at] = bits;
-}
+    // Writes the root word.
+    #[tactic(auto, using(cells::proofs::Words::with_word_bytes))]
+    pub fn put_root(&mut self, word: u32)
+        ensures { Written self.old self.new (with_root self.old.layout self.old.bytes.now word) }
+    {
+        let bytes = &mut *self.bytes;
+        put_word(bytes, trailer_at(self.layout), word);
+    }
 
-// Writes the number of cells.
-pub fn put_cells(layout: Layout, block: &mut [u8])
-    requires { Fits layout (length block.old) }
-    ensures { block.new ≡ with_cells layout block.old }
-{
-    put_word(block, trailer_at(layout) + CELLS_AT, layout.cells as u32);
-}
+    // Writes the word of a slot. It takes a number, for a Slot would borrow the block that is written.
+    #[tactic(auto, using(cells::proofs::Words::with_word_bytes, crate::proofs::Trailer::slot_within))]
+    pub fn put_slot_word(&mut self, slot: usize, word: u32)
+        requires { valid_slot self.old.layout slot ≡ true }
+        ensures { Written self.old self.new (with_slot_word self.old.layout self.old.bytes.now slot word) }
+    {
+        let bytes = &mut *self.bytes;
+        put_word(bytes, slot_at(self.layout, slot), word);
+    }
 
-// Writes the edition.
-pub fn put_edition(layout: Layout, block: &mut [u8])
-    requires { Fits layout (length block.old) }
-    ensures { block.new ≡ with_edition layout block.old }
-{
-    put_word(block, trailer_at(layout) + EDITION_AT, layout.edition);
+    // Writes the bits of the slots in use.
+    #[tactic(auto, using(cells::proofs::Words::set_bytes))]
+    pub fn put_slot_bits(&mut self, bits: u8)
+        ensures { Written self.old self.new (with_slot_bits self.old.layout self.old.bytes.now bits) }
+    {
+        let bytes = &mut *self.bytes;
+        bytes[trailer_at(self.layout) + BITS_AT] = bits;
+    }
+
+    // Writes the number of cells.
+    #[tactic(auto, using(cells::proofs::Words::with_word_bytes))]
+    pub fn put_cells(&mut self)
+        ensures { Written self.old self.new (with_cells self.old.layout self.old.bytes.now) }
+    {
+        let bytes = &mut *self.bytes;
+        put_word(
+            bytes,
+            trailer_at(self.layout) + CELLS_AT,
+            self.layout.cells as u32,
+        );
+    }
+
+    // Writes the edition.
+    #[tactic(auto, using(cells::proofs::Words::with_word_bytes))]
+    pub fn put_edition(&mut self)
+        ensures { Written self.old self.new (with_edition self.old.layout self.old.bytes.now) }
+    {
+        let bytes = &mut *self.bytes;
+        put_word(
+            bytes,
+            trailer_at(self.layout) + EDITION_AT,
+            self.layout.edition,
+        );
+    }
 }

@@ -6,20 +6,22 @@ use mathlib.Core.List.{List, [], ◌∷◌}
 use Prim.Native.Nat.{ℕ, ◌+◌, ◌-◌, ◌*◌, ◌%◌, ◌^◌, ◌≤◌, ◌<◌}
 use native.Mathlib.Nat.{one-mul}
 use native.Mathlib.Omega.{arith}
-use lib.ListN.{length}
 use lib.Pow.{shl_exact}
-use borrow.Author.Tests.{eqb-true, eqb-false, not-false}
+use borrow.Author.Tests.{eqb-true, eqb-false}
 use Rattle.nodes.specs.Layout.{Layout}
-use Rattle.blocks.specs.Trailer.{bad_size, bad_length, layout_of, root_word, valid_slot, slot_bits, slot_word, slot_bit, in_use}
+use Rattle.blocks.specs.Trailer.{layout_of, root_word, valid_slot, slot_bits, slot_word, slot_bit, in_use}
 use Rattle.blocks.specs.TrailerWrites.{with_root, with_slot_word, with_slot_bits}
-use Rattle.blocks.specs.Code.Fits.{Fits}
+use Rattle.std.specs.Prelude.{Result, Ok, Err}
+use Rattle.blocks.specs.Code.Blocks.{SlotOf}
+use Rattle.blocks.specs.declared.answer.Refusal.{Refusal as CodedRefusal}
+use Rattle.blocks.specs.declared.block.Slot.{Slot}
+use Rattle.blocks.specs.declared.block.Sound.{Sound}
+use Rattle.snapshots.specs.Code.{Lawful, FoundSlot}
 use Rattle.blocks.specs.Refusal.{refusal, first_refusal}
 use Rattle.blocks.specs.Read.{block_refusals, validate}
 use Rattle.blocks.proofs.Refusals.{NoneApplies, block_answers}
-use Rattle.blocks.proofs.RefusalSteps.{refused_earlier, zero_earlier, one_more, no_more, changed_refused, changed_done}
-use Rattle.blocks.proofs.Trailer.{has_trailer}
+use Rattle.blocks.proofs.RefusalSteps.{refused_earlier, one_more, no_more, changed_refused, changed_done}
 use Rattle.blocks.proofs.TrailerSteps.{slot_range}
-use Rattle.blocks.proofs.ValidateSteps.{layout_fits}
 use Rattle.snapshots.specs.Snapshots.{with_bit, without_bit, slot_refusals, used_slot_refusals, snapshot_block, restore_block, release_block, snapshot, restore, release}
 use Rattle.snapshots.proofs.SlotAnswers.{slot_answers}
 use Rattle.snapshots.proofs.Bits.{bit_bound, bit_within}
@@ -61,85 +63,59 @@ module _ (layout : Layout) (b : List ℕ) (slot bits : ℕ) (read : bits ≡ slo
     unfolding in_use
     bit_there on = rw (read, is) (bit_within (slot_bits layout b) (slot - 1) (eqb-true _ 1 on))
 
--- the writes of the three calls
-module _ (layout : Layout) (b new : List ℕ) (slot : ℕ) where
-  pub slot_put : (marked : List ℕ) (bits word : ℕ) → marked ≡ with_slot_bits layout b bits → new ≡ with_slot_word layout marked slot word
-      → new ≡ with_slot_word layout (with_slot_bits layout b bits) slot word
-  slot_put marked bits word first e = rw (e, first)
-
-  pub snapshot_put : (bits root : ℕ) → root ≡ root_word layout b → bits ≡ with_bit layout b slot
-      → new ≡ with_slot_word layout (with_slot_bits layout b bits) slot root → new ≡ snapshot_block layout b slot
-  unfolding snapshot_block
-  snapshot_put bits root root_is bits_is e = rw (e, bits_is, root_is)
-
-  pub restore_put : (word : ℕ) → word ≡ slot_word layout b slot → new ≡ with_root layout b word → new ≡ restore_block layout b slot
-  unfolding restore_block
-  restore_put word word_is e = rw (e, word_is)
-
-  pub release_put : (bits : ℕ) → bits ≡ without_bit layout b slot → new ≡ with_slot_word layout (with_slot_bits layout b bits) slot 0
-      → new ≡ release_block layout b slot
-  unfolding release_block
-  release_put bits bits_is e = rw (e, bits_is)
-
--- a block that was validated
-module _ (b : List ℕ) (e : validate b ≡ 0) where
-  block_none : NoneApplies (block_refusals b)
-  unfolding validate
-  block_none = (block_answers b).1.1.only e
-
-  pub valid_trailer_lem : bad_length 1 (length b) ≡ false
-  valid_trailer_lem = has_trailer b block_none.0
-
 -- whether a call on a slot is refused, in the order of the tests
-module _ (b : List ℕ) (slot : ℕ) where
-  pub block_refused : (answer : ℕ) → validate b ≡ answer → answer ≢ 0 → first_refusal (slot_refusals b slot) ≡ answer
+module _ (b : List ℕ) (number : ℕ) where
+  pub block_refused : (answer : ℕ) → validate b ≡ answer → answer ≢ 0 → first_refusal (slot_refusals b number) ≡ answer
   unfolding validate
   block_refused answer e n =
-      refused_earlier (block_refusals b) (refusal 5 (not (valid_slot (layout_of b) slot)) ∷ []) (λ z. n (sym e ∙ z)) ∙ e
+      refused_earlier (block_refusals b) (refusal 5 (not (valid_slot (layout_of b) number)) ∷ []) (λ z. n (sym e ∙ z)) ∙ e
 
-  module _ (e : validate b ≡ 0) (layout : Layout) (valid : Bool) (at : layout ≡ layout_of b) (is : valid ≡ valid_slot layout slot) where
-    valid_is : valid_slot (layout_of b) slot ≡ valid
-    valid_is = sym (is ∙ ap (λ (l : Layout). valid_slot l slot) at)
+  pub slot_found : (sound : Sound) → sound.block.bytes.now ≡ b → (result : Result Slot CodedRefusal) → SlotOf sound.block number result
+      → FoundSlot b number (slot_refusals b number) result
+  slot_found sound same result = go result
+    where
+      stated : sound.block.layout ≡ layout_of b
+      stated = sound.stated ∙ ap (λ (bytes : List ℕ). layout_of bytes) same
 
-    pub slot_refused : valid ≡ false → first_refusal (slot_refusals b slot) ≡ 5
-    slot_refused no_slot = one_more (block_refusals b) 5 (block_none b e) (valid_slot (layout_of b) slot) (valid_is ∙ no_slot)
+      none : NoneApplies (block_refusals b)
+      none = unfold validate in (block_answers b).1.1.only (ap (λ (bytes : List ℕ). validate bytes) (sym same) ∙ sound.valid)
 
-    pub slot_accepted : valid ≡ true → first_refusal (slot_refusals b slot) ≡ 0
-    slot_accepted a_slot = no_more (block_refusals b) 5 (block_none b e) (valid_slot (layout_of b) slot) (valid_is ∙ a_slot)
+      go : (result : Result Slot CodedRefusal) → SlotOf sound.block number result → FoundSlot b number (slot_refusals b number) result
+      go (Ok slot) is =
+          let lawful : valid_slot (layout_of b) number ≡ true = rw (← stated, ← is.layout, ← is.numbered) slot.valid in
+          record {
+            layout = is.layout ∙ stated;
+            same = is.same ∙ same;
+            numbered = is.numbered;
+            accepted = no_more (block_refusals b) 5 none (valid_slot (layout_of b) number) lawful;
+          }
+      go (Err why) is =
+          let none_there : valid_slot (layout_of b) number ≡ false = rw (← stated) is.0 in
+          one_more (block_refusals b) 5 none (valid_slot (layout_of b) number) none_there ∙ rw is.1
 
-  pub earlier_refused : (answer : ℕ) → first_refusal (slot_refusals b slot) ≡ answer → answer ≢ 0 → first_refusal (used_slot_refusals b slot) ≡ answer
+  pub earlier_refused : (answer : ℕ) → first_refusal (slot_refusals b number) ≡ answer → answer ≢ 0
+      → first_refusal (used_slot_refusals b number) ≡ answer
   earlier_refused answer e n =
-      refused_earlier (slot_refusals b slot) (refusal 6 (not (in_use (layout_of b) b slot)) ∷ []) (λ z. n (sym e ∙ z)) ∙ e
+      refused_earlier (slot_refusals b number) (refusal 6 (not (in_use (layout_of b) b number)) ∷ []) (λ z. n (sym e ∙ z)) ∙ e
 
-  pub used_slot : first_refusal (used_slot_refusals b slot) ≡ 0 → first_refusal (slot_refusals b slot) ≡ 0
-  used_slot e = zero_earlier (slot_refusals b slot) (refusal 6 (not (in_use (layout_of b) b slot)) ∷ []) e
+  module _ (slot : Slot) (lawful : Lawful b number (slot_refusals b number) slot) where
+    used_is : (used : Bool) → in_use slot.block.layout slot.block.bytes.now slot.number ≡ used → in_use (layout_of b) b number ≡ used
+    used_is used e = rw (← lawful.layout, ← lawful.same, ← lawful.numbered) e
 
-  -- what a call that is not refused goes on with
-  module _ (e : first_refusal (slot_refusals b slot) ≡ 0) where
-    slot_none : NoneApplies (slot_refusals b slot)
-    slot_none = (slot_answers b slot).1.1.1.only e
+    no_refusal : NoneApplies (slot_refusals b number)
+    no_refusal = (slot_answers b number).1.1.1.only lawful.accepted
 
-    slot_size : bad_size b ≡ false
-    slot_size = slot_none.0
+    pub use_refused : in_use slot.block.layout slot.block.bytes.now slot.number ≡ false → first_refusal (used_slot_refusals b number) ≡ 6
+    use_refused off = one_more (slot_refusals b number) 6 no_refusal (in_use (layout_of b) b number) (used_is false off)
 
-    pub slot_trailer : bad_length 1 (length b) ≡ false
-    slot_trailer = has_trailer b slot_size
-
-    pub slot_fits : (layout : Layout) → layout ≡ layout_of b → Fits layout (length b) × (valid_slot layout slot ≡ true)
-    slot_fits layout at = (
-      layout_fits b layout slot_size at,
-      ap (λ (l : Layout). valid_slot l slot) at ∙ not-false (valid_slot (layout_of b) slot) slot_none.1.1.0,
-    )
-
-    module _ (layout : Layout) (used : Bool) (at : layout ≡ layout_of b) (is : used ≡ in_use layout b slot) where
-      used_is : in_use (layout_of b) b slot ≡ used
-      used_is = sym (is ∙ ap (λ (l : Layout). in_use l b slot) at)
-
-      pub use_refused : used ≡ false → first_refusal (used_slot_refusals b slot) ≡ 6
-      use_refused unused = one_more (slot_refusals b slot) 6 slot_none (in_use (layout_of b) b slot) (used_is ∙ unused)
-
-      pub use_accepted : used ≡ true → first_refusal (used_slot_refusals b slot) ≡ 0
-      use_accepted on = no_more (slot_refusals b slot) 6 slot_none (in_use (layout_of b) b slot) (used_is ∙ on)
+    pub use_accepted : in_use slot.block.layout slot.block.bytes.now slot.number ≡ true → Lawful b number (used_slot_refusals b number) slot
+    use_accepted on =
+        record {
+          layout = lawful.layout;
+          same = lawful.same;
+          numbered = lawful.numbered;
+          accepted = no_more (slot_refusals b number) 6 no_refusal (in_use (layout_of b) b number) (used_is true on);
+        }
 
 -- the calls, stopped by a refusal
 module _ (b : List ℕ) (slot answer : ℕ) where
@@ -156,15 +132,29 @@ module _ (b : List ℕ) (slot answer : ℕ) where
   release_stopped e n = changed_refused (used_slot_refusals b slot) b _ answer e n
 
 -- and done
-module _ (b after : List ℕ) (slot : ℕ) (layout : Layout) (at : layout ≡ layout_of b) where
-  pub snapshot_done : first_refusal (slot_refusals b slot) ≡ 0 → after ≡ snapshot_block layout b slot → snapshot b slot ≡ record { answer = 0; block = after }
-  unfolding snapshot
-  snapshot_done e is = changed_done (slot_refusals b slot) b _ after e (is ∙ ap (λ (l : Layout). snapshot_block l b slot) at)
+module _ (b after : List ℕ) (number : ℕ) (slot : Slot) where
+  pub snapshot_done : Lawful b number (slot_refusals b number) slot → (bits root : ℕ)
+      → bits ≡ with_bit slot.block.layout slot.block.bytes.now slot.number → root ≡ root_word slot.block.layout slot.block.bytes.now
+      → after ≡ with_slot_word slot.block.layout (with_slot_bits slot.block.layout b bits) slot.number root
+      → snapshot b number ≡ record { answer = 0; block = after }
+  unfolding snapshot snapshot_block
+  snapshot_done lawful bits root bits_are root_is left =
+      changed_done (slot_refusals b number) b _ after lawful.accepted
+      (left ∙ rw (bits_are, root_is, lawful.layout, lawful.same, lawful.numbered))
 
-  pub restore_done : first_refusal (used_slot_refusals b slot) ≡ 0 → after ≡ restore_block layout b slot → restore b slot ≡ record { answer = 0; block = after }
-  unfolding restore
-  restore_done e is = changed_done (used_slot_refusals b slot) b _ after e (is ∙ ap (λ (l : Layout). restore_block l b slot) at)
+  pub restore_done : Lawful b number (used_slot_refusals b number) slot → (word : ℕ)
+      → word ≡ slot_word slot.block.layout slot.block.bytes.now slot.number → after ≡ with_root slot.block.layout b word
+      → restore b number ≡ record { answer = 0; block = after }
+  unfolding restore restore_block
+  restore_done lawful word word_is left =
+      changed_done (used_slot_refusals b number) b _ after lawful.accepted
+      (left ∙ rw (word_is, lawful.layout, lawful.same, lawful.numbered))
 
-  pub release_done : first_refusal (used_slot_refusals b slot) ≡ 0 → after ≡ release_block layout b slot → release b slot ≡ record { answer = 0; block = after }
-  unfolding release
-  release_done e is = changed_done (used_slot_refusals b slot) b _ after e (is ∙ ap (λ (l : Layout). release_block l b slot) at)
+  pub release_done : Lawful b number (used_slot_refusals b number) slot → (bits : ℕ)
+      → bits ≡ without_bit slot.block.layout slot.block.bytes.now slot.number
+      → after ≡ with_slot_word slot.block.layout (with_slot_bits slot.block.layout b bits) slot.number 0
+      → release b number ≡ record { answer = 0; block = after }
+  unfolding release release_block
+  release_done lawful bits bits_are left =
+      changed_done (used_slot_refusals b number) b _ after lawful.accepted
+      (left ∙ rw (bits_are, lawful.layout, lawful.same, lawful.numbered))

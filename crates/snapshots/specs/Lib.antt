@@ -1,4 +1,5 @@
 pub mod Snapshots
 pub mod Tables
 pub mod Computing
+pub mod Code
 pub mod Examples

@@ -1,154 +1,127 @@
 // Snapshots of a block: keeping the root in a slot, returning to it and giving it up.
 #![tactic(auto)]
 
-ghost use Rattle.std.specs.Prelude.{true, ◌≡◌, length};
-ghost use Rattle.blocks.specs.Answers.{change_number, changed_outcome};
-ghost use Rattle.blocks.specs.Code.Fits.{Fits};
-ghost use Rattle.blocks.specs.Refusal.{first_refusal};
+ghost use Rattle.std.specs.Prelude.{true, ◌≡◌};
+ghost use Rattle.blocks.specs.Answers.{changed_outcome};
+ghost use Rattle.blocks.specs.Code.Written.{Written};
 ghost use Rattle.blocks.specs.Trailer.{valid_slot, slot_bit};
 ghost use Rattle.blocks.specs.TrailerWrites.{with_slot_word, with_slot_bits};
-ghost use Rattle.snapshots.specs.Snapshots.{with_bit, without_bit, slot_refusals, used_slot_refusals, snapshot_block, restore_block, release_block, snapshot, restore, release};
+ghost use Rattle.snapshots.specs.Snapshots.{with_bit, without_bit, slot_refusals, used_slot_refusals, snapshot, restore, release};
+ghost use Rattle.snapshots.specs.Code.{FoundSlot};
 
-use blocks::answer::{ChangeAnswer, Refusal};
-use blocks::trailer_fields::{
-    is_in_use, is_valid_slot, layout_of, root_word, slot_bits, slot_word,
-};
-use blocks::trailer_writes::{put_root, put_slot_bits, put_slot_word};
-use blocks::validate::validate;
-use nodes::layout::Layout;
+use blocks::answer::{Answer, Refusal};
+use blocks::block::Slot;
+use blocks::trailer_writes::BlockMut;
+use blocks::validate::judged;
 
 // The value of a slot's bit.
-fn slot_bit(layout: Layout, slot: usize) -> u8
-    requires { valid_slot layout slot ≡ true }
-    ensures { result ≡ slot_bit slot }
+#[tactic(auto, using(blocks::proofs::TrailerSteps::slot_range, crate::proofs::SnapshotSteps::bit_shifted))]
+fn slot_bit(slot: &Slot) -> u8
+    ensures { result ≡ slot_bit slot.now.number }
 {
-    1u8 << (slot - 1)
+    1u8 << (slot.number - 1)
 }
 
 // The bits of the slots in use with that of a slot set.
-fn with_bit(layout: Layout, block: &[u8], slot: usize) -> u8
-    requires { Fits layout (length block.now) × (valid_slot layout slot ≡ true) }
-    ensures { result ≡ with_bit layout block.now slot }
+#[tactic(auto, using(crate::proofs::SnapshotSteps::bit_kept, crate::proofs::SnapshotSteps::bit_added, crate::proofs::SnapshotSteps::bit_room))]
+fn with_bit(slot: &Slot) -> u8
+    ensures { result ≡ with_bit slot.now.block.layout slot.now.block.bytes.now slot.now.number }
 {
-    let bits = slot_bits(layout, block);
-    if is_in_use(layout, block, slot) {
+    let bits = slot.block.slot_bits();
+    if slot.is_in_use() {
         return bits;
     }
-    bits + slot_bit(layout, slot)
+    bits + slot_bit(slot)
 }
 
-// The bits of the slots in use with that of a slot cleared.
-fn without_bit(layout: Layout, block: &[u8], slot: usize) -> u8
-    requires { Fits layout (length block.now) × (valid_slot layout slot ≡ true) }
-    ensures { result ≡ without_bit layout block.now slot }
+// The bits of the slots in use with that of a slot cleared. Apart from `with_bit`, as their definitions are: one adds, the other takes.
+#[tactic(auto, using(crate::proofs::SnapshotSteps::bit_absent, crate::proofs::SnapshotSteps::bit_taken, crate::proofs::SnapshotSteps::bit_there))]
+fn without_bit(slot: &Slot) -> u8
+    ensures { result ≡ without_bit slot.now.block.layout slot.now.block.bytes.now slot.now.number }
 {
-    let bits = slot_bits(layout, block);
-    if !is_in_use(layout, block, slot) {
+    let bits = slot.block.slot_bits();
+    if !slot.is_in_use() {
         return bits;
     }
-    bits - slot_bit(layout, slot)
+    bits - slot_bit(slot)
 }
 
-// Writes the bits of the slots in use and the word of a slot.
-fn put_slot(layout: Layout, block: &mut [u8], slot: usize, bits: u8, word: u32)
-    requires { Fits layout (length block.old) × (valid_slot layout slot ≡ true) }
-    ensures { block.new ≡ with_slot_word layout (with_slot_bits layout block.old bits) slot word }
+// The slot that a number names in a sound block.
+#[tactic(auto, using(std::proofs::lemmas::Result::err_from_is_err_and, blocks::proofs::RefusalSteps::refusal_number_lem, crate::proofs::SnapshotSteps::block_refused, crate::proofs::SnapshotSteps::slot_found))]
+fn lawful_slot(block: &[u8], slot: u32) -> Answer<Slot>
+    ensures { FoundSlot block.now slot (slot_refusals block.now slot) result }
 {
-    put_slot_bits(layout, block, bits);
-    put_slot_word(layout, block, slot, word);
+    judged(block)?.block.slot(slot as usize)
 }
 
-// Keeps the root in a slot.
-fn put_snapshot(layout: Layout, block: &mut [u8], slot: usize)
-    requires { Fits layout (length block.old) × (valid_slot layout slot ≡ true) }
-    ensures { block.new ≡ snapshot_block layout block.old slot }
+// The same of a slot that must be in use.
+#[tactic(auto, using(std::proofs::lemmas::Result::err_from_is_err_and, blocks::proofs::RefusalSteps::refusal_number_lem, crate::proofs::SnapshotSteps::earlier_refused, crate::proofs::SnapshotSteps::use_refused, crate::proofs::SnapshotSteps::use_accepted))]
+fn used_slot(block: &[u8], slot: u32) -> Answer<Slot>
+    ensures { FoundSlot block.now slot (used_slot_refusals block.now slot) result }
 {
-    let root = root_word(layout, block);
-    let bits = with_bit(layout, block, slot);
-    put_slot(layout, block, slot, bits, root);
-}
-
-// Makes the word of a slot the root.
-fn put_restore(layout: Layout, block: &mut [u8], slot: usize)
-    requires { Fits layout (length block.old) × (valid_slot layout slot ≡ true) }
-    ensures { block.new ≡ restore_block layout block.old slot }
-{
-    let word = slot_word(layout, block, slot);
-    put_root(layout, block, word);
-}
-
-// Empties a slot.
-fn put_release(layout: Layout, block: &mut [u8], slot: usize)
-    requires { Fits layout (length block.old) × (valid_slot layout slot ≡ true) }
-    ensures { block.new ≡ release_block layout block.old slot }
-{
-    let bits = without_bit(layout, block, slot);
-    put_slot(layout, block, slot, bits, 0);
-}
-
-// Why a call on a slot is refused, if it is.
-fn slot_refusal(block: &[u8], slot: u32) -> ChangeAnswer
-    ensures { first_refusal (slot_refusals block.now slot) ≡ change_number result }
-{
-    let answer = validate(block);
-    let ChangeAnswer::Done = answer else {
-        return answer;
-    };
-    if !is_valid_slot(layout_of(block), slot as usize) {
-        return ChangeAnswer::Refused(Refusal::BadSlot);
+    let slot = lawful_slot(block, slot)?;
+    if !slot.is_in_use() {
+        return Err(Refusal::SlotNotInUse);
     }
-    ChangeAnswer::Done
+    Ok(slot)
 }
 
-// Why a call on a slot that must be in use is refused, if it is.
-fn used_slot_refusal(block: &[u8], slot: u32) -> ChangeAnswer
-    ensures { first_refusal (used_slot_refusals block.now slot) ≡ change_number result }
+// Writes the bits of the slots in use and the word of a slot; a number, for a Slot would borrow the block that is written.
+fn put_slot(block: &mut BlockMut, slot: usize, bits: u8, word: u32)
+    requires { valid_slot block.old.layout slot ≡ true }
+    ensures { Written block.old block.new (with_slot_word block.old.layout (with_slot_bits block.old.layout block.old.bytes.now bits) slot word) }
 {
-    let answer = slot_refusal(block, slot);
-    let ChangeAnswer::Done = answer else {
-        return answer;
-    };
-    if !is_in_use(layout_of(block), block, slot as usize) {
-        return ChangeAnswer::Refused(Refusal::SlotNotInUse);
-    }
-    ChangeAnswer::Done
+    block.put_slot_bits(bits);
+    block.put_slot_word(slot, word);
 }
 
-// Keeps the present root in a slot; a slot in use is overwritten.
-pub fn snapshot(block: &mut [u8], slot: u32) -> ChangeAnswer
+// Keeps the present root in a slot; a slot in use is overwritten. The three calls stand apart: each writes other fields.
+#[tactic(auto, using(std::proofs::lemmas::Result::err_from_is_err_and, blocks::proofs::RefusalSteps::refusal_number_lem, crate::proofs::SnapshotSteps::snapshot_stopped, crate::proofs::SnapshotSteps::snapshot_done))]
+pub fn snapshot(block: &mut [u8], slot: u32) -> Answer<()>
     ensures { snapshot block.old slot ≡ changed_outcome result block.new }
 {
-    let answer = slot_refusal(block, slot);
-    let ChangeAnswer::Done = answer else {
-        return answer;
+    let slot = lawful_slot(block, slot)?;
+    let layout = slot.block.layout;
+    let number = slot.number;
+    let bits = with_bit(&slot);
+    let root = slot.block.root_word();
+    let mut lent = BlockMut {
+        layout,
+        bytes: block,
     };
-    let layout = layout_of(block);
-    put_snapshot(layout, block, slot as usize);
-    ChangeAnswer::Done
+    put_slot(&mut lent, number, bits, root);
+    Ok(())
 }
 
 // Makes the root that a slot holds the present one; the slot keeps it.
-pub fn restore(block: &mut [u8], slot: u32) -> ChangeAnswer
+#[tactic(auto, using(std::proofs::lemmas::Result::err_from_is_err_and, blocks::proofs::RefusalSteps::refusal_number_lem, crate::proofs::SnapshotSteps::restore_stopped, crate::proofs::SnapshotSteps::restore_done))]
+pub fn restore(block: &mut [u8], slot: u32) -> Answer<()>
     ensures { restore block.old slot ≡ changed_outcome result block.new }
 {
-    let answer = used_slot_refusal(block, slot);
-    let ChangeAnswer::Done = answer else {
-        return answer;
+    let slot = used_slot(block, slot)?;
+    let layout = slot.block.layout;
+    let word = slot.slot_word();
+    let mut lent = BlockMut {
+        layout,
+        bytes: block,
     };
-    let layout = layout_of(block);
-    put_restore(layout, block, slot as usize);
-    ChangeAnswer::Done
+    lent.put_root(word);
+    Ok(())
 }
 
 // Gives up what a slot holds.
-pub fn release(block: &mut [u8], slot: u32) -> ChangeAnswer
+#[tactic(auto, using(std::proofs::lemmas::Result::err_from_is_err_and, blocks::proofs::RefusalSteps::refusal_number_lem, crate::proofs::SnapshotSteps::release_stopped, crate::proofs::SnapshotSteps::release_done))]
+pub fn release(block: &mut [u8], slot: u32) -> Answer<()>
     ensures { release block.old slot ≡ changed_outcome result block.new }
 {
-    let answer = used_slot_refusal(block, slot);
-    let ChangeAnswer::Done = answer else {
-        return answer;
+    let slot = used_slot(block, slot)?;
+    let layout = slot.block.layout;
+    let number = slot.number;
+    let bits = without_bit(&slot);
+    let mut lent = BlockMut {
+        layout,
+        bytes: block,
     };
-    let layout = layout_of(block);
-    put_release(layout, block, slot as usize);
-    ChangeAnswer::Done
+    put_slot(&mut lent, number, bits, 0);
+    Ok(())
 }

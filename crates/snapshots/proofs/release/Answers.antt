@@ -1,16 +1,6 @@
-use mathlib.Core.Path.{◌∙◌}
-use Rattle.snapshots.proofs.SnapshotSteps.{slot_trailer, slot_fits, used_slot, release_stopped, release_done}
-use Rattle.blocks.proofs.RefusalSteps.{refused_number, done_number}
+use borrow.Author.Rules.{rules}
+use Rattle.snapshots.proofs.SnapshotSteps.{release_done}
 use Rattle.snapshots.proofs.release.Goals as goal
 
-pub returns-in_default : goal.returns-in_default
-returns-in_default c = release_stopped _ _ _ c.used_slot_refusal-answer.ensures (refused_number _ _ c.in_default.is)
-
-pub layout_of-layout-requires : goal.layout_of-layout-requires
-layout_of-layout-requires c = slot_trailer _ _ (used_slot _ _ (c.used_slot_refusal-answer.ensures ∙ done_number _ c.in-Done.is))
-
-pub put_release-requires : goal.put_release-requires
-put_release-requires c = slot_fits _ _ (used_slot _ _ (c.used_slot_refusal-answer.ensures ∙ done_number _ c.in-Done.is)) _ c.layout_of-layout.ensures
-
 pub returns : goal.returns
-returns c = release_done _ _ _ _ c.layout_of-layout.ensures (c.used_slot_refusal-answer.ensures ∙ done_number _ c.in-Done.is) c.put_release.ensures
+returns c = release_done _ _ _ c.in_ok-slot.slot c.in_ok-slot.ensures _ c.without_bit-bits.ensures (search rules)

@@ -1,4 +1,0 @@
-use Rattle.blocks.proofs.trailer_writes.put_cells.Goals as goal
-
-pub returns : goal.returns
-returns c = rw (← c.trailer_at.ensures) c.put_word.ensures
