@@ -1,75 +1,67 @@
-// The children that a node keeps when it loses one, in two arrays by rising character: their number up to seven, the first six held.
+// The children that a node keeps when it loses one.
 ghost use Rattle.std.specs.Prelude.{◌≡◌, ◌≢◌, true, ◌+◌, ◌*◌, ◌≤◌, ◌<◌, length};
 ghost use Rattle.std.proofs.Math.Option.{some};
 ghost use Rattle.cells.specs.Memory.{memory_of};
-ghost use Rattle.nodes.specs.Layout.{cell_limit};
-ghost use Rattle.nodes.specs.Pointer.{pointer};
 ghost use Rattle.nodes.specs.Chain.{chain_character, chain_child};
+ghost use Rattle.nodes.specs.Code.Cells.{memory};
+ghost use Rattle.nodes.specs.Layout.{cell_numbers};
+ghost use Rattle.nodes.specs.Node.{Node, one_child, plain, read};
+ghost use Rattle.nodes.specs.Pointer.{pointer};
 ghost use Rattle.nodes.specs.Sparse.{valid_sparse, sparse_child};
 ghost use Rattle.nodes.specs.Split.{split_child};
-ghost use Rattle.nodes.specs.Node.{Node, one_child, plain, read};
-ghost use Rattle.nodes.specs.Code.Covered.{Covered};
+ghost use Rattle.removals.specs.Code.KeptChildren.{KeptOf, KeptAs, SplitInside};
 ghost use Rattle.updates.specs.Build.{child_of};
-ghost use Rattle.removals.specs.Code.KeptChildren.{KeptOf, SplitInside};
 
-use cells::{cell, word_at};
+use crate::kept_children::KeptChildren;
+use cells::{Cell, word_at};
 use nodes::chains::chain_child;
-use nodes::layout::Layout;
-use nodes::pointer::{Pointer, pointer_of};
+use nodes::memory::Cells;
+use nodes::pointer::Pointer;
 use nodes::sparse::{sparse_count, sparse_position};
 use updates::split::word_below;
 
 // Those of a place of a chain cell: none, or its own where another is lost.
-fn chain_kept(
-    bytes: &[u8],
-    number: usize,
-    place: usize,
-    x: u8,
-    characters: &mut [u8],
-    words: &mut [u32],
-) -> usize
-    requires { (length bytes.now ≡ 32) × (number < cell_limit) × (place < 28) × (chain_child bytes.now number place ≢ 0) × (6 ≤ length characters.old) × (6 ≤ length words.old) }
-    ensures { KeptOf (one_child (chain_character bytes.now place) (chain_child bytes.now number place)) x characters.new words.new result }
+fn chain_kept(bytes: &Cell, number: usize, place: usize, x: u8) -> KeptChildren
+    requires numbered { number < cell_numbers }
+    requires inside { place < 28 }
+    requires there { chain_child bytes.now number place ≢ 0 }
+    ensures { KeptOf (one_child (chain_character bytes.now place) (chain_child bytes.now number place)) x result.characters result.words result.count }
 {
+    let mut kept = KeptChildren::none();
     let character = bytes[place];
-    if character == x {
-        return 0;
+    if character != x {
+        let child = chain_child(bytes, number, place);
+        kept.push(character, child);
     }
-    let child = chain_child(bytes, number, place);
-    characters[0] = character;
-    words[0] = child;
-    1
+    kept
 }
 
 // Those of a sparse cell.
-fn sparse_kept(bytes: &[u8], x: u8, characters: &mut [u8], words: &mut [u32]) -> usize
-    requires { (length bytes.now ≡ 32) × (valid_sparse bytes.now ≡ true) × (6 ≤ length characters.old) × (6 ≤ length words.old) }
-    ensures { KeptOf (sparse_child bytes.now) x characters.new words.new result }
+fn sparse_kept(bytes: &Cell, x: u8) -> KeptChildren
+    requires { valid_sparse bytes.now ≡ true }
+    ensures { KeptOf (sparse_child bytes.now) x result.characters result.words result.count }
 {
-    let many = sparse_count(bytes);
-    let mut count: usize = 0;
-    let mut i: usize = 0;
-    while i < many {
+    let mut kept = KeptChildren::none();
+    for i in 0..sparse_count(bytes) {
         let position = sparse_position(bytes, i);
         let character = bytes[24 + position];
-        i += 1;
         if character != x {
             let child = word_at(bytes, 4 * position);
-            characters[count] = character;
-            words[count] = child;
-            count += 1;
+            kept.push(character, child);
         }
     }
-    count
+    kept
 }
 
-// Those of a split: a mid or an end that is absent is passed at once.
-fn split_kept(block: &[u8], number: usize, x: u8, characters: &mut [u8], words: &mut [u32]) -> usize
-    requires { (number * 32 + 32 ≤ length block.now) × SplitInside (memory_of block.now) (length block.now) number × (6 ≤ length characters.old) × (6 ≤ length words.old) }
-    ensures { KeptOf (split_child (memory_of block.now) number) x characters.new words.new result }
+// Those of a split, where they are no more than six: a mid or an end that is absent is passed at once.
+fn split_kept(block: &[u8], number: usize, x: u8) -> Option<KeptChildren>
+    requires inside { number * 32 + 32 ≤ length block.now }
+    requires branches { SplitInside (memory_of block.now) (length block.now) number }
+    ensures { KeptAs (split_child (memory_of block.now) number) x result }
 {
-    let mut count: usize = 0;
+    let mut kept = KeptChildren::none();
     let mut y: usize = 0;
+    // No `for`: it passes 64 or 8 characters at once.
     while y < 256 {
         let mid = word_at(block, number * 32 + (16 + 4 * (y / 64)));
         let end = word_below(block, mid, y / 8 % 8);
@@ -81,45 +73,26 @@ fn split_kept(block: &[u8], number: usize, x: u8, characters: &mut [u8], words: 
             let child = word_below(block, end, y % 8);
             let character = y as u8;
             y += 1;
-            if child != 0 {
-                if character != x {
-                    if count == 6 {
-                        return 7;
-                    }
-                    characters[count] = character;
-                    words[count] = child;
-                    count += 1;
+            if child != 0 && character != x {
+                if kept.count == 6 {
+                    return None;
                 }
+                kept.push(character, child);
             }
         }
     }
-    count
+    Some(kept)
 }
 
-// Those of a node, by its kind.
-pub fn kept_children(
-    layout: Layout,
-    block: &[u8],
-    word: u32,
-    x: u8,
-    characters: &mut [u8],
-    words: &mut [u32],
-) -> usize
-    requires { Covered layout block.now × ((node : Node) × (read layout (memory_of block.now) word ≡ some node)) × (6 ≤ length characters.old) × (6 ≤ length words.old) }
-    ensures { KeptOf (child_of (plain layout (memory_of block.now) (pointer layout word))) x characters.new words.new result }
+// Those of a node, by its kind, where they are no more than six.
+pub fn kept_children(cells: &Cells, word: u32, x: u8) -> Option<KeptChildren>
+    requires { (node : Node) × (read cells.now.layout (memory cells.now) word ≡ some node) }
+    ensures { KeptAs (child_of (plain cells.now.layout (memory cells.now) (pointer cells.now.layout word))) x result }
 {
-    let named = pointer_of(layout, word);
-    match named {
-        Pointer::Chain(number, place) => chain_kept(
-            cell(block, number),
-            number,
-            place,
-            x,
-            characters,
-            words,
-        ),
-        Pointer::Sparse(number) => sparse_kept(cell(block, number), x, characters, words),
-        Pointer::Split(number) => split_kept(block, number, x, characters, words),
-        _ => 0,
+    match cells.pointer(word) {
+        Pointer::Chain(number, place) => Some(chain_kept(cells.cell(number), number, place, x)),
+        Pointer::Sparse(number) => Some(sparse_kept(cells.cell(number), x)),
+        Pointer::Split(number) => split_kept(cells.bytes, number, x),
+        _ => Some(KeptChildren::none()),
     }
 }

@@ -2,6 +2,7 @@
 #![tactic(auto)]
 
 pub mod children;
+pub mod kept_children;
 pub mod left;
 pub mod lose_child;
 pub mod removal;

@@ -105,20 +105,19 @@ pub record Filling (first now : List ℕ) (at : ℕ) (goal rest : List ℕ) : Ty
   pub others : (d : ℕ) → d ≢ at → memory_of now d ≡ memory_of first d
   pub makes : goal ≡ rest
 
-pub filling_start : (words : ℕ → ℕ) (first : List ℕ) (at count left position : ℕ) → count ≡ left
-    → Filling first first at (with_words words count position (memory_of first at)) (with_words words left position (memory_of first at))
-filling_start words first at count left position same =
-    record { others = λ d other. refl; makes = ap (λ (k : ℕ). with_words words k position (memory_of first at)) same }
+pub filling_start : (words : ℕ → ℕ) (first : List ℕ) (at count left position next : ℕ) → count ≡ left → position ≡ next
+    → Filling first first at (with_words words count position (memory_of first at)) (with_words words left next (memory_of first at))
+filling_start words first at count left position next same same' = record { others = λ d other. refl; makes = rw (same, same') }
 
 module _ (words : ℕ → ℕ) (goal first : List ℕ) (at : ℕ) where
-  pub filling_more : (between after : List ℕ) (left position word more : ℕ)
+  pub filling_more : (between after : List ℕ) (left position word more next : ℕ)
       → Filling first between at goal (with_words words left position (memory_of between at))
-      → Put between after at (with_word (memory_of between at) (4 * position) word) → word ≡ words position → left ≡ more + 1
-      → Filling first after at goal (with_words words more (position + 1) (memory_of after at))
-  filling_more between after left position word more so_far put right e =
+      → Put between after at (with_word (memory_of between at) (4 * position) word) → word ≡ words position → left ≡ more + 1 → next ≡ position + 1
+      → Filling first after at goal (with_words words more next (memory_of after at))
+  filling_more between after left position word more next so_far put right e e' =
       record {
         others = λ d other. put.others d other ∙ so_far.others d other;
-        makes = words_more words goal (memory_of between at) (memory_of after at) left position word more so_far.makes put.here right e;
+        makes = rw e' (words_more words goal (memory_of between at) (memory_of after at) left position word more so_far.makes put.here right e);
       }
 
 pub filling_end : (words : ℕ → ℕ) (s first last : List ℕ) (at count position left end : ℕ) → Put s first at blank

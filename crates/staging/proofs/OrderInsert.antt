@@ -18,6 +18,7 @@ use Rattle.order_words.proofs.Steps.{one_left}
 use Rattle.order_words.proofs.Coding.{power, encode_cons, encode_below, length_digits, digits_below_six, extended_order_bound}
 use Rattle.nodes.specs.Sparse.{sparse_character, sparse_order, sparse_digits, sparse_count, valid_sparse}
 use Rattle.nodes.proofs.SparseNodes.SparseChildren.{sparse_parts}
+use Rattle.order_words.proofs.Coding.{encode_digits}
 
 -- one place less, where there is one
 pub left_one : (left : ℕ) → left ≢ 0 → left ≡ left - 1 + 1
@@ -92,3 +93,6 @@ module _ (bytes : List ℕ) (valid : valid_sparse bytes ≡ true) (room : sparse
         extended_is x r e,
         extended_order_bound (sparse_character bytes) x (sparse_order bytes) (sparse_parts bytes valid).order room,
       )
+
+-- what an order word extended asks and makes
+pub ruleset order_ways = (encode_digits, digit_small, extended_small, extended_is)

@@ -5,3 +5,4 @@ pub mod new_cells;
 pub mod order;
 pub mod sparse;
 pub mod stage;
+pub mod task;

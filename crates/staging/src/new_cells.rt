@@ -1,5 +1,5 @@
 // The cells that a call allocates, each written whole into the stage; meaningless bytes are zero.
-ghost use Rattle.std.specs.Prelude.{◌+◌, ◌*◌, ◌/◌, ◌≤◌, ◌<◌, length, get_or};
+ghost use Rattle.std.specs.Prelude.{◌+◌, ◌-◌, ◌*◌, ◌/◌, ◌≤◌, ◌<◌, length, get_or};
 ghost use Rattle.cells.specs.Word.{word_at, with_word};
 ghost use Rattle.cells.specs.Memory.{memory_of};
 ghost use Rattle.staging.specs.NewCells.{blank, chain_cell, prefix_cell, with_prefix, pair_cell, sparse_pair, branch_copy, head_copy, with_words};
@@ -9,6 +9,7 @@ use crate::stage::{STAGE_SIZE, put_blank, put_byte, put_copy, put_word_in};
 use cells::word_at;
 
 // A chain of one character, at the end of its cell.
+#[tactic(auto, using(crate::proofs::CellPuts::put_chain_law))]
 pub fn put_chain(stage: &mut [u8; STAGE_SIZE], at: usize, x: u8, word: u32)
     requires { at < stage_cells }
     ensures { Put stage.old stage.new at (chain_cell x word) }
@@ -19,6 +20,7 @@ pub fn put_chain(stage: &mut [u8; STAGE_SIZE], at: usize, x: u8, word: u32)
 }
 
 // A standalone prefix.
+#[tactic(auto, using(crate::proofs::CellPuts::put_prefix_law))]
 pub fn put_prefix(stage: &mut [u8; STAGE_SIZE], at: usize, value: u32, word: u32)
     requires { at < stage_cells }
     ensures { Put stage.old stage.new at (prefix_cell value word) }
@@ -30,6 +32,7 @@ pub fn put_prefix(stage: &mut [u8; STAGE_SIZE], at: usize, value: u32, word: u32
 }
 
 // A value before the node of a cell that is in the stage, and the node's offset.
+#[tactic(auto, using(crate::proofs::CellPuts::put_embedded_law))]
 pub fn put_embedded(stage: &mut [u8; STAGE_SIZE], at: usize, value: u32, offset: u8)
     requires { at < stage_cells }
     ensures { Put stage.old stage.new at (with_prefix (memory_of stage.old at) value offset) }
@@ -52,6 +55,7 @@ fn put_rising_pair(stage: &mut [u8; STAGE_SIZE], at: usize, x: u8, word: u32, y:
 }
 
 // Two children in rising order.
+#[tactic(auto, using(crate::proofs::CellPuts::put_pair_below, crate::proofs::CellPuts::put_pair_above))]
 pub fn put_pair(stage: &mut [u8; STAGE_SIZE], at: usize, x: u8, word: u32, y: u8, other: u32)
     requires { at < stage_cells }
     ensures { Put stage.old stage.new at (sparse_pair x word y other) }
@@ -64,6 +68,7 @@ pub fn put_pair(stage: &mut [u8; STAGE_SIZE], at: usize, x: u8, word: u32, y: u8
 }
 
 // The eight words of the mid or end that a word names, all NONE where that is NONE.
+#[tactic(auto, using(crate::proofs::CellPuts::put_branch_none, crate::proofs::CellPuts::put_branch_some))]
 fn put_branch(stage: &mut [u8; STAGE_SIZE], at: usize, block: &[u8], word: u32)
     requires { (at < stage_cells) × (word / 32 * 32 + 32 ≤ length block.now) }
     ensures { Put stage.old stage.new at (branch_copy (memory_of block.now) word) }
@@ -76,6 +81,7 @@ fn put_branch(stage: &mut [u8; STAGE_SIZE], at: usize, block: &[u8], word: u32)
 }
 
 // The same with one of them replaced.
+#[tactic(auto, using(crate::proofs::CellPuts::put_word_over))]
 pub fn put_branch_copy(
     stage: &mut [u8; STAGE_SIZE],
     at: usize,
@@ -92,6 +98,7 @@ pub fn put_branch_copy(
 }
 
 // A word of a cell of the block, at the same byte of a cell of the stage.
+#[tactic(auto, using(crate::proofs::CellPuts::put_same_law))]
 fn put_same_word(stage: &mut [u8; STAGE_SIZE], at: usize, block: &[u8], cell: usize, offset: usize)
     requires { (at < stage_cells) × (cell * 32 + 32 ≤ length block.now) × (offset + 4 ≤ 32) }
     ensures { Put stage.old stage.new at (with_word (memory_of stage.old at) offset (word_at (memory_of block.now cell) offset)) }
@@ -113,6 +120,7 @@ fn put_head(stage: &mut [u8; STAGE_SIZE], at: usize, block: &[u8], cell: usize)
 }
 
 // The same with one of them replaced.
+#[tactic(auto, using(crate::proofs::CellPuts::put_word_over))]
 pub fn put_head_copy(
     stage: &mut [u8; STAGE_SIZE],
     at: usize,
@@ -128,24 +136,14 @@ pub fn put_head_copy(
     put_word_in(stage, at, 16 + 4 * i, value);
 }
 
-// So many words side by side from a word position on, over zero bytes: the word of a position is the one at it behind `base`.
-pub fn put_words(
-    stage: &mut [u8; STAGE_SIZE],
-    at: usize,
-    words: &[u32],
-    base: usize,
-    count: usize,
-    position: usize,
-)
-    requires { (at < stage_cells) × (position + count ≤ 8) × (base + (position + count) ≤ length words.now) }
-    ensures { Put stage.old stage.new at (with_words (λ p. get_or words.now (base + p) 0) count position blank) }
+// Words side by side from a word position on, over zero bytes.
+pub fn put_words(stage: &mut [u8; STAGE_SIZE], at: usize, words: &[u32], position: usize)
+    requires place { at < stage_cells }
+    requires inside { position + length words.now ≤ 8 }
+    ensures { Put stage.old stage.new at (with_words (λ p. get_or words.now (p - position) 0) (length words.now) position blank) }
 {
     put_blank(stage, at);
-    let end = position + count;
-    let mut p = position;
-    while p < end {
-        let word = words[base + p];
-        put_word_in(stage, at, 4 * p, word);
-        p += 1;
+    for (k, &word) in words.iter().enumerate() {
+        put_word_in(stage, at, 4 * (position + k), word);
     }
 }

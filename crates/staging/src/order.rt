@@ -4,32 +4,19 @@ ghost use Rattle.order_words.specs.Digits.{digits, encode};
 ghost use Rattle.order_words.specs.Extended.{with_digit, extended_order};
 ghost use Rattle.nodes.specs.Sparse.{sparse_character, sparse_order, sparse_count, valid_sparse};
 
+use cells::Cell;
+use nodes::sparse::sparse_order;
 use order_words::digit_count;
 
-// The word of two bytes, highest first.
-fn joined(high: u8, low: u8) -> u16
-    ensures { result ≡ high * 256 + low }
-{
-    (high as u16) * 256 + (low as u16)
-}
-
-// The order word of a sparse cell.
-fn order_of(cell: &[u8]) -> u16
-    requires { length cell.now ≡ 32 }
-    ensures { result ≡ sparse_order cell.now }
-{
-    joined(cell[30], cell[31])
-}
-
 // The number of the digits left, with a digit put in below the first one whose character is greater.
-fn with_digit(cell: &[u8], x: u8, digit: usize, rest: usize, left: usize) -> usize
-    requires { (length cell.now ≡ 32) × (digit < 6) × (rest < 65536) × (left ≤ 7) × (encode (digits left rest) ≡ rest) }
+fn with_digit(cell: &Cell, x: u8, digit: usize, rest: usize, left: usize) -> usize
+    requires digit { digit < 6 }
+    requires word { rest < 65536 }
+    requires short { left ≤ 7 }
+    requires whole { encode (digits left rest) ≡ rest }
     ensures { result ≡ encode (with_digit (sparse_character cell.now) x digit (digits left rest)) }
 {
-    if rest == 0 {
-        return digit;
-    }
-    if left == 0 {
+    if rest == 0 || left == 0 {
         return digit;
     }
     let lowest = rest % 6;
@@ -40,11 +27,13 @@ fn with_digit(cell: &[u8], x: u8, digit: usize, rest: usize, left: usize) -> usi
 }
 
 // The order word with the first free position put in for a character.
-pub fn extended_order(cell: &[u8], x: u8) -> u16
-    requires { (length cell.now ≡ 32) × (valid_sparse cell.now ≡ true) × (sparse_count cell.now < 6) }
+#[tactic(auto, using(crate::proofs::OrderInsert::digit_small, crate::proofs::OrderInsert::extended_small, crate::proofs::OrderInsert::extended_is, order_words::proofs::Coding::encode_digits))]
+pub fn extended_order(cell: &Cell, x: u8) -> u16
+    requires valid { valid_sparse cell.now ≡ true }
+    requires few { sparse_count cell.now < 6 }
     ensures { result ≡ extended_order (sparse_character cell.now) x (sparse_order cell.now) }
 {
-    let order = order_of(cell);
+    let order = sparse_order(cell);
     let digit = digit_count(order);
     with_digit(cell, x, digit, order as usize, 7) as u16
 }

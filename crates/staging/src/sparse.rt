@@ -15,14 +15,13 @@ fn clear_characters(stage: &mut [u8; STAGE_SIZE], at: usize, from: usize)
     requires { at < stage_cells }
     ensures { Put stage.old stage.new at (without_characters (6 - from) from (memory_of stage.old at)) }
 {
-    let mut position = from;
-    while position < 6 {
+    for position in from..6 {
         put_byte(stage, at, 24 + position, 0);
-        position += 1;
     }
 }
 
 // A sparse cell's own bytes.
+#[tactic(auto, using(cells::proofs::Memory::memory_length, crate::proofs::SparsePuts::put_sparse_law))]
 fn put_sparse(stage: &mut [u8; STAGE_SIZE], at: usize, block: &[u8], number: usize)
     requires { (at < stage_cells) × (number * 32 + 32 ≤ length block.now) }
     ensures { Put stage.old stage.new at (sparse_copy (memory_of block.now number)) }
@@ -33,6 +32,7 @@ fn put_sparse(stage: &mut [u8; STAGE_SIZE], at: usize, block: &[u8], number: usi
 }
 
 // The copy with the child word at a position replaced.
+#[tactic(auto, using(crate::proofs::CellPuts::put_word_over))]
 pub fn put_replaced(
     stage: &mut [u8; STAGE_SIZE],
     at: usize,
@@ -49,6 +49,7 @@ pub fn put_replaced(
 }
 
 // Writes an order word.
+#[tactic(auto, using(crate::proofs::SparsePuts::put_order_law))]
 pub fn put_order(stage: &mut [u8; STAGE_SIZE], at: usize, order: u16)
     requires { at < stage_cells }
     ensures { Put stage.old stage.new at (with_order (memory_of stage.old at) order) }
@@ -58,6 +59,7 @@ pub fn put_order(stage: &mut [u8; STAGE_SIZE], at: usize, order: u16)
 }
 
 // The copy with a child appended at the first free position, and the order word extended.
+#[tactic(auto, using(cells::proofs::Memory::memory_length, crate::proofs::SparsePuts::count_is))]
 pub fn put_appended(
     stage: &mut [u8; STAGE_SIZE],
     at: usize,
@@ -66,7 +68,10 @@ pub fn put_appended(
     x: u8,
     word: u32,
 )
-    requires { (at < stage_cells) × (number * 32 + 32 ≤ length block.now) × (valid_sparse (memory_of block.now number) ≡ true) × (sparse_count (memory_of block.now number) < 6) }
+    requires place { at < stage_cells }
+    requires inside { number * 32 + 32 ≤ length block.now }
+    requires valid { valid_sparse (memory_of block.now number) ≡ true }
+    requires few { sparse_count (memory_of block.now number) < 6 }
     ensures { Put stage.old stage.new at (appended_cell (memory_of block.now number) x word) }
 {
     let bytes = cell(block, number);

@@ -11,11 +11,7 @@ use Rattle.nodes.specs.Pointer.{word_to}
 use Rattle.updates.specs.Built.{room, first_used}
 
 module _ (own : Bool) (word : ℕ) where
-  -- no room in a cell that this call did not allocate, before a leaf, and before any node but a chain, where it is the kind
-  pub room_unowned : own ≡ false → room own word ≡ 0
-  unfolding room
-  room_unowned e = simp e
-
+  -- no room before a leaf, and before any node but a chain, where it is the kind
   pub room_leaf : 2147483648 ≤ word → room own word ≡ 0
   unfolding room
   room_leaf top = simp (le-ltb word 2147483648 top, and-false)

@@ -3,7 +3,6 @@ pub mod StagedBuild
 pub mod StagedCell
 pub mod StagedChains
 pub mod StagedDescent
-pub mod StagedEnds
 pub mod StagedPrefixes
 pub mod StagedRows
 pub mod StagedSparse

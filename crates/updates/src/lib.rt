@@ -2,7 +2,9 @@
 #![tactic(auto)]
 
 pub mod build;
+pub mod built;
 pub mod chain;
+pub mod path;
 pub mod prefix;
 pub mod rows;
 pub mod sparse_set;

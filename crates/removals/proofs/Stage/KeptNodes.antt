@@ -2,14 +2,13 @@
 use mathlib.Core.Path.{◌≡◌, refl, sym, ap, ◌∙◌, subst}
 use mathlib.Core.Logic.{◌≢◌}
 use mathlib.Core.Bool.{true}
-use mathlib.Core.List.{List, [], ◌∷◌}
+use mathlib.Core.List.{List}
 use mathlib.Core.Option.{Option, none, some, bind}
 use native.Mathlib.Decide.{dec_lt, ℕ_discrete}
 use native.Mathlib.Omega.{arith}
 use Prim.Native.Nat.{ℕ, ◌+◌, ◌*◌, ◌/◌, ◌%◌, ◌≤◌, ◌<◌}
 use lib.ListN.{length, set}
 use borrow.Author.Tests.{ne_eqb}
-use types.Run.{miss}
 use Rattle.cells.specs.Memory.{Memory}
 use Rattle.nodes.specs.Layout.{Layout}
 use Rattle.nodes.specs.Pointer.{Pointer, pointer}
@@ -24,7 +23,6 @@ use Rattle.nodes.proofs.Chain.{one_child_here, one_child_other}
 use Rattle.nodes.proofs.Coded.{coded_chain, coded_sparse, coded_split}
 use Rattle.nodes.proofs.Frame.{below_zero}
 use Rattle.nodes.proofs.Read.{read_chain, read_sparse, read_split}
-use Rattle.nodes.proofs.Steps.Rest.{Among}
 use Rattle.order_words.proofs.Valid.{at_most_six}
 use Rattle.nodes.proofs.SparseNodes.SparseChildren.{position_at, character_at, sparse_parts, position_inside, characters_in_order, sparse_has, sparse_lacks}
 use Rattle.updates.specs.SetChild.{with_child}
@@ -208,33 +206,29 @@ module _ (layout : Layout) (m : Memory) (word : ℕ) (node : (X : Node) × (read
   pub sparse_there : (c : ℕ) → p ≡ Sparse c → (bytes : List ℕ) → bytes ≡ m c → valid_sparse bytes ≡ true
   sparse_there c case bytes read_as = ap valid_sparse read_as ∙ (read_sparse layout m word node.0 node.1 c (coded_sparse layout p word coded c case)).0
 
--- the node that a word names, by the case of its pointer
-module _ (layout : Layout) (m : Memory) (word x : ℕ) (node : (X : Node) × (read layout m word ≡ some X)) (p : CodedPointer)
-    (coded : pointer_of p ≡ pointer layout word) (characters words : List ℕ) (count : ℕ) where
-  of_plain : (child : ℕ → ℕ) → child_of (plain layout m (pointer layout word)) ≡ child → KeptOf child x characters words count
-      → KeptOf (child_of (plain layout m (pointer layout word))) x characters words count
-  of_plain child is kept = subst (λ (f : ℕ → ℕ). KeptOf f x characters words count) (sym is) kept
+-- the node that a word names, by the case of its pointer: what holds of the children of its cell holds of its own
+module _ (layout : Layout) (m : Memory) (word : ℕ) (node : (X : Node) × (read layout m word ≡ some X)) (p : CodedPointer)
+    (coded : pointer_of p ≡ pointer layout word) (P : (ℕ → ℕ) → Type 0) where
+  of_plain : (child : ℕ → ℕ) → child_of (plain layout m (pointer layout word)) ≡ child → P child → P (child_of (plain layout m (pointer layout word)))
+  of_plain child is kept = subst P (sym is) kept
 
-  pub of_chain : (c k : ℕ) → p ≡ Chain c k → (bytes : List ℕ) → bytes ≡ m c
-      → KeptOf (one_child (chain_character bytes k) (chain_child bytes c k)) x characters words count
-      → KeptOf (child_of (plain layout m (pointer layout word))) x characters words count
+  pub of_chain : (c k : ℕ) → p ≡ Chain c k → (bytes : List ℕ) → bytes ≡ m c → P (one_child (chain_character bytes k) (chain_child bytes c k))
+      → P (child_of (plain layout m (pointer layout word)))
   unfolding plain child_of chain_node
   of_chain c k case bytes read_as kept =
       let there : chain_child (m c) c k ≢ 0 = chain_there layout m word node p coded c k case (m c) refl in
       of_plain (one_child (chain_character (m c) k) (chain_child (m c) c k))
       (ap (λ (q : Pointer). child_of (plain layout m q)) (coded_chain layout p word coded c k case) ∙ rw (ne_eqb (chain_child (m c) c k) 0 there))
-      (subst (λ (s : List ℕ). KeptOf (one_child (chain_character s k) (chain_child s c k)) x characters words count) read_as kept)
+      (subst (λ (s : List ℕ). P (one_child (chain_character s k) (chain_child s c k))) read_as kept)
 
-  pub of_sparse : (c : ℕ) → p ≡ Sparse c → (bytes : List ℕ) → bytes ≡ m c → KeptOf (sparse_child bytes) x characters words count
-      → KeptOf (child_of (plain layout m (pointer layout word))) x characters words count
+  pub of_sparse : (c : ℕ) → p ≡ Sparse c → (bytes : List ℕ) → bytes ≡ m c → P (sparse_child bytes) → P (child_of (plain layout m (pointer layout word)))
   unfolding plain child_of
   of_sparse c case bytes read_as kept =
       of_plain (sparse_child (m c))
       (ap (λ (q : Pointer). child_of (plain layout m q)) (coded_sparse layout p word coded c case) ∙ rw (sparse_there layout m word node p coded c case (m c) refl))
-      (subst (λ (s : List ℕ). KeptOf (sparse_child s) x characters words count) read_as kept)
+      (subst (λ (s : List ℕ). P (sparse_child s)) read_as kept)
 
-  pub of_split : (c : ℕ) → p ≡ Split c → KeptOf (split_child m c) x characters words count
-      → KeptOf (child_of (plain layout m (pointer layout word))) x characters words count
+  pub of_split : (c : ℕ) → p ≡ Split c → P (split_child m c) → P (child_of (plain layout m (pointer layout word)))
   unfolding plain child_of bind
   of_split c case kept =
       let named = coded_split layout p word coded c case in
@@ -243,18 +237,20 @@ module _ (layout : Layout) (m : Memory) (word x : ℕ) (node : (X : Node) × (re
 
 -- any other keeps none
 module _ (layout : Layout) (m : Memory) (word x : ℕ) (p : CodedPointer) (coded : pointer_of p ≡ pointer layout word) (characters words : List ℕ) where
-  none_plain : (q : CodedPointer) → Among (0 ∷ 1 ∷ 5 ∷ 6 ∷ []) q → plain layout m (pointer_of q) ≡ none
+  none_plain : (q : CodedPointer) → ((c k : ℕ) → q ≡ Chain c k → ⊥) → ((c : ℕ) → q ≡ Split c → ⊥) → ((c : ℕ) → q ≡ Sparse c → ⊥)
+      → plain layout m (pointer_of q) ≡ none
   unfolding plain
-  none_plain Nothing h = refl
-  none_plain (Leaf v) h = refl
-  none_plain (Chain c k) h = absurd (miss (0 ∷ 1 ∷ 5 ∷ 6 ∷ []) 2 tt h)
-  none_plain (Split c) h = absurd (miss (0 ∷ 1 ∷ 5 ∷ 6 ∷ []) 3 tt h)
-  none_plain (Sparse c) h = absurd (miss (0 ∷ 1 ∷ 5 ∷ 6 ∷ []) 4 tt h)
-  none_plain (Prefix c) h = refl
-  none_plain Invalid h = refl
+  none_plain Nothing no_chain no_split no_sparse = refl
+  none_plain (Leaf v) no_chain no_split no_sparse = refl
+  none_plain (Chain c k) no_chain no_split no_sparse = absurd (no_chain c k refl)
+  none_plain (Split c) no_chain no_split no_sparse = absurd (no_split c refl)
+  none_plain (Sparse c) no_chain no_split no_sparse = absurd (no_sparse c refl)
+  none_plain (Prefix c) no_chain no_split no_sparse = refl
+  none_plain Invalid no_chain no_split no_sparse = refl
 
-  pub of_other : Among (0 ∷ 1 ∷ 5 ∷ 6 ∷ []) p → KeptOf (child_of (plain layout m (pointer layout word))) x characters words 0
+  pub of_other : ((c k : ℕ) → p ≡ Chain c k → ⊥) → ((c : ℕ) → p ≡ Split c → ⊥) → ((c : ℕ) → p ≡ Sparse c → ⊥)
+      → KeptOf (child_of (plain layout m (pointer layout word))) x characters words 0
   unfolding child_of
-  of_other rest =
+  of_other no_chain no_split no_sparse =
       childless_keeps (child_of (plain layout m (pointer layout word))) x characters words
-      (λ z. ap (λ (o : Option Node). child_of o z) (ap (plain layout m) (sym coded) ∙ none_plain p rest))
+      (λ z. ap (λ (o : Option Node). child_of o z) (ap (plain layout m) (sym coded) ∙ none_plain p no_chain no_split no_sparse))

@@ -112,5 +112,5 @@ module _ {child : ℕ → ℕ} {list characters words : List ℕ} {count from : 
         }
 
     -- after six others
-    pub walk_seventh : count ≡ 6 → Kept child list characters words 7
-    walk_seventh six = record { few = λ short. absurd (omega (arith, longer)); many = λ _. refl }
+    pub walk_seventh : count ≡ 6 → 7 ≤ length list
+    walk_seventh six = omega (arith, longer)

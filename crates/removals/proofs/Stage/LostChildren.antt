@@ -1,7 +1,6 @@
 -- A node that loses a child, in the stage: what is made by how many children are kept.
 use mathlib.Core.Path.{◌≡◌, refl, sym, ap, ◌∙◌, subst}
 use mathlib.Core.List.{List, [], ◌∷◌}
-use mathlib.Core.Option.{Option, none, some}
 use native.Mathlib.Decide.{dec_lt}
 use native.Mathlib.Omega.{arith}
 use Prim.Native.Nat.{ℕ, ◌≤◌, ◌<◌}
@@ -12,10 +11,6 @@ use Rattle.nodes.specs.Layout.{Layout}
 use Rattle.nodes.specs.Pointer.{pointer}
 use Rattle.nodes.specs.Split.{split_cell}
 use Rattle.nodes.specs.Node.{plain}
-use Rattle.nodes.specs.Code.Coded.{pointer_of}
-use Rattle.nodes.specs.declared.pointer.Pointer.TheVariants.{Split}
-use Rattle.nodes.specs.declared.pointer.Pointer.{Pointer as CodedPointer}
-use Rattle.nodes.proofs.Steps.Rest.{Among, rest_of_split}
 use Rattle.staging.specs.NewCells.{chain_cell}
 use Rattle.staging.specs.Code.Stage.{stage_cells, staged, Put, allocated}
 use Rattle.staging.specs.declared.stage.BuildState.{BuildState}
@@ -23,27 +18,11 @@ use Rattle.updates.specs.Built.{Built, unowned, allocate}
 use Rattle.updates.specs.SetChild.{with_child}
 use Rattle.updates.specs.Build.{child_of}
 use Rattle.updates.specs.Code.Staged.{built_of, Fitting}
-use Rattle.updates.proofs.Stage.StagedCell.{put-allocate}
+use Rattle.updates.proofs.Stage.StagedCell.{put_allocate}
 use Rattle.updates.proofs.Stage.StagedChains.{allocate_fits}
 use Rattle.removals.specs.RisingCell.{characters_from, rising_cell}
-use Rattle.removals.specs.SplitLeft.{split_left}
 use Rattle.removals.specs.LoseChild.{of_kept, split_stays, lose_child}
 use Rattle.removals.specs.Code.KeptChildren.{Held, Kept}
-
--- the node that stays, by the case of the pointer
-module _ (layout : Layout) (number : ℕ → ℕ) (m : Memory) (word x : ℕ) (cells : List (List ℕ)) (p : CodedPointer)
-    (coded : pointer_of p ≡ pointer layout word) where
-  stays_at : (o : Option ℕ) → split_cell (pointer_of p) ≡ o
-      → split_stays number m (split_cell (pointer layout word)) x cells ≡ split_stays number m o x cells
-  stays_at o case = ap (λ (q : Option ℕ). split_stays number m q x cells) (ap split_cell (sym coded) ∙ case)
-
-  pub stays_split : (c : ℕ) → p ≡ Split c → split_stays number m (split_cell (pointer layout word)) x cells ≡ split_left number m c x cells
-  unfolding split_stays split_cell
-  stays_split c case = stays_at (some c) (ap (λ (q : CodedPointer). split_cell (pointer_of q)) case)
-
-  pub stays_none : Among (0 ∷ 1 ∷ 2 ∷ 4 ∷ 5 ∷ 6 ∷ []) p → unowned 0 cells ≡ split_stays number m (split_cell (pointer layout word)) x cells
-  unfolding split_stays
-  stays_none rest = sym (stays_at none (rest_of_split p rest))
 
 -- by how long the list of the kept characters is
 module _ (number : ℕ → ℕ) (child : ℕ → ℕ) (stays : Built) (cells : List (List ℕ)) where
@@ -77,12 +56,6 @@ module _ {child : ℕ → ℕ} {list characters words : List ℕ} {count : ℕ} 
   kept_held short = elim (dec_lt (length list) 7) [
     | yes few ↦ kept.few few
     | no other ↦ absurd (omega (arith, kept.many (omega (arith, other))))
-  ]
-
-  kept_many : 7 ≤ count → 7 ≤ length list
-  kept_many long = elim (dec_lt (length list) 7) [
-    | yes few ↦ omega (arith, (kept.few few).size)
-    | no other ↦ omega (arith, other)
   ]
 
 -- the node without the child
@@ -135,14 +108,18 @@ module _ (layout : Layout) (number : ℕ → ℕ) (m : Memory) (word x : ℕ) (s
         → ((child : ℕ → ℕ) (list : List ℕ) → Held child list characters words count → Put stage after n (rising_cell child list)) → made ≡ allocated number 30 n
         → built_of made after ≡ lose_child layout number m (pointer layout word) x (staged stage n)
     lost_some after made two few put took =
-        put-allocate (put left (characters_from left 256 0) (kept_held kept few)) number 30 made took ∙ some_is two few
+        put_allocate (put left (characters_from left 256 0) (kept_held kept few)) number 30 made took ∙ some_is two few
 
-    -- more are kept
-    many_is : 7 ≤ count → stays ≡ lose_child layout number m (pointer layout word) x (staged stage n)
-    many_is long = sym (of_many number left stays (staged stage n) (characters_from left 256 0) (kept_many kept long)) ∙ lost_is
+  -- more than six are kept
+  module _ (long : 7 ≤ length (characters_from left 256 0)) where
+    many_is : stays ≡ lose_child layout number m (pointer layout word) x (staged stage n)
+    many_is = sym (of_many number left stays (staged stage n) (characters_from left 256 0) long) ∙ lost_is
 
-    pub many_fits : 7 ≤ count → Fitting (lose_child layout number m (pointer layout word) x (staged stage n)) → Fitting stays
-    many_fits long fits = subst Fitting (sym (many_is long)) fits
+    pub many_fits : Fitting (lose_child layout number m (pointer layout word) x (staged stage n)) → Fitting stays
+    many_fits fits = subst Fitting (sym many_is) fits
 
-    pub lost_many : (all : Built) → 7 ≤ count → all ≡ stays → all ≡ lose_child layout number m (pointer layout word) x (staged stage n)
-    lost_many all long is = is ∙ many_is long
+    pub lost_many : (all : Built) → all ≡ stays → all ≡ lose_child layout number m (pointer layout word) x (staged stage n)
+    lost_many all is = is ∙ many_is
+
+-- what a lost child asks and makes
+pub ruleset lost_ways = (lost_none, one_fits, lost_one, some_fits, lost_some, many_fits, lost_many)

@@ -1,11 +1,9 @@
 -- A split without a child in the stage: the words of its end and of its mid in arrays, and the cells one after the other.
 use mathlib.Core.Path.{◌≡◌, sym, ap, ◌∙◌, subst}
 use mathlib.Core.List.{List}
-use native.Mathlib.Decide.{ℕ_discrete}
 use native.Mathlib.Omega.{arith}
 use Prim.Native.Nat.{ℕ, ◌+◌, ◌*◌, ◌/◌, ◌%◌, ◌<◌}
-use lib.ListN.{length, get_or, set}
-use lib.Seq.{get_or-set_same, get_or-set_other}
+use lib.ListN.{length, get_or}
 use Rattle.cells.specs.Word.{with_word}
 use Rattle.cells.specs.Memory.{Memory}
 use Rattle.nodes.specs.Split.{head_word, word_below}
@@ -17,34 +15,19 @@ use Rattle.updates.specs.SplitBuild.{Row, branch_row}
 use Rattle.updates.specs.SetChild.{with_child}
 use Rattle.updates.specs.Code.Staged.{Fitting, Rowed, RowFitting, Words}
 use Rattle.updates.proofs.Stage.StagedRows.{SameRow, branch_agree, branch_grows}
-use Rattle.updates.proofs.Stage.StagedSparse.{with_here, with_other}
 use Rattle.removals.specs.SplitLeft.{split_left}
-
--- eight words with one of them replaced
-pub word_replaced : (array : List ℕ) (child : ℕ → ℕ) (i value : ℕ) → ((q : ℕ) → q < 8 → get_or array q 0 ≡ child q) → i < length array
-    → Words (set array i value) (with_child child i value) 0
-word_replaced array child i value filled inside =
-    record {
-      each = λ k near.
-          let plain : k ≡ 0 + k = omega arith in
-          elim (ℕ_discrete k i) [
-            | yes here ↦ ap (λ (j : ℕ). get_or (set array i value) j 0) here ∙ get_or-set_same array i value 0 inside ∙ with_here child i value k here
-            | no other ↦ with_other child i value k (get_or (set array i value) k 0) other (get_or-set_other array i k value 0 other ∙ filled k near)
-          ]
-          ∙ ap (with_child child i value) plain;
-    }
 
 -- a mid or end of the words in an array
 module _ (number : ℕ → ℕ) (words : List ℕ) (child : ℕ → ℕ) (filled : Words words child 0) (cells : List (List ℕ)) where
-  row_same : SameRow (branch_row number (λ k. get_or words (0 + k) 0) cells) (branch_row number child cells)
+  row_same : SameRow (branch_row number (λ k. get_or words k 0) cells) (branch_row number child cells)
   row_same =
-      branch_agree number (λ k. get_or words (0 + k) 0) child cells
-      (λ p near. let plain : 0 + p ≡ p = omega arith in ap (λ (k : ℕ). get_or words k 0) plain ∙ filled.each p near ∙ ap child plain)
+      branch_agree number (λ k. get_or words k 0) child cells
+      (λ p near. let plain : 0 + p ≡ p = omega arith in filled.each p near ∙ ap child plain)
 
-  pub row_fits : RowFitting (branch_row number child cells) → RowFitting (branch_row number (λ k. get_or words (0 + k) 0) cells)
+  pub row_fits : RowFitting (branch_row number child cells) → RowFitting (branch_row number (λ k. get_or words k 0) cells)
   row_fits fits = omega (arith, fits, ap (λ (l : List (List ℕ)). length l) row_same.cells)
 
-  pub row_is : (word : ℕ) (after : List (List ℕ)) → Rowed (branch_row number (λ k. get_or words (0 + k) 0) cells) word after
+  pub row_is : (word : ℕ) (after : List (List ℕ)) → Rowed (branch_row number (λ k. get_or words k 0) cells) word after
       → Rowed (branch_row number child cells) word after
   row_is word after made = record { first = made.first ∙ row_same.words 0; stands = made.stands ∙ row_same.cells }
 

@@ -10,10 +10,10 @@ use Rattle.staging.proofs.StageLaws.{staged-length, put_next, put_newest}
 use Rattle.updates.specs.Built.{allocate}
 use Rattle.updates.specs.Code.Staged.{built_of}
 
-pub put-allocate : {before after : List ℕ} {at : ℕ} {bytes : List ℕ} → Put before after at bytes → (number : ℕ → ℕ) (kind : ℕ) (r : BuildState)
+pub put_allocate : {before after : List ℕ} {at : ℕ} {bytes : List ℕ} → Put before after at bytes → (number : ℕ → ℕ) (kind : ℕ) (r : BuildState)
     → r ≡ allocated number kind at → built_of r after ≡ allocate number kind bytes (staged before at)
 unfolding allocate
-put-allocate {before} {after} {at} put number kind r is =
+put_allocate {before} {after} {at} put number kind r is =
     ap (λ (m : BuildState). built_of m after) is ∙ (λ i. record {
       word = word_to (number (sym (staged-length before at) i)) kind;
       own = true;

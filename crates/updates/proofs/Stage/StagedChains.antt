@@ -18,7 +18,8 @@ use Rattle.updates.specs.Code.Staged.{built_of, Fitting}
 use Rattle.staging.specs.declared.stage.BuildState.{BuildState}
 use Rattle.updates.proofs.FreeBytes.{room_most}
 use Rattle.staging.proofs.StageLaws.{staged-length}
-use Rattle.updates.proofs.Stage.StagedCell.{put-allocate, put_again}
+use Rattle.updates.proofs.Stage.StagedCell.{put_allocate, put_again}
+use Rattle.cells.proofs.Memory.{memory_length}
 
 -- the byte before a chain is a byte of the cell
 pub byte_before : (own : Bool) (word r : ℕ) → r ≡ room own word → r - 1 < 32
@@ -120,5 +121,11 @@ module _ (number : ℕ → ℕ) (block bytes : List ℕ) (cell place x : ℕ) (b
       → Put stage after below.count (sparse_pair x below.word (get_or bytes place 0) child) → made ≡ allocated number 30 below.count
       → built_of made after ≡ chain_set number (memory_of block cell) cell place x (built_of below stage)
   chain_other_is child made after n is put took =
-      put-allocate put number 30 made took
+      put_allocate put number 30 made took
       ∙ ap (λ (w : ℕ). allocate number 30 (sparse_pair x below.word (get_or bytes place 0) w) (staged stage below.count)) is ∙ sym (other_here n)
+
+-- what a chain over a new child asks and makes
+pub ruleset over_ways = (over_new, over_new_fits, over_first_is, byte_before, over_longer_fits, over_longer_is)
+
+-- what a child set in a chain asks and makes
+pub ruleset chain_ways = (memory_length, chain_same_fits, chain_same_is, chain_other_fits, chain_other_is)

@@ -168,3 +168,6 @@ module _ (layout : Layout) (m : Memory) (copy : ℕ → ℕ → Built → Built)
     pub copied_more : (all : Built) → all ≡ copy (get_or array i 0) (get_or key i 0) below
         → all ≡ path_copy layout m copy at_end (reached layout m word key i) (drop i key)
     copied_more all is = is ∙ copied_node
+
+-- what a node copied asks and makes
+pub ruleset copy_ways = (set_fits, copy_is, back_fits)

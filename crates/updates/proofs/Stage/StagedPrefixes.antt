@@ -5,29 +5,18 @@ use mathlib.Core.Bool.{Bool, true, false}
 use mathlib.Core.List.{List, ◌∷◌}
 use native.Mathlib.Omega.{arith}
 use Prim.Native.Nat.{ℕ, suc, ◌-◌, ◌%◌, ◌<◌}
-use lib.Dec.{leb}
 use Rattle.cells.specs.Memory.{memory_of}
-use Rattle.nodes.specs.Layout.{Layout, may_embed}
+use Rattle.nodes.specs.Layout.{Layout}
 use Rattle.nodes.specs.Pointer.{word_to}
 use Rattle.staging.specs.NewCells.{prefix_cell, with_prefix}
 use Rattle.staging.specs.Code.Stage.{stage_cells, staged, Put}
 use Rattle.staging.specs.declared.stage.BuildState.{BuildState}
 use Rattle.staging.proofs.StageLaws.{staged-length}
-use Rattle.updates.specs.Built.{allocate, first_used}
+use Rattle.updates.specs.Built.{allocate}
 use Rattle.updates.specs.PrefixOver.{embeds, prefix_before, prefix_over}
 use Rattle.updates.specs.Code.Staged.{built_of, Fitting}
 use Rattle.updates.proofs.Stage.StagedCell.{put_again}
 use Rattle.updates.proofs.Stage.StagedChains.{allocate_fits}
-
--- whether the value is embedded, by its tests
-module _ (layout : Layout) (own : Bool) (word : ℕ) (may : Bool) (may_is : may ≡ may_embed layout) where
-  pub embeds_not : may ≡ false → false ≡ embeds layout own word
-  unfolding embeds
-  embeds_not e = rw (sym may_is ∙ e)
-
-  pub embeds_may : (first : ℕ) → may ≡ true → first ≡ first_used own word → leb 5 first ≡ embeds layout own word
-  unfolding embeds
-  embeds_may first e is = rw (sym may_is ∙ e, is)
 
 module _ (layout : Layout) (number : ℕ → ℕ) (value : ℕ) (built : BuildState) (stage : List ℕ) where
   -- a new cell for a value that is not embedded, and where there is no cell
@@ -77,3 +66,6 @@ module _ (layout : Layout) (number : ℕ → ℕ) (value : ℕ) (built : BuildSt
           → built_of (record { word = word; own = true; count = built.count }) after ≡ prefix_over layout number value (built_of built stage)
       over_inside_is n word after put made listed =
           put_again put number 31 n word built.count last made listed ∙ sym (over_inside (built.count - 1) (sym is ∙ inside) last)
+
+-- what a value over a node asks and makes
+pub ruleset prefix_ways = (over_apart_is, over_apart_fits, over_first_is, over_inside_fits, over_inside_is)

@@ -17,8 +17,9 @@ use Rattle.updates.specs.SetChild.{with_child, sparse_set}
 use Rattle.staging.specs.Code.Stage.{stage_cells, staged, Put, allocated}
 use Rattle.updates.specs.Code.Staged.{built_of, Fitting}
 use Rattle.staging.specs.declared.stage.BuildState.{BuildState}
-use Rattle.updates.proofs.Stage.StagedCell.{put-allocate}
+use Rattle.updates.proofs.Stage.StagedCell.{put_allocate}
 use Rattle.updates.proofs.Stage.StagedChains.{allocate_fits}
+use Rattle.cells.proofs.Memory.{memory_length}
 
 -- the positions walked from one on
 module _ (bytes : List ℕ) (x : ℕ) where
@@ -33,10 +34,6 @@ module _ (bytes : List ℕ) (x : ℕ) where
   position_later (suc left) less p other e =
       let same : left ≡ less = omega arith in
       rw (ne_eqb x (sparse_character bytes p) other, same)
-
-  -- found among the children
-  pub position_among : (count p : ℕ) → count ≡ sparse_count bytes → position_of bytes count 0 x ≡ p → p ≡ position_of bytes (sparse_count bytes) 0 x
-  position_among count p counted found = sym found ∙ ap (λ (k : ℕ). position_of bytes k 0 x) counted
 
   pub position_past : (left p : ℕ) → left ≡ 0 → position_of bytes left p x ≡ p
   unfolding position_of
@@ -111,7 +108,7 @@ module _ (number : ℕ → ℕ) (block bytes : List ℕ) (cell x : ℕ) (below :
 
   pub replaced_is : (made : BuildState) (after : List ℕ) → position < many → Put stage after below.count (replaced_cell (memory_of block cell) position below.word)
       → made ≡ allocated number 30 below.count → built_of made after ≡ sparse_set number (memory_of block cell) x (built_of below stage)
-  replaced_is made after here put took = put-allocate put number 30 made took ∙ sym (replaced_here here)
+  replaced_is made after here put took = put_allocate put number 30 made took ∙ sym (replaced_here here)
 
   -- appended
   pub appended_fits : many ≤ position → many < 6 → Fitting (sparse_set number (memory_of block cell) x (built_of below stage)) → below.count < stage_cells
@@ -119,7 +116,7 @@ module _ (number : ℕ → ℕ) (block bytes : List ℕ) (cell x : ℕ) (below :
 
   pub appended_is : (made : BuildState) (after : List ℕ) → many ≤ position → many < 6 → Put stage after below.count (appended_cell (memory_of block cell) x below.word)
       → made ≡ allocated number 30 below.count → built_of made after ≡ sparse_set number (memory_of block cell) x (built_of below stage)
-  appended_is made after past room put took = put-allocate put number 30 made took ∙ sym (appended_here past room)
+  appended_is made after past room put took = put_allocate put number 30 made took ∙ sym (appended_here past room)
 
   -- in a split
   pub seventh_fits : many ≤ position → 6 ≤ many → Fitting (sparse_set number (memory_of block cell) x (built_of below stage))
@@ -129,3 +126,6 @@ module _ (number : ℕ → ℕ) (block bytes : List ℕ) (cell x : ℕ) (below :
   pub seventh_is : (all : Built) → many ≤ position → 6 ≤ many → all ≡ split_of number (with_child (sparse_child bytes) x below.word) (staged stage below.count)
       → all ≡ sparse_set number (memory_of block cell) x (built_of below stage)
   seventh_is all past full is = is ∙ split_here past full
+
+-- what a child set in a sparse cell asks and makes
+pub ruleset sparse_ways = (memory_length, replaced_fits, replaced_is, appended_fits, appended_is, seventh_fits, seventh_is)

@@ -1,5 +1,5 @@
 -- What the code of a build has in hand: the stage, a small struct, and the words of the path.
-use Rattle.std.specs.Prelude.{◌≡◌, false, List, ℕ, zero, suc, ◌+◌, ◌-◌, ◌≤◌, ◌<◌, length, get_or}
+use Rattle.std.specs.Prelude.{◌≡◌, false, Option, Some, None, List, ℕ, zero, suc, ◌+◌, ◌-◌, ◌≤◌, ◌<◌, length, get_or}
 use Rattle.cells.specs.Memory.{Memory}
 use Rattle.nodes.specs.Layout.{Layout, key_limit}
 use Rattle.nodes.specs.Pointer.{leaf_word}
@@ -31,6 +31,11 @@ pub record Rowed (row : Row) (word : ℕ) (cells : List (List ℕ)) : Type 0 whe
 -- the cells of a row find room
 abbrev pub RowFitting : Row → Type 0
 RowFitting row = length row.cells ≤ stage_cells
+
+-- a place among so many, told where it is one of them
+abbrev pub FoundAt : ℕ → ℕ → Option ℕ → Type 0
+FoundAt place count (Some found) = (found ≡ place) × (found < count)
+FoundAt place count None = count ≤ place
 
 -- an array that holds the child words of eight characters from one on
 pub record Words (array : List ℕ) (child : ℕ → ℕ) (from : ℕ) : Type 0 where

@@ -1,14 +1,14 @@
--- The children passed stand in the arrays, and no later one has a character below theirs.
-use mathlib.Core.Path.{refl}
+-- The children passed are held, and no later one has a character below theirs.
 use native.Mathlib.Omega.{arith}
 use Prim.Native.Nat.{◌+◌}
+use borrow.Author.Rules.{rules}
 use Rattle.nodes.proofs.SparseNodes.SparseSteps.{position_small}
 use Rattle.removals.proofs.Stage.KeptNodes.{sparse_six, sparse_start, sparse_end, sparse_lost, sparse_more}
-use borrow.Author.Rules.{rules}
 use Rattle.removals.proofs.children.sparse_kept.Goals as goal
+use Rattle.removals.proofs.children.sparse_kept.Goals.{then-character-x, else-character-x}
 
 pub loop-i-init : goal.loop-i-init
-loop-i-init c = (omega arith, omega arith, refl, refl, sparse_six _ _ c.requires.1 c.sparse_count-many.ensures, sparse_start _ _ _ _)
+loop-i-init c = record { few = omega arith; walked = rw c.none-kept.ensures (sparse_start _ _ _ _) }
 
 pub overflow_add-character : goal.overflow_add-character
 overflow_add-character c = omega (arith, position_small c.args.bytes.now c.loop-i.i)
@@ -22,11 +22,31 @@ overflow_mul-position c = omega (arith, position_small c.args.bytes.now c.loop-i
 pub word_at-child-requires : goal.word_at-child-requires
 word_at-child-requires c = omega (arith, position_small c.args.bytes.now c.loop-i.i)
 
-pub loop-i-preserved-then-character-x : goal.loop-i-preserved-then-character-x
-loop-i-preserved-then-character-x c = (omega arith, omega arith, search rules, search rules, search rules, sparse_more _ c.requires.1 _ _ _ _ _ _ c.sparse_count-many.ensures c.loop-i.invariant.5 c.loop-i-test.true _ c.sparse_position-position.ensures (omega (arith, c.shared_slice_known-in-loop-i-1.given (24 + c.sparse_position-position.result))) _ c.word_at-child.ensures c.if-character-x.true (omega arith) (omega arith))
+pub push-requires : goal.push-requires
+push-requires c = omega (arith, sparse_six _ _ c.requires c.sparse_count-i-end.ensures)
 
 pub loop-i-preserved : goal.loop-i-preserved
-loop-i-preserved c = (omega arith, omega arith, search rules, search rules, search rules, sparse_lost _ c.requires.1 _ _ _ _ _ _ c.sparse_count-many.ensures c.loop-i.invariant.5 c.loop-i-test.true _ c.sparse_position-position.ensures (omega (arith, c.shared_slice_known-in-loop-i-1.given (24 + c.sparse_position-position.result))) c.if-character-x.false)
+loop-i-preserved c =
+    let whole = c.sparse_count-i-end.ensures in
+    let so_far = c.loop-i.invariant in
+    let at = c.sparse_position-position.ensures in
+    elim c.if-character-x.branch [
+      | then-character-x w ↦
+          let more = w.push.ensures in
+          rw w.kept-is
+          (rw (more.characters, more.words, more.count)
+          (record {
+            few = omega (arith, so_far.few);
+            walked = sparse_more _ c.requires _ _ _ _ _ _ whole so_far.walked (omega arith) _ at (omega arith) _ w.word_at-child.ensures
+                w.if-character-x.true (search rules) (search rules);
+          }))
+      | else-character-x w ↦
+          rw w.kept-is
+          (record {
+            few = omega (arith, so_far.few);
+            walked = sparse_lost _ c.requires _ _ _ _ _ _ whole so_far.walked (omega arith) _ at (omega arith) w.if-character-x.false;
+          })
+    ]
 
 pub returns : goal.returns
-returns c = sparse_end _ c.requires.1 _ _ _ _ _ _ c.sparse_count-many.ensures c.loop-i.invariant.5 (omega arith) c.loop-i-test.false
+returns c = sparse_end _ c.requires _ _ _ _ _ _ c.sparse_count-i-end.ensures c.loop-i.invariant.walked (omega arith) (omega arith)

@@ -7,7 +7,5 @@ use Rattle.staging.proofs.sparse.clear_characters.Given as goal
 
 abbrev pub invariant-loop-position : goal.invariant-loop-position
 invariant-loop-position l =
-    Filling l.initial.stage l.stage l.at (without_characters (6 - l.from) l.from (memory_of l.initial.stage l.at)) (without_characters (6 - l.position) l.position (memory_of l.stage l.at))
-
-abbrev pub decreases-loop-position : goal.decreases-loop-position
-decreases-loop-position l = 6 - l.position
+    Filling l.initial.stage l.stage l.at (without_characters (6 - l.from) l.from (memory_of l.initial.stage l.at))
+    (without_characters (6 - l.position) l.position (memory_of l.stage l.at))

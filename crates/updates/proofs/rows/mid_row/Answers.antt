@@ -1,4 +1,4 @@
--- The ends made so far stand in the array, and those left to make make up the mid's ends.
+-- The ends made so far stand in the array, and those left to make make up the mid's.
 use mathlib.Core.Path.{refl}
 use native.Mathlib.Omega.{arith}
 use Prim.Native.Nat.{◌-◌}
@@ -8,23 +8,24 @@ use Rattle.updates.proofs.Stage.StagedSplitOf.{end_fits, end_more, mid_fits, mid
 use Rattle.updates.proofs.rows.mid_row.Goals as goal
 
 pub loop-j-init : goal.loop-j-init
-loop-j-init c = (omega arith, refl, making_start _ _ _)
+loop-j-init c = record { size = refl; making = making_start _ _ }
 
-pub fill_words-requires : goal.fill_words-requires
-fill_words-requires c = (search rules, search rules, omega arith)
-
-pub branch_row-row-requires : goal.branch_row-row-requires
-branch_row-row-requires c =
+pub branch_row-requires-clause-room : goal.branch_row-requires-clause-room
+branch_row-requires-clause-room c =
     let turn = c.loop-j in
-    (search rules, search rules, end_fits _ _ _ _ _ turn.j _ _ turn.invariant.2 _ c.fill_words.ensures (7 - turn.j) c.requires.3 (omega arith))
+    end_fits _ _ _ _ _ turn.j _ _ turn.invariant.making _ c.eight_children-words.ensures.words (7 - turn.j) c.requires.room (omega arith)
 
 pub loop-j-preserved : goal.loop-j-preserved
 loop-j-preserved c =
     let turn = c.loop-j in
-    (omega arith, search rules, end_more _ _ _ _ _ turn.j _ _ turn.invariant.2 _ c.fill_words.ensures _ _ _ c.branch_row-row.ensures (omega arith) (omega arith))
+    record {
+      size = search rules;
+      making = end_more _ _ _ _ _ turn.j _ _ turn.invariant.making _ c.eight_children-words.ensures.words _ _ _ c.branch_row.ensures
+          (omega arith) (omega arith);
+    }
 
-pub branch_row-requires : goal.branch_row-requires
-branch_row-requires c = (search rules, omega arith, mid_fits _ _ _ _ _ _ _ _ c.loop-j.invariant.2 (omega arith) (omega arith) c.requires.3)
+pub branch_row-requires-2-clause-room : goal.branch_row-requires-2-clause-room
+branch_row-requires-2-clause-room c = mid_fits _ _ _ _ _ _ _ _ c.loop-j.invariant.making (omega arith) (omega arith) c.requires.room
 
 pub returns : goal.returns
-returns c = mid_is _ _ _ _ _ _ _ _ c.loop-j.invariant.2 _ _ (omega arith) (omega arith) c.branch_row.ensures
+returns c = mid_is _ _ _ _ _ _ _ _ c.loop-j.invariant.making _ _ (omega arith) (omega arith) c.branch_row-2.ensures
