@@ -24,44 +24,37 @@ use Rattle.updates.specs.Commit.{build_writes}
 use Rattle.trees.specs.Code.Coded.{Grown}
 use Rattle.updates.specs.Code.Staged.{built_of}
 use Rattle.blocks.specs.Code.Fits.{Fits}
-use Rattle.blocks.specs.Trailer.{trailer_at, bad_size, layout_of, root_word}
-use Rattle.blocks.specs.Sound.{sound_with, sound}
-use Rattle.blocks.specs.Refusal.{bad_key, Counted}
+use Rattle.blocks.specs.Trailer.{trailer_at, layout_of, root_word}
+use Rattle.blocks.specs.Sound.{sound_with}
+use Rattle.blocks.specs.Refusal.{Counted}
 use Rattle.blocks.proofs.ValidateSteps.{layout_fits}
 use Rattle.blocks.proofs.Roots.{root_parts, sound_parts}
 use Rattle.store.specs.Free.{free}
 use Rattle.store.specs.Insert.{cells_free}
 use Rattle.store.specs.Committed.{numbering, commit_writes, done_call, refused_call}
-use Rattle.store.specs.Code.Changeable.{FreeAnswer, Changeable, InStage, Inside, staged_outcome}
+use Rattle.store.specs.Code.Changeable.{FreeListed, Changeable, InStage, Inside, staged_outcome}
 use Rattle.store.proofs.Free.{free-usable}
 use Rattle.store.proofs.CommitSteps.{writes_same}
-use Rattle.store.proofs.ChangeCall.{key_fits}
 
--- a block that is judged and its free cells listed
-module _ (layout : Layout) (b numbers : List ℕ) (passed : Bool) (count : ℕ) (stated : layout ≡ layout_of b) (judged : FreeAnswer layout b numbers passed count) where
-  pub judged_sound : sound b ≡ passed
-  judged_sound = sym (judged.verdict ∙ ap (λ (l : Layout). sound_with l b) stated)
-
-  pub judged_changeable : bad_size b ≡ false → passed ≡ true → (key : List ℕ) → bad_key key ≡ false → Changeable layout b numbers count key
-  judged_changeable size t key good =
-      record { stated = stated; size = size; valid = judged_sound ∙ t; listed = judged.listed t; short = key_fits key good }
+-- what a numbering by the cells listed asks for
+pub free_numbered : (layout : Layout) (b numbers : List ℕ) (count : ℕ) → Fits layout (length b)
+    → FreeListed layout b numbers count → Numbered layout count
+free_numbered layout b numbers count f listed =
+    record { some = omega (arith, f.least); most = f.most; listed = omega (arith, listed.many, length-take stage_cells (free layout b)) }
 
 module _ (layout : Layout) (b numbers : List ℕ) (count : ℕ) (key : List ℕ) (p : Changeable layout b numbers count key) where
   pub changeable_fits : Fits layout (length b)
   changeable_fits = layout_fits b layout p.size p.stated
 
-  -- what a build asks for: a numbering, a block of the layout's size, a key that is not over long and a tree
-  pub build_ready : (root : ℕ) → root ≡ root_word layout b
-      → Numbered layout count × (layout.cells * 32 ≤ length b) × (length key ≤ key_limit) × Grown layout (memory_of b) key_limit root
-  build_ready root root_is =
-      let f = changeable_fits in
+  -- what a build asks for: a block of the layout's size, and a tree
+  pub build_fits : layout.cells * 32 ≤ length b
+  build_fits = let f = changeable_fits in omega (arith, f.whole)
+
+  pub build_tree : (root : ℕ) → root ≡ root_word layout b → Grown layout (memory_of b) key_limit root
+  build_tree root root_is =
       let valid : sound_with layout b ≡ true = ap (λ (l : Layout). sound_with l b) p.stated ∙ p.valid in
-      let parts = root_parts layout (memory_of b) (root_word layout b) (sound_parts layout b valid).root in (
-        record { some = omega (arith, f.least); most = f.most; listed = omega (arith, p.listed.many, length-take stage_cells (free layout b)) },
-        omega (arith, f.whole),
-        p.short,
-        (parts.cells, ap (tree layout (memory_of b) key_limit) root_is ∙ parts.found),
-      )
+      let parts = root_parts layout (memory_of b) (root_word layout b) (sound_parts layout b valid).root in
+      (parts.cells, ap (tree layout (memory_of b) key_limit) root_is ∙ parts.found)
 
   -- the numbers listed are those of the free cells
   number_is : (i : ℕ) → i < count → get_or numbers i 0 ≡ numbering b i

@@ -69,3 +69,6 @@ module _ (layout : Layout) (b numbers : List ℕ) (made : BuildState) (stage : L
       → staged_outcome layout b numbers made stage fits ≡ record { answer = 0; count = made.count; block = after }
   unfolding staged_outcome
   outcome_takes enough after is = rw enough (λ i. record { answer = 0; count = made.count; block = sym is i })
+
+-- a turn of the loop over the cells
+pub ruleset cells_committed = (commit_none, commit_more, commit_all)

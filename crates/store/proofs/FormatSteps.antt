@@ -1,11 +1,9 @@
 -- The ways through the code of a fresh block.
 use mathlib.Core.Path.{◌≡◌, sym, ap, ◌∙◌}
-use mathlib.Core.Bool.{Bool, true, false, not}
-use mathlib.Core.List.{List, ◌++◌, append-nil}
-use Prim.Native.Nat.{ℕ, ◌≤◌}
-use native.Mathlib.Omega.{arith}
-use lib.ListN.{length, drop, replicate, drop_of_length-le}
-use borrow.Author.Tests.{not-true, not-false}
+use mathlib.Core.Bool.{Bool, true, false}
+use mathlib.Core.List.{List}
+use Prim.Native.Nat.{ℕ}
+use lib.ListN.{length}
 use Rattle.cells.specs.Bytes.{zeros}
 use Rattle.nodes.specs.Layout.{least_cells, valid_edition}
 use Rattle.blocks.specs.Code.Fits.{Fits}
@@ -16,13 +14,13 @@ use Rattle.blocks.proofs.Trailer.{good_length}
 use Rattle.store.specs.Format.{formatted, new_layout, bad_new_size, format}
 
 module _ (block : List ℕ) (edition : ℕ) (known : Bool) (is_known : known ≡ valid_edition edition) where
-  pub format_unknown : not known ≡ true → format block edition ≡ record { answer = 1; block = block }
+  pub format_unknown : known ≡ false → format block edition ≡ record { answer = 1; block = block }
   unfolding format first_refusal
-  format_unknown none = let unknown : valid_edition edition ≡ false = sym is_known ∙ not-true _ none in rw unknown
+  format_unknown none = let unknown : valid_edition edition ≡ false = sym is_known ∙ none in rw unknown
 
-  module _ (there : not known ≡ false) (least : ℕ) (is : least ≡ least_cells (new_layout edition block)) where
+  module _ (there : known ≡ true) (least : ℕ) (is : least ≡ least_cells (new_layout edition block)) where
     valid : valid_edition edition ≡ true
-    valid = sym is_known ∙ not-false _ there
+    valid = sym is_known ∙ there
 
     size_is : bad_new_size edition block ≡ bad_length least (length block)
     size_is = ap (λ (n : ℕ). bad_length n (length block)) (sym is)
@@ -44,10 +42,5 @@ module _ (block : List ℕ) (edition : ℕ) (known : Bool) (is_known : known ≡
           let accepted : bad_new_size edition block ≡ false = size_is ∙ good in
           rw (valid, accepted, stated, cells, zero)
 
--- a block whose first bytes are zeros, where these are all
-pub filled : (before bytes : List ℕ) (i : ℕ) → length before ≤ i → i ≤ length before → bytes ≡ replicate i 0 ++ drop i before
-    → bytes ≡ zeros (length before)
-unfolding zeros
-filled before bytes i low high e =
-    let end : i ≡ length before = omega arith in
-    e ∙ ap (λ (rest : List ℕ). replicate i 0 ++ rest) (drop_of_length-le before low) ∙ append-nil (replicate i 0) ∙ ap (λ (n : ℕ). replicate n 0) end
+-- the ways through the code of a fresh block
+pub ruleset format_steps = (format_unknown, format_refused, new_fits, format_done)

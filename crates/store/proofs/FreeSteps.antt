@@ -11,7 +11,6 @@ use lib.ListN.{length, get_or, set, take, length-set, length-take}
 use lib.Seq.{take-suc-set, take-set-le, take_all, take-append-le, length-take-le}
 use borrow.Author.Tests.{eq-eqb, ne_eqb}
 use Rattle.cells.specs.Occurrences.{occurrences, select, count_up}
-use Rattle.cells.proofs.Choice.{absurd_bool}
 use Rattle.cells.proofs.Selected.{select_kept, select_dropped, select-append, select_alike}
 use Rattle.staging.specs.Code.Stage.{stage_cells}
 use Rattle.nodes.specs.Layout.{Layout, trailer_cells, cell_limit}
@@ -22,7 +21,7 @@ use Rattle.blocks.specs.Code.Stamps.{Stamped, Validated}
 use Rattle.blocks.specs.Trailer.{root_word}
 use Rattle.store.specs.Free.{first_tried, allocation_order, free}
 use Rattle.store.specs.Code.Unstamped.{is_unstamped, unstamped_from, unstamped, Listed, ListedMore}
-use Rattle.store.specs.Code.Changeable.{FreeAnswer}
+use Rattle.store.specs.Code.Changeable.{FreeListed}
 use Rattle.store.proofs.Free.{order_only}
 
 -- one number more at most in an array that has room for it
@@ -130,19 +129,11 @@ unstamped-free layout block stamps most told =
       | no n ↦ ne_eqb (get_or stamps c 0) 0 n ∙ sym (ne_eqb _ 0 (λ e. n (told.unreached c near e)))
     ]
 
--- a block judged, and its free cells listed
-pub judged_listed : (layout : Layout) (block stamps numbers : List ℕ) (passed : Bool) (root count : ℕ) → Fits layout (length block)
-    → Validated layout block stamps passed → passed ≡ true → root ≡ root_word layout block
-    → Listed numbers count (take stage_cells (unstamped layout root stamps)) → FreeAnswer layout block numbers true count
-judged_listed layout block stamps numbers passed root count f validated yes_sound root_is listed =
+-- the free cells of a block that is sound
+pub sound_listed : (layout : Layout) (block stamps numbers : List ℕ) (root count : ℕ) → Fits layout (length block)
+    → Validated layout block stamps true → root ≡ root_word layout block
+    → Listed numbers count (take stage_cells (unstamped layout root stamps)) → FreeListed layout block numbers count
+sound_listed layout block stamps numbers root count f validated root_is listed =
     let same : unstamped layout root stamps ≡ free layout block =
-    ap (λ (r : ℕ). unstamped layout r stamps) root_is ∙ unstamped-free layout block stamps f.most (validated.stamped yes_sound) in
-    record {
-      verdict = sym yes_sound ∙ validated.verdict;
-      listed = λ _. subst (λ (l : List ℕ). Listed numbers count (take stage_cells l)) same listed;
-    }
-
-pub judged_unsound : (layout : Layout) (block stamps numbers : List ℕ) (passed : Bool) → Validated layout block stamps passed → passed ≡ false
-    → FreeAnswer layout block numbers false 0
-judged_unsound layout block stamps numbers passed validated not_sound =
-    record { verdict = sym not_sound ∙ validated.verdict; listed = λ e. absurd_bool (sym e) }
+    ap (λ (r : ℕ). unstamped layout r stamps) root_is ∙ unstamped-free layout block stamps f.most (validated.stamped refl) in
+    subst (λ (l : List ℕ). Listed numbers count (take stage_cells l)) same listed

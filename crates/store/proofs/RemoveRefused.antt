@@ -1,71 +1,61 @@
 -- The ways through the code of a removal that end with a refusal, and what is known where none does.
-use mathlib.Core.Path.{◌≡◌, sym, ◌∙◌, subst}
+use mathlib.Core.Path.{◌≡◌, sym, ap, ◌∙◌}
 use mathlib.Core.Logic.{◌≢◌}
-use mathlib.Core.Bool.{Bool, true, false}
-use mathlib.Core.List.{List}
-use mathlib.Core.Option.{none, some}
+use mathlib.Core.Bool.{false}
+use mathlib.Core.List.{List, [], ◌∷◌}
+use mathlib.Core.Option.{none}
 use Prim.Native.Nat.{ℕ}
 use native.Mathlib.Omega.{arith}
 use Rattle.cells.specs.Memory.{memory_of}
-use Rattle.cells.proofs.Choice.{never}
-use Rattle.nodes.specs.Layout.{Layout, key_limit}
-use Rattle.nodes.specs.Code.Covered.{Covered}
+use Rattle.std.specs.Prelude.{Option as CodedOption, Some, None, Result, Ok, Err, ok_or, is_ok}
+use Rattle.cells.specs.Optional.{option_of}
+use Rattle.cells.proofs.Choice.{never, absurd_bool, absurd_false}
+use Rattle.nodes.specs.Layout.{Layout}
 use Rattle.trees.specs.Lookup.{lookup}
-use Rattle.trees.specs.Code.Coded.{Grown}
-use Rattle.blocks.specs.Trailer.{bad_size, layout_of, root_word}
-use Rattle.blocks.specs.Sound.{sound}
-use Rattle.blocks.specs.Refusal.{bad_key}
-use Rattle.blocks.specs.Read.{shown}
+use Rattle.blocks.specs.Trailer.{root_word}
+use Rattle.blocks.specs.Refusal.{Refusal, refusal, first_refusal, bad_key}
+use Rattle.blocks.specs.Answers.{refusal_number, counted_outcome}
+use Rattle.blocks.specs.declared.answer.Refusal as declared
+use Rattle.blocks.specs.declared.answer.Refusal.TheVariants.{Missing}
+use Rattle.blocks.specs.Read.{missing, shown}
 use Rattle.blocks.proofs.ReadCalls.{none_missing}
-use Rattle.store.specs.Remove.{remove}
-use Rattle.store.specs.Code.Changeable.{FreeAnswer, Changeable}
+use Rattle.blocks.proofs.RefusalSteps.{refusal_number_lem, refused_earlier}
+use Rattle.store.specs.Remove.{no_room_to_remove, remove}
+use Rattle.store.specs.Code.Changeable.{Changeable}
+use Rattle.store.specs.Code.Judged.{asked_of_change}
 use Rattle.store.specs.Committed.{refused_call}
-use Rattle.store.proofs.CallAnswers.{remove_answers}
-use Rattle.store.proofs.ChangeCode.{judged_sound, judged_changeable, changeable_fits, build_ready}
 use Rattle.store.proofs.RemoveCall.{remove_number, remove_refused_as, remove_answer}
+use Rattle.std.proofs.lemmas.Result.{err_from_is_err_and}
+use Rattle.store.proofs.ChangeCode.{build_fits}
 
 module _ (b key : List ℕ) where
-  pub remove_size : bad_size b ≡ true → remove b key ≡ refused_call 1 b
-  remove_size bad = remove_refused_as b key 1 (remove_number b key ∙ (remove_answers b key).0.given (tt, bad)) (λ e. omega arith)
+  -- a removal that one of the answers 1 to 3 refuses
+  pub remove_judged : (why : declared.Refusal) → first_refusal (asked_of_change b key) ≡ refusal_number why
+      → remove b key ≡ refused_call (refusal_number why) b
+  remove_judged why e =
+      let more : List Refusal = refusal 11 (missing (shown b key)) ∷ refusal 7 (no_room_to_remove b key) ∷ [] in
+      remove_refused_as b key (refusal_number why)
+      (remove_number b key ∙ refused_earlier (asked_of_change b key) more (λ zero. refusal_number_lem why (sym e ∙ zero)) ∙ e)
+      (refusal_number_lem why)
 
-  module _ (size : bad_size b ≡ false) where
-    module _ (layout : Layout) (numbers : List ℕ) (passed : Bool) (count : ℕ) (stated : layout ≡ layout_of b) (judged : FreeAnswer layout b numbers passed count) where
-      told : sound b ≡ passed
-      told = judged_sound layout b numbers passed count stated judged
+  module _ (layout : Layout) (numbers : List ℕ) (count : ℕ) (p : Changeable layout b numbers count key)
+      (good : bad_key key ≡ false) (root : ℕ) (root_is : root ≡ root_word layout b) where
+    looked : lookup layout (memory_of b) root key ≡ shown b key
+    looked = rw (root_is, p.stated)
 
-      pub remove_unsound : passed ≡ false → remove b key ≡ refused_call 2 b
-      remove_unsound f =
-          let unsound : sound b ≡ false = told ∙ f in
-          remove_refused_as b key 2 (remove_number b key ∙ (remove_answers b key).1.0.given ((size, tt), rw unsound)) (λ e. omega arith)
+    -- a look-up that finds nothing refuses, and a key that it finds is shown
+    pub remove_missing : (o : CodedOption ℕ) → option_of o ≡ lookup layout (memory_of b) root key → (why : declared.Refusal)
+        → Err why ≡ ok_or o Missing → remove b key ≡ counted_outcome (Err why) b
+    remove_missing None found why e =
+        let none_there = none_missing (shown b key) (sym looked ∙ sym found) in
+        remove_refused_as b key 11 (remove_answer b key p.size p.valid ∙ rw (good, none_there)) (λ e. omega arith)
+        ∙ sym (ap (λ (r : Result ℕ declared.Refusal). counted_outcome r b) e)
+    remove_missing (Some value) found why e = absurd_false (ap (λ (r : Result ℕ declared.Refusal). is_ok r) e)
 
-      module _ (t : passed ≡ true) where
-        pub remove_key : bad_key key ≡ true → remove b key ≡ refused_call 3 b
-        remove_key bad = remove_refused_as b key 3 (remove_answer b key size (told ∙ t) ∙ rw bad) (λ e. omega arith)
+    pub remove_shown : (o : CodedOption ℕ) → option_of o ≡ lookup layout (memory_of b) root key → (value : ℕ)
+        → Ok value ≡ ok_or o Missing → shown b key ≢ none
+    remove_shown None found value e absent = absurd_bool (ap (λ (r : Result ℕ declared.Refusal). is_ok r) e)
+    remove_shown (Some other) found value e absent = never (sym absent ∙ sym looked ∙ sym found)
 
-        module _ (good : bad_key key ≡ false) (root : ℕ) (root_is : root ≡ root_word layout b) where
-          changeable : Changeable layout b numbers count key
-          changeable = judged_changeable layout b numbers passed count stated judged size t key good
-
-          -- what the look-up asks for
-          pub remove_looks : Covered layout b × Grown layout (memory_of b) key_limit root
-          remove_looks =
-              let ready = build_ready layout b numbers count key changeable root root_is in
-              (record { fits = ready.1; small = (changeable_fits layout b numbers count key changeable).most }, ready.3)
-
-          looked : lookup layout (memory_of b) root key ≡ shown b key
-          looked = rw (root_is, stated)
-
-          pub remove_missing : lookup layout (memory_of b) root key ≡ none → remove b key ≡ refused_call 11 b
-          remove_missing absent =
-              let none_there = none_missing (shown b key) (sym looked ∙ absent) in
-              remove_refused_as b key 11 (remove_answer b key size (told ∙ t) ∙ rw (good, none_there)) (λ e. omega arith)
-
-          -- none of these applies
-          pub remove_asks : (value : ℕ) → lookup layout (memory_of b) root key ≡ some value → (n : ℕ) → count ≡ n
-              → Changeable layout b numbers n key × (root ≡ root_word layout b) × (bad_key key ≡ false) × (shown b key ≢ none)
-          remove_asks value found n many = (
-            subst (λ (k : ℕ). Changeable layout b numbers k key) many changeable,
-            root_is,
-            good,
-            λ absent. never (sym absent ∙ sym looked ∙ found),
-          )
+-- the ways through the code of a removal
+pub ruleset removal_judged = (err_from_is_err_and, build_fits, remove_judged, remove_missing, remove_shown)

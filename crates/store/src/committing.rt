@@ -1,77 +1,66 @@
 // A build written from the stage into its block.
 ghost use Rattle.std.specs.Prelude.{◌≡◌, true, ◌≤◌, length, get_or};
 ghost use Rattle.cells.specs.Writes.{written};
-ghost use Rattle.staging.specs.Code.Stage.{stage_cells, staged};
+ghost use Rattle.staging.specs.Code.Stage.{stage_cells};
 ghost use Rattle.updates.specs.Commit.{build_writes};
-ghost use Rattle.updates.specs.Code.Staged.{built_of};
+ghost use Rattle.updates.specs.Code.Made.{built, cells_of};
 ghost use Rattle.blocks.specs.Answers.{counted_outcome};
 ghost use Rattle.blocks.specs.Code.Fits.{Fits};
 ghost use Rattle.store.specs.Committed.{commit_writes};
 ghost use Rattle.store.specs.Code.Changeable.{Inside, staged_outcome};
 
-use blocks::answer::{CountAnswer, Refusal};
-use blocks::trailer_writes::put_root;
+use blocks::answer::{Answer, Refusal};
+use blocks::trailer_writes::BlockMut;
 use nodes::layout::Layout;
-use staging::stage::{BuildState, STAGE_CELLS, STAGE_SIZE, copy_cell};
+use staging::stage::{STAGE_CELLS, copy_cell};
+use updates::built::Build;
 
 // Writes the staged cells, in the order allocated, into the block at their numbers.
-fn commit_cells(
-    block: &mut [u8],
-    stage: &[u8; STAGE_SIZE],
-    numbers: &[u16; STAGE_CELLS],
-    count: usize,
-)
-    requires { (count ≤ stage_cells) × Inside numbers.now count (length block.old) }
-    ensures { block.new ≡ written block.old (build_writes (λ i. get_or numbers.now i 0) (staged stage.now count)) }
+#[tactic(auto, using(crate::proofs::CommitSteps::cells_committed))]
+fn commit_cells(block: &mut [u8], numbers: &[u16; STAGE_CELLS], so_far: &Build)
+    requires staged { so_far.now.made.count ≤ stage_cells }
+    requires inside { Inside numbers.now so_far.now.made.count (length block.old) }
+    ensures { block.new ≡ written block.old (build_writes (λ i. get_or numbers.now i 0) (cells_of so_far.now)) }
 {
-    let mut i: usize = 0;
-    while i < count {
-        let number = numbers[i] as usize;
-        copy_cell(block, number, stage, i);
-        i += 1;
+    for i in 0..so_far.made.count {
+        copy_cell(block, numbers[i] as usize, &so_far.stage, i);
     }
 }
 
 // Writes a build into the block: its cells, and then the root word.
-pub fn commit(
-    layout: Layout,
-    block: &mut [u8],
-    stage: &[u8; STAGE_SIZE],
-    numbers: &[u16; STAGE_CELLS],
-    made: BuildState,
-)
-    requires { Fits layout (length block.old) × (made.count ≤ stage_cells) × Inside numbers.now made.count (length block.old) }
-    ensures { block.new ≡ written block.old (commit_writes layout (λ i. get_or numbers.now i 0) (built_of made stage.now)) }
+// Layout and numbers are no FreeCells here: that would ask that the cells listed are counted, which this never asked.
+#[tactic(auto, using(crate::proofs::CommitSteps::commit_root))]
+pub fn commit(layout: Layout, block: &mut [u8], numbers: &[u16; STAGE_CELLS], so_far: &Build)
+    requires size { Fits layout (length block.old) }
+    requires staged { so_far.now.made.count ≤ stage_cells }
+    requires inside { Inside numbers.now so_far.now.made.count (length block.old) }
+    ensures { block.new ≡ written block.old (commit_writes layout (λ i. get_or numbers.now i 0) (built so_far.now)) }
 {
-    let count = made.count;
-    let word = made.word;
-    commit_cells(block, stage, numbers, count);
-    put_root(layout, block, word);
+    commit_cells(block, numbers, so_far);
+    let mut written = BlockMut {
+        layout,
+        bytes: block,
+    };
+    written.put_root(so_far.made.word);
 }
 
-// What is built in the stage, and whether as many cells are free.
-#[derive(Clone, Copy)]
-pub struct Staged {
-    pub made: BuildState,
-    pub fits: bool,
-}
-
-// Commits what is staged, if enough cells are free, and tells how many it allocated.
+// Commits what is staged, if as many cells are free, and tells how many it allocated.
+#[tactic(auto, using(crate::proofs::CommitSteps::outcome_lacks, crate::proofs::CommitSteps::outcome_takes))]
 pub fn commit_staged(
     layout: Layout,
     block: &mut [u8],
-    stage: &[u8; STAGE_SIZE],
     numbers: &[u16; STAGE_CELLS],
-    staged: Staged,
-) -> CountAnswer
-    requires { Fits layout (length block.old) × (staged.made.count ≤ stage_cells) × (staged.fits ≡ true → Inside numbers.now staged.made.count (length block.old)) }
-    ensures { staged_outcome layout block.old numbers.now staged.made stage.now staged.fits ≡ counted_outcome result block.new }
+    so_far: &Build,
+    fits: bool,
+) -> Answer<u32>
+    requires size { Fits layout (length block.old) }
+    requires staged { so_far.now.made.count ≤ stage_cells }
+    requires inside { fits ≡ true → Inside numbers.now so_far.now.made.count (length block.old) }
+    ensures { staged_outcome layout block.old numbers.now so_far.now.made so_far.now.stage fits ≡ counted_outcome result block.new }
 {
-    if !staged.fits {
-        return CountAnswer::Refused(Refusal::NoRoom);
+    if !fits {
+        return Err(Refusal::NoRoom);
     }
-    let made = staged.made;
-    let count = made.count;
-    commit(layout, block, stage, numbers, made);
-    CountAnswer::Done(count as u32)
+    commit(layout, block, numbers, so_far);
+    Ok(so_far.made.count as u32)
 }

@@ -1,33 +1,18 @@
 // The cells that a change of a block may allocate.
-ghost use Rattle.std.specs.Prelude.{◌≡◌, ◌≤◌, ◌<◌, length, set, take};
+ghost use Rattle.std.specs.Prelude.{◌≡◌, ◌≤◌, length, take};
 ghost use Rattle.nodes.specs.Layout.{least_cells, cell_limit};
 ghost use Rattle.staging.specs.Code.Stage.{stage_cells};
-ghost use Rattle.blocks.specs.Code.Fits.{Fits};
 ghost use Rattle.store.specs.Free.{first_tried};
 ghost use Rattle.store.specs.Code.Unstamped.{unstamped_from, unstamped, Listed, ListedMore};
 ghost use Rattle.store.specs.Code.Changeable.{FreeAnswer};
 
-use blocks::trailer_fields::root_word;
-use blocks::validate::is_sound;
+use blocks::answer::{Answer, Refusal};
+use blocks::block::Block;
 use nodes::layout::{CELL_LIMIT, Layout, is_usable, trailer_cells};
 use staging::stage::STAGE_CELLS;
 
-// Whether a block is sound, and how many of its free cells are listed.
-#[derive(Clone, Copy)]
-pub struct FreeList {
-    pub sound: bool,
-    pub count: usize,
-}
-
-// Writes an element of a list of numbers.
-fn put_number(numbers: &mut [u16], place: usize, number: u16)
-    requires { place < length numbers.old }
-    ensures { numbers.new ≡ set numbers.old place number }
-{
-    numbers[place] = number;
-}
-
 // The cell where the search for free ones starts: the one after the root's own, or cell 1 where the table is empty.
+#[tactic(auto, unfolding(crate::specs::Free::first_tried))]
 fn first_tried(layout: Layout, root: u32) -> usize
     ensures { result ≡ first_tried layout root }
 {
@@ -47,34 +32,36 @@ fn list_from(
     from: usize,
     end: usize,
 ) -> usize
-    requires { (listed ≤ stage_cells) × (listed ≤ length numbers.old) × (end ≤ cell_limit) }
+    requires room { listed ≤ stage_cells }
+    requires inside { listed ≤ length numbers.old }
+    requires stamped { end ≤ cell_limit }
     ensures { ListedMore numbers.old listed (unstamped_from stamps.now from end) numbers.new result }
 {
     let mut count = listed;
-    let mut cell = from;
-    while cell < end {
+    for cell in from..end {
         let is_full = count == STAGE_CELLS;
         if is_full {
             return count;
         }
-        put_number(numbers, count, cell as u16);
+        numbers[count] = cell as u16;
         let is_free = stamps[cell] == 0;
         if is_free {
             count += 1;
         }
-        cell += 1;
     }
     count
 }
 
 // Lists the usable cells without a stamp in the order of allocation, at most as many as a build can take, and counts them.
+#[tactic(auto, using(crate::proofs::Free::first_inside, crate::proofs::FreeSteps::listed_most, crate::proofs::FreeSteps::listed_inside))]
 fn free_cells(
     layout: Layout,
     root: u32,
     stamps: &[u8; CELL_LIMIT],
     numbers: &mut [u16; STAGE_CELLS],
 ) -> usize
-    requires { (least_cells layout ≤ layout.cells) × (layout.cells ≤ cell_limit) }
+    requires least { least_cells layout ≤ layout.cells }
+    requires most { layout.cells ≤ cell_limit }
     ensures { Listed numbers.new result (take stage_cells (unstamped layout root stamps.now)) }
 {
     let cells = layout.cells;
@@ -84,19 +71,14 @@ fn free_cells(
     list_from(stamps, numbers, above, 1, start)
 }
 
-// Judges a block and lists its free cells; the stamps are not needed any longer then.
-pub fn free_list(layout: Layout, block: &[u8], numbers: &mut [u16; STAGE_CELLS]) -> FreeList
-    requires { Fits layout (length block.now) }
-    ensures { FreeAnswer layout block.now numbers.new result.sound result.count }
+// Judges a block, lists its free cells and counts them; the stamps are not needed any longer then.
+#[tactic(auto, using(crate::proofs::FreeSteps::sound_listed), unfolding(cells::specs::Bytes::zeros))]
+pub fn free_list(block: &Block, numbers: &mut [u16; STAGE_CELLS]) -> Answer<usize>
+    ensures { FreeAnswer block.now.layout block.now.bytes.now numbers.new result }
 {
     let mut stamps = [0u8; CELL_LIMIT];
-    if !is_sound(layout, block, &mut stamps) {
-        return FreeList {
-            sound: false,
-            count: 0,
-        };
+    if !block.is_sound(&mut stamps) {
+        return Err(Refusal::Unsound);
     }
-    let root = root_word(layout, block);
-    let count = free_cells(layout, root, &stamps, numbers);
-    FreeList { sound: true, count }
+    Ok(free_cells(block.layout, block.root_word(), &stamps, numbers))
 }

@@ -5,4 +5,5 @@ pub mod committing;
 pub mod formatting;
 pub mod free_cells;
 pub mod inserting;
+mod judging;
 pub mod removing;

@@ -3,80 +3,66 @@ ghost use Rattle.std.specs.Prelude.{◌≡◌, ◌≢◌, false};
 ghost use Rattle.std.proofs.Math.Option.{none};
 ghost use Rattle.blocks.specs.Answers.{counted_outcome};
 ghost use Rattle.blocks.specs.Read.{shown};
-ghost use Rattle.blocks.specs.Refusal.{bad_key};
 ghost use Rattle.blocks.specs.Trailer.{root_word};
 ghost use Rattle.store.specs.Remove.{block_removal, remove};
 ghost use Rattle.store.specs.Code.Changeable.{Changeable, InStage};
+ghost use Rattle.store.specs.Code.Judged.{ChangeReady};
 
-use crate::committing::{Staged, commit_staged};
-use crate::free_cells::free_list;
-use blocks::answer::{CountAnswer, Refusal};
-use blocks::key::is_bad_key;
-use blocks::trailer_fields::{is_bad_size, layout_of, root_word};
-use nodes::layout::Layout;
+use crate::committing::commit_staged;
+use crate::inserting::Ready;
+use crate::judging::judge_change;
+use blocks::answer::{Answer, Refusal};
+use nodes::memory::Cells;
 use removals::removal::removal;
-use staging::stage::{STAGE_CELLS, STAGE_SIZE};
-use trees::lookup::{Lookup, look_up};
+use staging::stage::STAGE_CELLS;
+use staging::task::Task;
+use trees::lookup::look_up;
+use updates::built::{Build, nothing_built};
 
-// Builds a removal in the stage; the block is only read.
-fn stage_removal(
-    layout: Layout,
-    block: &[u8],
-    numbers: &[u16; STAGE_CELLS],
-    free: usize,
-    stage: &mut [u8; STAGE_SIZE],
-    key: &[u8],
-    root: u32,
-) -> Staged
-    requires { Changeable layout block.now numbers.now free key.now × (root ≡ root_word layout block.now) }
-    ensures { InStage layout block.now (block_removal block.now key.now) result.made stage.new result.fits }
+// Builds a removal in the stage and tells whether as many cells are free; the block is only read.
+fn stage_removal(task: &Task, so_far: &mut Build, key: &[u8], root: u32) -> bool
+    requires known { Changeable task.now.free.layout task.now.block.now task.now.free.numbers.now task.now.free.count key.now }
+    requires root_is { root ≡ root_word task.now.free.layout task.now.block.now }
+    ensures { InStage task.now.free.layout task.now.block.now (block_removal task.now.block.now key.now)
+        so_far.new.made so_far.new.stage result }
 {
-    let made = removal(layout, block, numbers, free, stage, key, root);
-    let fits = made.count <= free;
-    Staged { made, fits }
+    removal(task, so_far, key, root);
+    so_far.made.count <= task.free.count
 }
 
 // Removes a key that is shown from a sound block, if enough cells are free.
-fn remove_valid(
-    layout: Layout,
-    block: &mut [u8],
-    numbers: &[u16; STAGE_CELLS],
-    free: usize,
-    key: &[u8],
-    root: u32,
-) -> CountAnswer
-    requires { Changeable layout block.old numbers.now free key.now × (root ≡ root_word layout block.old) × (bad_key key.now ≡ false) × (shown block.old key.now ≢ none) }
+// No one function with insert_valid: the clauses over the build as a closure are longer than the four lines that both have.
+#[tactic(auto, using(crate::proofs::ChangeCode::build_fits, crate::proofs::RemoveCode::remove_outcome))]
+fn remove_valid(block: &mut [u8], ready: Ready, key: &[u8]) -> Answer<u32>
+    requires ready { ChangeReady block.old key.now ready }
+    requires there { shown block.old key.now ≢ none }
     ensures { remove block.old key.now ≡ counted_outcome result block.new }
 {
-    let mut stage = [0u8; STAGE_SIZE];
-    let staged = stage_removal(layout, block, numbers, free, &mut stage, key, root);
-    commit_staged(layout, block, &stage, numbers, staged)
+    let free = ready.free;
+    let task = Task {
+        free,
+        block: &*block,
+    };
+    let mut so_far = nothing_built();
+    let fits = stage_removal(&task, &mut so_far, key, ready.root);
+    commit_staged(free.layout, block, free.numbers, &so_far, fits)
 }
 
 // Removes a key from a block and tells how many cells that allocated.
-pub fn remove(block: &mut [u8], key: &[u8]) -> CountAnswer
+#[tactic(auto, using(crate::proofs::RemoveRefused::removal_judged))]
+pub fn remove(block: &mut [u8], key: &[u8]) -> Answer<u32>
     ensures { remove block.old key.now ≡ counted_outcome result block.new }
 {
-    if is_bad_size(block) {
-        return CountAnswer::Refused(Refusal::BadSize);
-    }
-    let layout = layout_of(block);
     let mut numbers = [0u16; STAGE_CELLS];
-    let free = free_list(layout, block, &mut numbers);
-    if !free.sound {
-        return CountAnswer::Refused(Refusal::Unsound);
-    }
-    if is_bad_key(key) {
-        return CountAnswer::Refused(Refusal::BadKey);
-    }
-    let root = root_word(layout, block);
-    let Lookup::Value(_) = look_up(layout, block, root, key) else {
-        return CountAnswer::Refused(Refusal::Missing);
+    let ready = judge_change(block, key, &mut numbers)?;
+    let cells = Cells {
+        layout: ready.free.layout,
+        bytes: &*block,
     };
-    let count = free.count;
+    look_up(&cells, ready.root, key).ok_or(Refusal::Missing)?;
     // Called at two places, so that the compiler keeps the stage out of this frame, which lies below the validation.
-    if count == 0 {
-        return remove_valid(layout, block, &numbers, 0, key, root);
+    if ready.free.count == 0 {
+        return remove_valid(block, ready, key);
     }
-    remove_valid(layout, block, &numbers, count, key, root)
+    remove_valid(block, ready, key)
 }

@@ -8,6 +8,7 @@ use native.Mathlib.Omega.{arith}
 use lib.Dec.{leb}
 use lib.ListN.{length}
 use borrow.Author.Tests.{le-ltb, lt-ltb, leb-true, leb-false}
+use Rattle.std.proofs.lemmas.Result.{err_from_is_err_and}
 use Rattle.nodes.specs.Layout.{Layout, cell_limit}
 use Rattle.staging.specs.Code.Stage.{stage_cells}
 use Rattle.staging.specs.declared.stage.BuildState.{BuildState}
@@ -17,8 +18,7 @@ use Rattle.blocks.specs.declared.answer.Refusal as declared
 use Rattle.blocks.proofs.RefusalSteps.{refusal_number_lem}
 use Rattle.store.specs.Insert.{cells_free, cells_to_insert, no_room, block_build}
 use Rattle.store.specs.Code.Changeable.{InStage}
-use Rattle.store.specs.Code.Judged.{Insertable, JudgedAs}
-use Rattle.store.specs.declared.inserting.Judged.{Judged}
+use Rattle.store.specs.Code.Judged.{asked_first, Insertable}
 use Rattle.store.proofs.ChangeCode.{changeable_fits, made_count, fitting_is, made_most, committed_as}
 use Rattle.store.proofs.InsertCode.{insert_needed, build_most}
 use Rattle.store.proofs.InsertRefused.{insertable_passed, judged_refused}
@@ -29,11 +29,15 @@ use Rattle.write_lists.proofs.WriteListCall.{list_done, list_refused_as}
 use Rattle.write_lists.proofs.ListSteps.{list_lacks, list_short, list_takes}
 
 -- one of the answers 1 to 4, as the judging tells it
-pub list_judged : (b key : List ℕ) (value : ℕ) (list numbers : List ℕ) (told : Judged) → JudgedAs b numbers key value told → (why : declared.Refusal)
-    → told ≡ Judged.Refused why → write_list b key value list ≡ refused_list (refusal_number why) list
-list_judged b key value list numbers told judged why e =
+pub list_judged : (b key : List ℕ) (value : ℕ) (list : List ℕ) (why : declared.Refusal)
+    → first_refusal (asked_first b key value) ≡ refusal_number why
+    → write_list b key value list ≡ refused_list (refusal_number why) list
+list_judged b key value list why e =
     list_refused_as b key value list (refusal_number why)
-    (judged_refused b key value numbers told judged why e (refusal 7 (no_room b key) ∷ refusal 15 (short_list b key list) ∷ [])) (refusal_number_lem why)
+    (judged_refused b key value why e (refusal 7 (no_room b key) ∷ refusal 15 (short_list b key list) ∷ [])) (refusal_number_lem why)
+
+-- the way through the code of a write list where the judging refuses
+pub ruleset list_refused = (err_from_is_err_and, list_judged)
 
 -- a build in the stage, after a judging that refuses nothing
 module _ (layout : Layout) (b numbers : List ℕ) (free : ℕ) (key : List ℕ) (value root : ℕ) (p : Insertable layout b numbers free key value root)

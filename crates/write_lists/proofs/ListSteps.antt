@@ -97,3 +97,8 @@ module _ (layout : Layout) (numbers : List ℕ) (made : BuildState) (stage : Lis
       → staged_list layout numbers made stage fits list ≡ record { answer = 0; records = records_for made.count; list = after }
   unfolding staged_list
   list_takes enough room after is = rw (enough, le-ltb (length list) (8 * records_for made.count) room, is)
+
+-- the ways through the code that lists the cells, and what is staged
+pub ruleset cells_listed = (cells_none, cells_more, cells_all)
+
+pub ruleset staged_listed = (list_lacks, list_short, list_takes)

@@ -1,9 +1,8 @@
 -- Write lists of small blocks, computed: the answers, and every record of each list. The blocks that the driver's stores leave stand in
 -- `DrivenExamples`.
-use Rattle.std.specs.Prelude.{◌≡◌, refl, List, [], ◌∷◌, ◌++◌, map, ℕ, ◌+◌, replicate}
+use Rattle.std.specs.Prelude.{◌≡◌, refl, List, [], ◌∷◌, ◌++◌, map, ℕ, ◌+◌, replicate, Ok, Err}
 use Rattle.cells.specs.Bytes.{zeros}
 use Rattle.nodes.specs.Written.{words, eight_words, chain_bytes}
-use Rattle.blocks.specs.declared.answer.CountAnswer.{CountAnswer}
 use Rattle.blocks.specs.declared.answer.Refusal.TheVariants.{ShortBuffer}
 use Rattle.write_lists.specs.WriteList.{WriteList, write_list}
 use Rattle.write_lists.specs.Answers.{list_outcome}
@@ -24,7 +23,7 @@ refused_with number list = record { answer = number; records = 0; list = list }
 -- what the code's answer means: "The answer counts the records", and "on every no" the number with no records
 pub outcomes :
     ◌≡◌ {A = List WriteList}
-    (list_outcome (CountAnswer.Done 9) (lent 3) ∷ list_outcome (CountAnswer.Refused ShortBuffer) (lent 3) ∷ [])
+    (list_outcome (Ok 9) (lent 3) ∷ list_outcome (Err ShortBuffer) (lent 3) ∷ [])
     (done 9 (0xEE ∷ 0xEE ∷ 0xEE ∷ []) ∷ refused_with 15 (0xEE ∷ 0xEE ∷ 0xEE ∷ []) ∷ [])
 outcomes = refl
 

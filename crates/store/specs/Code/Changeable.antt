@@ -1,5 +1,5 @@
 -- What is known where a block is to be changed at a key.
-use Rattle.std.specs.Prelude.{◌≡◌, Bool, true, false, cond, List, ℕ, ◌+◌, ◌*◌, ◌≤◌, ◌<◌, leb, length, get_or, take}
+use Rattle.std.specs.Prelude.{◌≡◌, Result, Ok, Err, Bool, true, false, cond, List, ℕ, ◌+◌, ◌*◌, ◌≤◌, ◌<◌, leb, length, get_or, take}
 use Rattle.cells.specs.Writes.{written}
 use Rattle.nodes.specs.Layout.{Layout, key_limit}
 use Rattle.staging.specs.Code.Stage.{stage_cells}
@@ -9,6 +9,8 @@ use Rattle.updates.specs.Code.Staged.{built_of}
 use Rattle.blocks.specs.Trailer.{bad_size, layout_of}
 use Rattle.blocks.specs.Sound.{sound_with, sound}
 use Rattle.blocks.specs.Refusal.{Counted}
+use Rattle.blocks.specs.Answers.{refusal_number}
+use Rattle.blocks.specs.declared.answer.Refusal.{Refusal}
 use Rattle.store.specs.Free.{free}
 use Rattle.store.specs.Committed.{commit_writes, refused_call}
 use Rattle.store.specs.Code.Unstamped.{Listed}
@@ -17,10 +19,10 @@ use Rattle.store.specs.Code.Unstamped.{Listed}
 abbrev pub FreeListed : Layout → List ℕ → List ℕ → ℕ → Type 0
 FreeListed layout block numbers count = Listed numbers count (take stage_cells (free layout block))
 
--- a block judged, and its free cells listed where it is sound
-pub record FreeAnswer (layout : Layout) (block numbers : List ℕ) (passed : Bool) (count : ℕ) : Type 0 where
-  pub verdict : passed ≡ sound_with layout block
-  pub listed : passed ≡ true → FreeListed layout block numbers count
+-- a block judged: its free cells listed and counted where it is sound, and else 2
+abbrev pub FreeAnswer : Layout → List ℕ → List ℕ → Result ℕ Refusal → Type 0
+FreeAnswer layout block numbers (Ok count) = (sound_with layout block ≡ true) × FreeListed layout block numbers count
+FreeAnswer layout block numbers (Err refusal) = (sound_with layout block ≡ false) × (refusal_number refusal ≡ 2)
 
 -- a sound block whose layout and free cells are known, and a key that is not over long: what the build of a change asks for
 pub record Changeable (layout : Layout) (block numbers : List ℕ) (count : ℕ) (key : List ℕ) : Type 0 where

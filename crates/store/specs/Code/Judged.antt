@@ -1,13 +1,28 @@
--- What judging an insertion tells: the first of its answers 1 to 4, or what the insertion goes on with.
-use Rattle.std.specs.Prelude.{◌≡◌, false, List, [], ◌∷◌, ◌++◌, ℕ}
+-- What judging a change tells: the first of the answers that come before it, or what it goes on with.
+use Rattle.std.specs.Prelude.{◌≡◌, Result, Ok, Err, false, List, [], ◌∷◌, ◌++◌, ℕ}
 use Rattle.nodes.specs.Layout.{Layout}
 use Rattle.blocks.specs.Trailer.{root_word}
-use Rattle.blocks.specs.Refusal.{Refusal, refusal, first_refusal, bad_new_key, bad_value}
+use Rattle.blocks.specs.Refusal.{Refusal, refusal, first_refusal, bad_key, bad_new_key, bad_value}
 use Rattle.blocks.specs.Read.{block_refusals}
 use Rattle.blocks.specs.Answers.{refusal_number}
+use Rattle.blocks.specs.declared.answer.Refusal as declared
 use Rattle.store.specs.Code.Changeable.{Changeable}
-use Rattle.store.specs.declared.inserting.Judged.{Judged}
-use Rattle.store.specs.declared.inserting.Judged.TheVariants.{Refused, Passed}
+use Rattle.store.specs.declared.inserting.Ready.{Ready}
+
+-- the answers 1 to 3, which come first for every change
+abbrev pub asked_of_change : List ℕ → List ℕ → List Refusal
+asked_of_change block key = block_refusals block ++ (refusal 3 (bad_key key) ∷ [])
+
+-- what a change that none of them refuses goes on with
+pub record ChangeReady (block key : List ℕ) (ready : Ready) : Type 0 where
+  pub changeable : Changeable ready.free.layout block ready.free.numbers.now ready.free.count key
+  pub root_is : ready.root ≡ root_word ready.free.layout block
+  pub good_key : bad_key key ≡ false
+
+-- a block and a key judged, and the free cells listed where none of these answers is given
+abbrev pub ChangeJudged : List ℕ → List ℕ → Result Ready declared.Refusal → Type 0
+ChangeJudged block key (Ok ready) = ChangeReady block key ready
+ChangeJudged block key (Err why) = first_refusal (asked_of_change block key) ≡ refusal_number why
 
 -- 01's answers 1 to 4 for an insertion
 abbrev pub asked_first : List ℕ → List ℕ → ℕ → List Refusal
@@ -21,6 +36,6 @@ pub record Insertable (layout : Layout) (block numbers : List ℕ) (free : ℕ) 
   pub good_value : bad_value value ≡ false
 
 -- a block, a key and a value judged, and the free cells listed where none of these answers is given
-abbrev pub JudgedAs : List ℕ → List ℕ → List ℕ → ℕ → Judged → Type 0
-JudgedAs block numbers key value (Refused refusal) = first_refusal (asked_first block key value) ≡ refusal_number refusal
-JudgedAs block numbers key value (Passed ready) = Insertable ready.layout block numbers ready.free key value ready.root
+abbrev pub JudgedAs : List ℕ → List ℕ → ℕ → Result Ready declared.Refusal → Type 0
+JudgedAs block key value (Err why) = first_refusal (asked_first block key value) ≡ refusal_number why
+JudgedAs block key value (Ok ready) = Insertable ready.free.layout block ready.free.numbers.now ready.free.count key value ready.root

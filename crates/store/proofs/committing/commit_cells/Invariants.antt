@@ -1,6 +1,5 @@
 -- The cells written so far are those of the stage, in the order allocated.
 use mathlib.Core.Path.{◌≡◌}
-use Prim.Native.Nat.{◌-◌, ◌≤◌}
 use lib.ListN.{length, get_or}
 use Rattle.cells.specs.Writes.{written}
 use Rattle.updates.specs.Commit.{build_writes}
@@ -9,8 +8,5 @@ use Rattle.store.proofs.committing.commit_cells.Given as goal
 
 abbrev pub invariant-loop-i : goal.invariant-loop-i
 invariant-loop-i l =
-    (l.i ≤ l.count) × (length l.block ≡ length l.initial.block)
-    × (l.block ≡ written l.initial.block (build_writes (λ place. get_or l.numbers place 0) (staged l.stage l.i)))
-
-abbrev pub decreases-loop-i : goal.decreases-loop-i
-decreases-loop-i l = l.count - l.i
+    (length l.block ≡ length l.initial.block)
+    × (l.block ≡ written l.initial.block (build_writes (λ place. get_or l.numbers place 0) (staged l.so_far.stage l.i)))

@@ -8,9 +8,6 @@ use Rattle.store.proofs.FreeSteps.{listed_more, walk_kept, walk_dropped, walk_en
 use Rattle.store.proofs.free_cells.list_from.Goals as goal
 use Rattle.store.proofs.free_cells.list_from.Goals.{then-is_free, else-is_free}
 
-pub loop-cell-init : goal.loop-cell-init
-loop-cell-init c = (omega arith, omega arith, omega arith, refl)
-
 pub returns-then-is_full : goal.returns-then-is_full
 unfolding ListedMore
 returns-then-is_full c =
@@ -20,20 +17,19 @@ returns-then-is_full c =
 pub loop-cell-preserved : goal.loop-cell-preserved
 loop-cell-preserved c =
     let turn = c.loop-cell in
-    let put = c.put_number.ensures in
     elim c.if-is_free.branch [
       | then-is_free w ↦ (
         omega arith,
         omega (arith, w.count-is),
-        listed_more turn.numbers _ turn.count _ _ put (omega (arith, w.count-is)) (omega arith),
+        listed_more turn.numbers _ turn.count _ _ refl (omega (arith, w.count-is)) (omega arith),
         walk_kept _ _ turn.numbers _ turn.count _ _ _ _
-            turn.invariant.3 (eq-eqb _ 0 w.if-is_free.true) put w.count-is (omega arith) (omega arith),
+            turn.invariant.3 (eq-eqb _ 0 w.if-is_free.true) refl w.count-is (omega arith) (omega arith),
       )
       | else-is_free w ↦ (
         omega arith,
         omega (arith, w.count-is),
-        listed_more turn.numbers _ turn.count _ _ put (omega (arith, w.count-is)) (omega arith),
-        walk_dropped _ _ turn.numbers _ turn.count _ _ _ _ turn.invariant.3 (ne_eqb _ 0 w.if-is_free.false) put w.count-is (omega arith),
+        listed_more turn.numbers _ turn.count _ _ refl (omega (arith, w.count-is)) (omega arith),
+        walk_dropped _ _ turn.numbers _ turn.count _ _ _ _ turn.invariant.3 (ne_eqb _ 0 w.if-is_free.false) refl w.count-is (omega arith),
       )
     ]
 

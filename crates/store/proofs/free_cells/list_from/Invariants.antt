@@ -12,6 +12,3 @@ abbrev pub invariant-loop-cell : goal.invariant-loop-cell
 invariant-loop-cell l =
     (l.end ≤ cell_limit) × (l.count ≤ stage_cells) × (l.count ≤ length l.numbers)
     × Walked (is_unstamped l.stamps) (take l.listed l.initial.numbers ++ unstamped_from l.stamps l.from l.end) l.numbers l.count (l.end - l.cell) l.cell
-
-abbrev pub decreases-loop-cell : goal.decreases-loop-cell
-decreases-loop-cell l = l.end - l.cell

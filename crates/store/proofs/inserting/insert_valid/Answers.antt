@@ -1,13 +1,8 @@
--- The build in the stage and its commit, as the definition of an insertion has them.
-use mathlib.Core.Path.{◌∙◌}
-use Rattle.store.proofs.InsertCode.{insertion_ready, insert_outcome}
+-- What committing the build asks for.
+use Rattle.store.proofs.InsertCode.{insertion_ready}
 use Rattle.store.proofs.inserting.insert_valid.Goals as goal
 
 pub commit_staged-requires : goal.commit_staged-requires
 commit_staged-requires c =
-    insertion_ready _ _ _ _ _ c.requires.changeable _ _ _ _ c.stage_insertion-staged.ensures
-
-pub returns : goal.returns
-returns c =
-    let given = c.requires in
-    insert_outcome _ _ _ _ _ given.changeable _ _ _ _ c.stage_insertion-staged.ensures given.good_key given.good_value ∙ c.commit_staged.ensures
+    let ready = insertion_ready _ _ _ _ _ c.requires.changeable _ _ _ _ c.stage_insertion-fits.ensures in
+    record { size = ready.0; staged = ready.1; inside = ready.2 }

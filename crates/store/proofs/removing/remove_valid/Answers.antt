@@ -1,13 +1,8 @@
--- The build in the stage and its commit, as the definition of a removal has them.
-use mathlib.Core.Path.{◌∙◌}
-use Rattle.store.proofs.RemoveCode.{removal_ready, remove_outcome}
+-- What committing the build asks for.
+use Rattle.store.proofs.RemoveCode.{removal_ready}
 use Rattle.store.proofs.removing.remove_valid.Goals as goal
 
 pub commit_staged-requires : goal.commit_staged-requires
 commit_staged-requires c =
-    removal_ready _ _ _ _ _ c.requires.0 _ _ _ c.stage_removal-staged.ensures
-
-pub returns : goal.returns
-returns c =
-    let given = c.requires in
-    remove_outcome _ _ _ _ _ given.0 _ _ _ c.stage_removal-staged.ensures given.2 given.3 ∙ c.commit_staged.ensures
+    let ready = removal_ready _ _ _ _ _ c.requires.ready.changeable _ _ _ c.stage_removal-fits.ensures in
+    record { size = ready.0; staged = ready.1; inside = ready.2 }

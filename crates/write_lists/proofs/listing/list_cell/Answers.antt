@@ -7,15 +7,14 @@ use Rattle.write_lists.proofs.ListSteps.{cell_none, cell_more, cell_all}
 use Rattle.write_lists.proofs.listing.list_cell.Goals as goal
 
 pub loop-i-init : goal.loop-i-init
-loop-i-init c = (omega arith, refl, cell_none _ _ _ _)
+loop-i-init c = (refl, cell_none _ _ _ _)
 
 pub loop-i-preserved : goal.loop-i-preserved
 loop-i-preserved c = (
-  omega arith,
   search rules,
-  cell_more _ _ _ _ _ _ _ _ _ _ c.loop-i.invariant.2 c.put_record.ensures
+  cell_more _ _ _ _ _ _ _ _ _ _ c.loop-i.invariant.1 c.put_record.ensures
       (c.word_at-word.ensures ∙ copied_word _ _ _ (omega arith)) (omega arith),
 )
 
 pub returns : goal.returns
-returns c = cell_all _ _ _ _ _ _ _ c.loop-i.invariant.2 (omega arith)
+returns c = cell_all _ _ _ _ _ _ _ c.loop-i.invariant.1 (omega arith)

@@ -1,6 +1,5 @@
 -- The records written so far are those of the staged cells, in the order allocated.
 use mathlib.Core.Path.{◌≡◌}
-use Prim.Native.Nat.{◌-◌, ◌≤◌}
 use lib.ListN.{length, get_or}
 use Rattle.staging.specs.Code.Stage.{staged}
 use Rattle.updates.specs.Commit.{build_writes}
@@ -9,8 +8,5 @@ use Rattle.write_lists.proofs.listing.list_cells.Given as goal
 
 abbrev pub invariant-loop-i : goal.invariant-loop-i
 invariant-loop-i l =
-    (l.i ≤ l.count) × (length l.list ≡ length l.initial.list)
-    × (l.list ≡ with_records l.initial.list 0 (build_writes (λ place. get_or l.numbers place 0) (staged l.stage l.i)))
-
-abbrev pub decreases-loop-i : goal.decreases-loop-i
-decreases-loop-i l = l.count - l.i
+    (length l.list ≡ length l.initial.list)
+    × (l.list ≡ with_records l.initial.list 0 (build_writes (λ place. get_or l.numbers place 0) (staged l.so_far.stage l.i)))
