@@ -1,5 +1,4 @@
 -- What follows from the definitions, and what the functions' proofs share.
-mod Chains
 pub mod Examples
 pub mod FixedVerdict
 pub mod Laws
@@ -7,5 +6,6 @@ pub mod WholeReadings
 pub mod VerdictLaws
 mod VerdictSteps
 pub mod VerdictTold
+pub mod Literals
 pub mod MovedDay
 pub mod Proved

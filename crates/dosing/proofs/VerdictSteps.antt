@@ -1,7 +1,7 @@
 -- The ways through the code of the verdict.
 use mathlib.Core.Path.{◌≡◌, refl, sym, ap, ◌∙◌}
 use mathlib.Core.Logic.{◌≢◌}
-use mathlib.Core.Bool.{Bool, true, false, not, cond}
+use mathlib.Core.Bool.{Bool, true, false, cond}
 use mathlib.Core.List.{List, [], ◌∷◌, ◌++◌}
 use mathlib.Core.Option.{none}
 use Prim.Native.Nat.{ℕ}
@@ -13,61 +13,20 @@ use lib.Ieee.{Float}
 use borrow.Author.Tests.{eq-eqb, ne_eqb}
 use Rattle.cells.specs.Occurrences.{occurrences}
 use Rattle.calendar.specs.declared.Date.{Date}
-use Rattle.calendar.specs.Date.{is_date, unpacked_date, is_after}
 use Rattle.blocks.specs.Refusal.{Refusal, refusal, first_refusal, bad_key}
 use Rattle.blocks.specs.Read.{Found, missing, shown, value_or, block_refusals, get_refusals, get}
 use Rattle.blocks.proofs.Refusals.{numbers_of, first_holds, first_fails, passed, zero_exactly}
-use Rattle.blocks.proofs.RefusalSteps.{refused_earlier}
+use Rattle.blocks.specs.declared.answer.Refusal as declared
+use Rattle.blocks.specs.Answers.{refusal_number}
+use Rattle.blocks.proofs.RefusalSteps.{refusal_number_lem, refused_earlier}
 use Rattle.blocks.specs.Tables.{PassesKey}
 use Rattle.blocks.proofs.ReadCalls.{refusals_none, chosen_done, chosen_no, none_missing, some_there, value_is, get_number, get_table}
 use Rattle.dosing.specs.declared.temperature.Reading.{Reading}
-use Rattle.dosing.specs.declared.temperature.TemperatureGate.{TemperatureGate}
 use Rattle.dosing.specs.declared.sheet.ProductSheet.{ProductSheet}
-use Rattle.dosing.specs.Temperature.{whole, celsius, valid_reading, in_gate}
-use Rattle.dosing.specs.Sheet.{valid_sheet, dose_of}
+use Rattle.dosing.specs.Temperature.{whole}
+use Rattle.dosing.specs.Sheet.{dose_of}
 use Rattle.dosing.specs.Verdict.{verdict_of, verdict}
 use Rattle.dosing.specs.Code.VerdictParts.{input_refusals, held_refusals, refused_verdict}
-
--- the inputs, in the order of their tests
-module _ (today : Date) (reading : Reading) (sheet : ProductSheet) where
-  pub inputs_sheet : valid_sheet sheet ≡ false → first_refusal (input_refusals today reading sheet) ≡ 8
-  unfolding input_refusals
-  inputs_sheet s = first_holds _ _ (ap not s)
-
-  pub inputs_reading : valid_sheet sheet ≡ true → valid_reading reading ≡ false → first_refusal (input_refusals today reading sheet) ≡ 9
-  unfolding input_refusals
-  inputs_reading s r = first_fails _ _ (ap not s) ∙ first_holds _ _ (ap not r)
-
-  pub inputs_today : valid_sheet sheet ≡ true → valid_reading reading ≡ true → is_date today ≡ false → first_refusal (input_refusals today reading sheet) ≡ 10
-  unfolding input_refusals
-  inputs_today s r t = first_fails _ _ (ap not s) ∙ first_fails _ _ (ap not r) ∙ first_holds _ _ (ap not t)
-
-  pub inputs_done : valid_sheet sheet ≡ true → valid_reading reading ≡ true → is_date today ≡ true → first_refusal (input_refusals today reading sheet) ≡ 0
-  unfolding input_refusals first_refusal
-  inputs_done s r t = rw (s, r, t)
-
--- the held value and the temperature, in the order of their tests
-module _ (value : ℕ) (today : Date) (reading : Reading) (gate : TemperatureGate) (expiry : Date) (is : expiry ≡ unpacked_date value) where
-  pub held_no_date : is_date expiry ≡ false → first_refusal (held_refusals value today reading gate) ≡ 12
-  unfolding held_refusals
-  held_no_date d = first_holds _ _ (ap not (ap is_date (sym is) ∙ d))
-
-  pub held_expired : is_date expiry ≡ true → is_after today expiry ≡ true → first_refusal (held_refusals value today reading gate) ≡ 13
-  unfolding held_refusals
-  held_expired d a = first_fails _ _ (ap not (ap is_date (sym is) ∙ d)) ∙ first_holds _ _ (ap (is_after today) (sym is) ∙ a)
-
-  module _ (degrees : Float) (told : degrees ≡ celsius reading) (d : is_date expiry ≡ true) (a : is_after today expiry ≡ false) where
-    pub held_outside : in_gate gate degrees ≡ false → first_refusal (held_refusals value today reading gate) ≡ 14
-    unfolding held_refusals
-    held_outside g =
-        first_fails _ _ (ap not (ap is_date (sym is) ∙ d)) ∙ first_fails _ _ (ap (is_after today) (sym is) ∙ a)
-        ∙ first_holds _ _ (ap not (ap (in_gate gate) (sym told) ∙ g))
-
-    pub held_done : in_gate gate degrees ≡ true → first_refusal (held_refusals value today reading gate) ≡ 0
-    unfolding held_refusals
-    held_done g =
-        first_fails _ _ (ap not (ap is_date (sym is) ∙ d)) ∙ first_fails _ _ (ap (is_after today) (sym is) ∙ a)
-        ∙ first_fails _ _ (ap not (ap (in_gate gate) (sym told) ∙ g)) ∙ (unfold first_refusal in refl)
 
 -- a verdict goes by the number of the first refusal
 module _ (rs : List Refusal) (sheet : ProductSheet) where
@@ -210,3 +169,15 @@ module _ (block label : List ℕ) (today : Date) (reading : Reading) (sheet : Pr
         ∙ verdict_refused _ sheet n no_zero (refused_earlier first_three _ first ∙ sym (refused_earlier first_three _ first) ∙ given)
         ∙ sym (refused_kept n _ other)
   ]
+
+  -- the same, by the refusal
+  pub look_up_refused : (why : declared.Refusal) → get block label ≡ record { answer = refusal_number why; value = 0 }
+      → verdict block label today reading sheet ≡ refused_verdict (refusal_number why) (first_refusal (input_refusals today reading sheet))
+  look_up_refused why e = verdict_unfound (refusal_number why) 0 (refusal_number_lem why) e
+
+-- what the functions on a held value, on a refused look-up and on both together need
+pub ruleset held_steps = (held_by_inputs, held_by_value, held_dosed, refusal_number_lem)
+
+pub ruleset refused_steps = (refused_kept, refused_input, refused_missing, refusal_number_lem)
+
+pub ruleset verdict_steps = (verdict_found, look_up_refused)

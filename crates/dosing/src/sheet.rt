@@ -13,20 +13,17 @@ pub struct ProductSheet {
 }
 
 // Whether a sheet's gate, section and length can all be meant.
+#[tactic(auto, unfolding(crate::specs::Sheet::valid_sheet, crate::proofs::Literals::limits))]
 pub fn is_valid_sheet(sheet: ProductSheet) -> bool
     ensures { result ≡ valid_sheet sheet }
 {
-    let gate = sheet.gate;
-    if !is_valid_gate(gate) {
-        return false;
-    }
-    if !is_within(0.5, 100.0, sheet.section) {
-        return false;
-    }
-    is_within(1.0, 10000.0, sheet.length)
+    is_valid_gate(sheet.gate)
+        && is_within(0.5, 100.0, sheet.section)
+        && is_within(1.0, 10000.0, sheet.length)
 }
 
 // Millilitres of a bead: the product is rounded before it is divided.
+#[tactic(auto, unfolding(crate::specs::Sheet::dose_of, crate::proofs::Literals::literals))]
 pub fn dose(sheet: ProductSheet) -> f32
     ensures { result ≡ dose_of sheet }
 {

@@ -8,94 +8,85 @@ ghost use Rattle.dosing.specs.Code.VerdictParts.{held_refusals, input_refusals, 
 
 use crate::sheet::{ProductSheet, dose, is_valid_sheet};
 use crate::temperature::{Reading, TemperatureGate, celsius, is_in_gate, is_valid_reading};
-use blocks::answer::{ChangeAnswer, GetAnswer, Refusal, number};
+use blocks::answer::{Answer, Refusal};
 use blocks::get::get;
-use calendar::{Date, is_after, is_date, unpacked};
-
-// The answer of the verdict: the bead's dose in millilitres, or why there is none.
-#[derive(Clone, Copy)]
-pub enum VerdictAnswer {
-    Dose(f32),
-    Refused(Refusal),
-}
+use calendar::{Date, is_after, is_date};
 
 // What is wrong with the sheet, the reading or today, whatever the block holds.
-fn inputs_refusal(today: Date, reading: Reading, sheet: ProductSheet) -> ChangeAnswer
+// The three go by themselves, as `verdict` takes them: a struct would be made there only to be taken apart below.
+#[tactic(auto, unfolding(crate::specs::Code::VerdictParts::input_refusals, blocks::specs::Refusal::first_refusal))]
+fn inputs_refusal(today: Date, reading: Reading, sheet: ProductSheet) -> Answer<()>
     ensures { first_refusal (input_refusals today reading sheet) ≡ change_number result }
 {
     if !is_valid_sheet(sheet) {
-        return ChangeAnswer::Refused(Refusal::BadSheet);
+        return Err(Refusal::BadSheet);
     }
     if !is_valid_reading(reading) {
-        return ChangeAnswer::Refused(Refusal::BadReading);
+        return Err(Refusal::BadReading);
     }
     if !is_date(today) {
-        return ChangeAnswer::Refused(Refusal::BadToday);
+        return Err(Refusal::BadToday);
     }
-    ChangeAnswer::Done
+    Ok(())
 }
 
 // What is wrong with the value that the block holds for the label, or with the temperature.
-fn held_refusal(value: u32, today: Date, reading: Reading, gate: TemperatureGate) -> ChangeAnswer
+#[tactic(auto, unfolding(crate::specs::Code::VerdictParts::held_refusals, blocks::specs::Refusal::first_refusal))]
+fn held_refusal(value: u32, today: Date, reading: Reading, gate: TemperatureGate) -> Answer<()>
     ensures { first_refusal (held_refusals value today reading gate) ≡ change_number result }
 {
-    let expiry = unpacked(value);
+    let expiry = Date::from(value);
     if !is_date(expiry) {
-        return ChangeAnswer::Refused(Refusal::HeldNoDate);
+        return Err(Refusal::HeldNoDate);
     }
     if is_after(today, expiry) {
-        return ChangeAnswer::Refused(Refusal::Expired);
+        return Err(Refusal::Expired);
     }
     if !is_in_gate(gate, celsius(reading)) {
-        return ChangeAnswer::Refused(Refusal::OutsideGate);
+        return Err(Refusal::OutsideGate);
     }
-    ChangeAnswer::Done
+    Ok(())
 }
 
 // The verdict on a label with this value: the inputs are judged before the value.
-fn held_verdict(value: u32, today: Date, reading: Reading, sheet: ProductSheet) -> VerdictAnswer
+#[tactic(auto, using(crate::proofs::VerdictSteps::held_steps))]
+fn held_verdict(value: u32, today: Date, reading: Reading, sheet: ProductSheet) -> Answer<f32>
     ensures { verdict_of (input_refusals today reading sheet ++ held_refusals value today reading sheet.gate) sheet ≡ verdict_outcome result }
 {
-    let gate = sheet.gate;
-    match inputs_refusal(today, reading, sheet) {
-        ChangeAnswer::Refused(refusal) => VerdictAnswer::Refused(refusal),
-        ChangeAnswer::Done => match held_refusal(value, today, reading, gate) {
-            ChangeAnswer::Refused(refusal) => VerdictAnswer::Refused(refusal),
-            ChangeAnswer::Done => VerdictAnswer::Dose(dose(sheet)),
-        },
-    }
+    inputs_refusal(today, reading, sheet)?;
+    held_refusal(value, today, reading, sheet.gate)?;
+    Ok(dose(sheet))
 }
 
 // The verdict on a label that was not found: a missing label is said only after the inputs are judged.
+#[tactic(auto, using(crate::proofs::VerdictSteps::refused_steps))]
 fn refused_verdict(
     refusal: Refusal,
     today: Date,
     reading: Reading,
     sheet: ProductSheet,
-) -> VerdictAnswer
+) -> Answer<f32>
     ensures { refused_verdict (refusal_number refusal) (first_refusal (input_refusals today reading sheet)) ≡ verdict_outcome result }
 {
-    if number(refusal) != number(Refusal::Missing) {
-        return VerdictAnswer::Refused(refusal);
+    if let Refusal::Missing = refusal {
+        inputs_refusal(today, reading, sheet)?;
     }
-    match inputs_refusal(today, reading, sheet) {
-        ChangeAnswer::Refused(earlier) => VerdictAnswer::Refused(earlier),
-        ChangeAnswer::Done => VerdictAnswer::Refused(refusal),
-    }
+    Err(refusal)
 }
 
-// Whether a bead may be laid today from the cartridge of a label at a temperature, and its dose.
+// Whether a bead may be laid today from the cartridge of a label at a temperature, and its dose in millilitres.
+#[tactic(auto, using(crate::proofs::VerdictSteps::verdict_steps))]
 pub fn verdict(
     block: &[u8],
     label: &[u8],
     today: Date,
     reading: Reading,
     sheet: ProductSheet,
-) -> VerdictAnswer
+) -> Answer<f32>
     ensures { verdict block.now label.now today reading sheet ≡ verdict_outcome result }
 {
     match get(block, label) {
-        GetAnswer::Value(value) => held_verdict(value, today, reading, sheet),
-        GetAnswer::Refused(refusal) => refused_verdict(refusal, today, reading, sheet),
+        Ok(value) => held_verdict(value, today, reading, sheet),
+        Err(refusal) => refused_verdict(refusal, today, reading, sheet),
     }
 }

@@ -1,6 +1,7 @@
 -- The ways through the code that runs encoded calls.
 use mathlib.Core.Path.{◌≡◌, refl, sym, ap, ◌∙◌}
 use mathlib.Core.Logic.{◌≢◌}
+use mathlib.Core.Bool.{Bool, true, false}
 use mathlib.Core.List.{List, [], ◌∷◌, ◌++◌, append_assoc, append-nil}
 use mathlib.Core.Option.{none, some}
 use Prim.Native.Nat.{ℕ, zero, suc, ◌+◌, ◌-◌, ◌≤◌, ◌<◌}
@@ -10,25 +11,26 @@ use native.Mathlib.Omega.{arith}
 use lib.ListN.{length, take, drop, set, length-set, length-drop, take-append-drop, drop_of_length-le}
 use lib.Seq.{take-suc, take-set-le, drop-set-lt, get_or-set_same}
 use borrow.Author.Tests.{eq-eqb, ne_eqb}
-use Rattle.blocks.specs.Refusal.{Changed}
-use Rattle.blocks.specs.Answers.{change_number, changed_outcome}
-use Rattle.blocks.specs.declared.answer.ChangeAnswer.{ChangeAnswer}
-use Rattle.blocks.specs.declared.answer.Refusal as declared
-use Rattle.blocks.proofs.RefusalSteps.{refused_number, done_number}
-use Rattle.store.specs.Format.{format}
+use Rattle.std.specs.Prelude.{Ok, Err}
+use Rattle.blocks.specs.Refusal.{Changed, refusal, first_refusal}
+use Rattle.blocks.specs.Answers.{refusal_number, changed_outcome}
+use Rattle.blocks.specs.declared.answer.Refusal.{Refusal}
+use Rattle.blocks.specs.declared.answer.Refusal.TheVariants.{BadSize, Unsound, BadKey, BadValue, BadSlot, SlotNotInUse, NoRoom, BadSheet, BadReading, BadToday, Missing, HeldNoDate, Expired, OutsideGate, ShortBuffer}
+use Rattle.blocks.proofs.Refusals.{first_holds, first_fails}
+use Rattle.blocks.proofs.RefusalSteps.{refusal_number_lem}
+use Rattle.store.specs.Format.{format, bad_fresh}
 use Rattle.store.proofs.Format.{format_refused}
 use Rattle.history.specs.Calls.{Call, ours, outcome, run, answers_of}
 use Rattle.history.specs.Code.Encoded.{Decoded, decode_call, following, decoded, stopped}
 use Rattle.history.specs.Code.Running.{numbered, answered, RunOutcome, run_outcome, run_over, run_calls}
 use Rattle.history.specs.declared.runner.Stop.{Stop}
-use Rattle.history.specs.declared.runner.RunAnswer.{RunAnswer}
 use Rattle.history.proofs.Decoding.{call_short}
 
 -- the outcome of a run that has so many answers behind it and room for so many more
 unfoldable pub ran_from : ℕ → ℕ → List ℕ → List ℕ → List ℕ → RunOutcome
 ran_from room count b bytes answers =
     let calls = decoded room bytes in
-    run_outcome (RunAnswer.Ran (count + length calls) (stopped room bytes)) (run ours b calls)
+    run_outcome (Ok (count + length calls, stopped room bytes)) (run ours b calls)
     (take count answers ++ (answers_of ours b calls ++ drop (count + length calls) answers))
 
 pub ran_start : (b bytes answers : List ℕ) → run_over b bytes answers ≡ ran_from (length answers) 0 b bytes answers
@@ -46,7 +48,7 @@ decoded_none (suc room) bytes e = rw e
 -- a run that stops
 module _ (count : ℕ) (b bytes answers : List ℕ) where
   ran_stopped : (room : ℕ) (stop : Stop) → decoded room bytes ≡ [] → stopped room bytes ≡ stop
-      → ran_from room count b bytes answers ≡ run_outcome (RunAnswer.Ran count stop) b answers
+      → ran_from room count b bytes answers ≡ run_outcome (Ok (count, stop)) b answers
   unfolding ran_from run answers_of
   ran_stopped room stop e why = rw (e, why, add-zero count, take-append-drop count answers)
 
@@ -55,16 +57,17 @@ module _ (count : ℕ) (b bytes answers : List ℕ) where
   stopped_end zero e = rw (eq-eqb (length bytes) 0 e)
   stopped_end (suc room) e = rw (eq-eqb (length bytes) 0 e)
 
-  pub ran_end : (room : ℕ) → length bytes ≡ 0 → ran_from room count b bytes answers ≡ run_outcome (RunAnswer.Ran count Stop.AtEnd) b answers
+  pub ran_end : (room : ℕ) → length bytes ≡ 0 → ran_from room count b bytes answers ≡ run_outcome (Ok (count, Stop.AtEnd)) b answers
   ran_end room e = ran_stopped room Stop.AtEnd (decoded_none room bytes (call_short bytes (omega (arith, e)))) (stopped_end room e)
 
-  pub ran_full : (room : ℕ) → room ≡ 0 → length bytes ≢ 0 → ran_from room count b bytes answers ≡ run_outcome (RunAnswer.Ran count Stop.Full) b answers
+  pub ran_full : (room : ℕ) → room ≡ 0 → length bytes ≢ 0
+      → ran_from room count b bytes answers ≡ run_outcome (Ok (count, Stop.Full)) b answers
   unfolding decoded stopped
   ran_full zero e n = ran_stopped 0 Stop.Full refl (rw (ne_eqb (length bytes) 0 n))
   ran_full (suc room) e n = absurd (omega (arith, e))
 
   pub ran_none : (room : ℕ) → room ≢ 0 → length bytes ≢ 0 → decode_call bytes ≡ none
-      → ran_from room count b bytes answers ≡ run_outcome (RunAnswer.Ran count Stop.NoCall) b answers
+      → ran_from room count b bytes answers ≡ run_outcome (Ok (count, Stop.NoCall)) b answers
   unfolding stopped following
   ran_none zero z n e = absurd (z refl)
   ran_none (suc room) z n e = ran_stopped (suc room) Stop.NoCall (decoded_none (suc room) bytes e) (rw (ne_eqb (length bytes) 0 n, e))
@@ -109,15 +112,16 @@ module _ (bytes : List ℕ) (d : Decoded) (there : decode_call bytes ≡ some d)
     number_after = ap (λ (c : Changed). c.answer) done
 
     ran_on : (calls : List Call) (stop : Stop) → count < length answers
-        → run_outcome (RunAnswer.Ran (count + length (d.call ∷ calls)) stop) (run ours b (d.call ∷ calls))
+        → run_outcome (Ok (count + length (d.call ∷ calls), stop)) (run ours b (d.call ∷ calls))
         (take count answers ++ (answers_of ours b (d.call ∷ calls) ++ drop (count + length (d.call ∷ calls)) answers))
-        ≡ run_outcome (RunAnswer.Ran (count + 1 + length calls) stop) (run ours after calls)
+        ≡ run_outcome (Ok (count + 1 + length calls, stop)) (run ours after calls)
         (take (count + 1) (set answers count number) ++ (answers_of ours after calls ++ drop (count + 1 + length calls) (set answers count number)))
     unfolding run answers_of
     ran_on calls stop h =
         let next : count + suc (length calls) ≡ count + 1 + length calls = omega arith in
         rw (block_after, number_after)
-        (λ i. run_outcome (RunAnswer.Ran (next i) stop) (run ours after calls) (answers_more answers (answers_of ours after calls) count number (length calls) h i))
+        (λ i. run_outcome (Ok (next i, stop)) (run ours after calls)
+        (answers_more answers (answers_of ours after calls) count number (length calls) h i))
 
     pub ran_more : (room : ℕ) → room ≡ suc rest → length bytes ≢ 0 → count < length answers
         → ran_from room count b bytes answers ≡ ran_from rest (count + 1) after (drop d.taken bytes) (set answers count number)
@@ -131,23 +135,48 @@ part_rest l at h =
     ∙ ap (λ (r : List ℕ). take (length l - at) (drop at l) ++ r) (sym (drop_of_length-le (drop at l) {i = length l - at} (omega (arith, length-drop at l))))
     ∙ take-append-drop (length l - at) (drop at l)
 
+-- the refusal with the number 1, the only one of formatting
+bad_size_only : (why : Refusal) → refusal_number why ≡ 1 → why ≡ BadSize
+bad_size_only BadSize e = refl
+bad_size_only Unsound e = absurd (omega (arith, e))
+bad_size_only BadKey e = absurd (omega (arith, e))
+bad_size_only BadValue e = absurd (omega (arith, e))
+bad_size_only BadSlot e = absurd (omega (arith, e))
+bad_size_only SlotNotInUse e = absurd (omega (arith, e))
+bad_size_only NoRoom e = absurd (omega (arith, e))
+bad_size_only BadSheet e = absurd (omega (arith, e))
+bad_size_only BadReading e = absurd (omega (arith, e))
+bad_size_only BadToday e = absurd (omega (arith, e))
+bad_size_only Missing e = absurd (omega (arith, e))
+bad_size_only HeldNoDate e = absurd (omega (arith, e))
+bad_size_only Expired e = absurd (omega (arith, e))
+bad_size_only OutsideGate e = absurd (omega (arith, e))
+bad_size_only ShortBuffer e = absurd (omega (arith, e))
+
+format_one : (edition : ℕ) (b : List ℕ) (n : ℕ) → n ≢ 0 → (format b edition).answer ≡ n → n ≡ 1
+unfolding format first_refusal
+format_one edition b n other e = go (bad_fresh edition b) refl
+  where
+    go : (t : Bool) → bad_fresh edition b ≡ t → n ≡ 1
+    go true bad = sym e ∙ first_holds (refusal 1 (bad_fresh edition b)) [] bad
+    go false good = absurd (other (sym e ∙ first_fails (refusal 1 (bad_fresh edition b)) [] good))
+
 -- the block is not formatted, and it is
-module _ (start : List ℕ) (edition : ℕ) (after bytes answers : List ℕ) (answer : ChangeAnswer) (e : format start edition ≡ changed_outcome answer after) where
-  format_number : (format start edition).answer ≡ change_number answer
-  format_number = ap (λ (c : Changed). c.answer) e
-
-  format_block : (format start edition).block ≡ after
-  format_block = ap (λ (c : Changed). c.block) e
-
-  pub run_refused : (why : declared.Refusal) → answer ≡ ChangeAnswer.Refused why → run_calls start edition bytes answers ≡ run_outcome RunAnswer.BadSize after answers
+module _ (start : List ℕ) (edition : ℕ) (after bytes answers : List ℕ) where
+  pub run_refused : (why : Refusal) → format start edition ≡ changed_outcome (Err why) after
+      → run_calls start edition bytes answers ≡ run_outcome (Err why) after answers
   unfolding run_calls
-  run_refused why is =
-      let n : (format start edition).answer ≢ 0 = λ z. refused_number answer why is (sym format_number ∙ z) in
-      let kept : start ≡ after = sym (format_refused edition start n) ∙ format_block in
-      rw (ne_eqb (format start edition).answer 0 n) (ap (λ (b : List ℕ). run_outcome RunAnswer.BadSize b answers) kept)
+  run_refused why e =
+      let number : (format start edition).answer ≡ refusal_number why = ap (λ (c : Changed). c.answer) e in
+      let other : (format start edition).answer ≢ 0 = λ z. refusal_number_lem why (sym number ∙ z) in
+      let only : why ≡ BadSize = bad_size_only why (format_one edition start (refusal_number why) (refusal_number_lem why) number) in
+      let kept : start ≡ after = sym (format_refused edition start other) ∙ ap (λ (c : Changed). c.block) e in
+      rw (ne_eqb (format start edition).answer 0 other, only) (ap (λ (b : List ℕ). run_outcome (Err BadSize) b answers) kept)
 
-  pub run_done : (o : RunOutcome) → answer ≡ ChangeAnswer.Done → ran_from (length answers) 0 after bytes answers ≡ o → run_calls start edition bytes answers ≡ o
+  pub run_done : (o : RunOutcome) → format start edition ≡ changed_outcome (Ok tt) after
+      → ran_from (length answers) 0 after bytes answers ≡ o
+      → run_calls start edition bytes answers ≡ o
   unfolding run_calls
-  run_done o is ran =
-      rw (eq-eqb (format start edition).answer 0 (format_number ∙ done_number answer is))
-      (ap (λ (b : List ℕ). run_over b bytes answers) format_block ∙ ran_start after bytes answers ∙ ran)
+  run_done o e ran =
+      rw (eq-eqb (format start edition).answer 0 (ap (λ (c : Changed). c.answer) e))
+      (ap (λ (b : List ℕ). run_over b bytes answers) (ap (λ (c : Changed). c.block) e) ∙ ran_start after bytes answers ∙ ran)

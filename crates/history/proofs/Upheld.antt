@@ -7,14 +7,16 @@ use lib.Dec.{eqb}
 use lib.ListN.{length, drop}
 use lib.Seq.{take_at}
 use borrow.Author.Tests.{eqb-true}
+use Rattle.std.specs.Prelude.{Result, Ok, Err}
 use Rattle.cells.specs.Bytes.{IsBytes}
 use Rattle.cells.proofs.Choice.{absurd_false}
+use Rattle.blocks.specs.declared.answer.Refusal.{Refusal}
+use Rattle.blocks.specs.declared.answer.Refusal.TheVariants.{BadSize}
 use Rattle.store.specs.Format.{format}
 use Rattle.history.specs.Calls.{Call, ours, outcome, answers_of, KeysAreBytes}
 use Rattle.history.specs.Demand3.{AfterList}
 use Rattle.history.specs.Code.Running.{RunOutcome, run_outcome, calls_run, run_over, run_calls, Upheld, Meets}
 use Rattle.history.specs.declared.runner.Stop.{Stop}
-use Rattle.history.specs.declared.runner.RunAnswer.{RunAnswer}
 use Rattle.history.proofs.Decoding.{decoded_keys}
 use Rattle.history.proofs.Proved.{after_list, at_call}
 
@@ -24,16 +26,17 @@ unfolding answers_of
 answers_length b [] = refl
 answers_length b (call ∷ calls) = ap suc (answers_length (outcome ours b call).block calls)
 
-abbrev ran_any : RunAnswer → Bool
-ran_any RunAnswer.BadSize = false
-ran_any (RunAnswer.Ran count stop) = true
+abbrev ran_any : Result (ℕ × Stop) Refusal → Bool
+ran_any (Err why) = false
+ran_any (Ok (count, stop)) = true
 
-abbrev count_of : RunAnswer → ℕ
-count_of RunAnswer.BadSize = 0
-count_of (RunAnswer.Ran count stop) = count
+abbrev count_of : Result (ℕ × Stop) Refusal → ℕ
+count_of (Err why) = 0
+count_of (Ok (count, stop)) = count
 
 module _ (start : List ℕ) (edition : ℕ) (bytes answers : List ℕ) (all : IsBytes bytes) where
-  upheld_over : (format start edition).answer ≡ 0 → (count : ℕ) (stop : Stop) → (run_over (format start edition).block bytes answers).answer ≡ RunAnswer.Ran count stop
+  upheld_over : (format start edition).answer ≡ 0 → (count : ℕ) (stop : Stop)
+      → (run_over (format start edition).block bytes answers).answer ≡ Ok (count, stop)
       → Upheld start edition (calls_run bytes answers) count (run_over (format start edition).block bytes answers).block (run_over (format start edition).block bytes answers).answers
   unfolding run_over
   upheld_over done count stop e =
@@ -50,8 +53,9 @@ module _ (start : List ℕ) (edition : ℕ) (bytes answers : List ℕ) (all : Is
         each = λ before call rest is. at_call edition start done before call rest (subst KeysAreBytes is keys);
       }
 
-  upheld_either : (t : Bool) → eqb (format start edition).answer 0 ≡ t → (o : RunOutcome) → o ≡ cond t (run_over (format start edition).block bytes answers) (run_outcome RunAnswer.BadSize start answers)
-      → (count : ℕ) (stop : Stop) → o.answer ≡ RunAnswer.Ran count stop → Upheld start edition (calls_run bytes answers) count o.block o.answers
+  upheld_either : (t : Bool) → eqb (format start edition).answer 0 ≡ t → (o : RunOutcome)
+      → o ≡ cond t (run_over (format start edition).block bytes answers) (run_outcome (Err BadSize) start answers)
+      → (count : ℕ) (stop : Stop) → o.answer ≡ Ok (count, stop) → Upheld start edition (calls_run bytes answers) count o.block o.answers
   upheld_either true t o is count stop e =
       subst (λ (p : RunOutcome). Upheld start edition (calls_run bytes answers) count p.block p.answers) (sym is)
       (upheld_over (eqb-true (format start edition).answer 0 t) count stop (ap (λ (p : RunOutcome). p.answer) (sym is) ∙ e))

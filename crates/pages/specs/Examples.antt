@@ -1,10 +1,9 @@
 -- Pages of three pairs, computed: which records are written, and which bytes stay. Pages of whole blocks, and the key limit's own
 -- number, stand in the crate page_samples.
-use Rattle.std.specs.Prelude.{◌≡◌, refl, Bool, true, false, List, [], ◌∷◌, ◌++◌, map, ℕ, length, take, replicate}
+use Rattle.std.specs.Prelude.{◌≡◌, refl, Bool, true, false, List, [], ◌∷◌, ◌++◌, map, ℕ, length, take, replicate, Ok, Err}
 use Rattle.cells.specs.Occurrences.{all}
 use Rattle.nodes.specs.Layout.{key_limit}
 use Rattle.trees.specs.Entries.{Entry, entry_of}
-use Rattle.blocks.specs.declared.answer.ChangeAnswer.{ChangeAnswer}
 use Rattle.blocks.specs.declared.answer.Refusal.TheVariants.{ShortBuffer}
 use Rattle.pages.specs.Answers.{page_outcome}
 use Rattle.pages.specs.Record.{record_of, records_of}
@@ -59,8 +58,8 @@ refused_page_lem = refl
 -- 02, 5: "answers with the records written, the bytes used and whether more remain": what the code's answer means, done and refused
 pub outcomes :
     ◌≡◌ {A = List Page}
-    (page_outcome (record { answer = ChangeAnswer.Done; records = 3; used = 20; more = true }) (lent 5)
-    ∷ page_outcome (record { answer = ChangeAnswer.Refused ShortBuffer; records = 0; used = 0; more = false }) (lent 5)
+    (page_outcome (Ok (record { records = 3; used = 20; more = true })) (lent 5)
+    ∷ page_outcome (Err ShortBuffer) (lent 5)
     ∷ [])
     (done 3 20 true (lent 5) ∷ refused_with 15 (lent 5) ∷ [])
 outcomes = refl

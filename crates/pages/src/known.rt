@@ -1,37 +1,37 @@
 // The least child of a node that obeys its rules, as every node of a sound block does: nothing is judged again.
+// So it is no twin of the walk in `nodes::least`, which judges each cell that it comes through and takes the time for it.
 ghost use Rattle.std.specs.Prelude.{◌≡◌, ◌≢◌, ◌-◌, ◌<◌};
 ghost use Rattle.std.proofs.Math.Option.{none};
-ghost use Rattle.cells.specs.Memory.{memory_of};
-ghost use Rattle.nodes.specs.Code.Coded.{pointer_of, Named, least_of};
-ghost use Rattle.nodes.specs.Code.Covered.{Covered};
+ghost use Rattle.nodes.specs.Code.Cells.{memory, Inside};
+ghost use Rattle.nodes.specs.Code.Coded.{pointer_of, least_of};
 ghost use Rattle.nodes.specs.Code.LeastChild.{first_step, least_step};
 ghost use Rattle.nodes.specs.Code.Step.{split_step, plain_step};
 ghost use Rattle.nodes.specs.Node.{plain, read};
 ghost use Rattle.nodes.specs.Pointer.Pointer.{split};
 
-use cells::{cell, word_at};
-use nodes::layout::Layout;
+use cells::word_at;
 use nodes::least::{Least, chain_least, sparse_known};
-use nodes::pointer::{Pointer, pointer_of};
-use nodes::prefix::link_at;
+use nodes::memory::Cells;
+use nodes::pointer::Pointer;
 
 // The least in a split: a mid or an end that is absent is passed at once.
-fn split_known(layout: Layout, block: &[u8], number: usize, from: usize) -> Least
-    requires { Covered layout block.now × (number < layout.cells) × (from < 256) × (plain layout (memory_of block.now) (split number) ≢ none) }
-    ensures { least_of result ≡ first_step (split_step layout (memory_of block.now) number) (256 - from) from }
+fn split_known(cells: &Cells, number: usize, from: usize) -> Least
+    requires { (number < cells.now.layout.cells) × (from < 256) × (plain cells.now.layout (memory cells.now) (split number) ≢ none) }
+    ensures { least_of result ≡ first_step (split_step cells.now.layout (memory cells.now) number) (256 - from) from }
 {
-    let head = number * 32 + 16;
+    let head = cells.cell(number);
     let mut x = from;
+    // No `for`: it passes 64 or 8 characters at once.
     while x < 256 {
-        let mid = word_at(block, head + 4 * (x / 64));
+        let mid = word_at(head, 16 + 4 * (x / 64));
         if mid == 0 {
             x = (x / 64 + 1) * 64;
         } else {
-            let end = word_at(block, (mid / 32) as usize * 32 + 4 * (x / 8 % 8));
+            let end = word_at(cells.cell((mid / 32) as usize), 4 * (x / 8 % 8));
             if end == 0 {
                 x = (x / 8 + 1) * 8;
             } else {
-                let child = word_at(block, (end / 32) as usize * 32 + 4 * (x % 8));
+                let child = word_at(cells.cell((end / 32) as usize), 4 * (x % 8));
                 if child != 0 {
                     return Least::Found(x as u8, child);
                 }
@@ -43,38 +43,32 @@ fn split_known(layout: Layout, block: &[u8], number: usize, from: usize) -> Leas
 }
 
 // The least at a chain, sparse or split.
-fn plain_known(layout: Layout, block: &[u8], pointer: Pointer, from: usize) -> Least
-    requires { Covered layout block.now × (from < 256) × Named layout pointer × (plain layout (memory_of block.now) (pointer_of pointer) ≢ none) }
-    ensures { least_of result ≡ first_step (plain_step layout (memory_of block.now) (pointer_of pointer)) (256 - from) from }
+#[tactic(auto, using(crate::proofs::Walking::KnownNode::known_sparse, crate::proofs::Walking::KnownNode::known_split))]
+fn plain_known(cells: &Cells, pointer: Pointer, from: usize) -> Least
+    requires { (from < 256) × Inside cells.now.layout pointer × (plain cells.now.layout (memory cells.now) (pointer_of pointer) ≢ none) }
+    ensures { least_of result ≡ first_step (plain_step cells.now.layout (memory cells.now) (pointer_of pointer)) (256 - from) from }
 {
     match pointer {
-        Pointer::Chain(number, place) => chain_least(cell(block, number), number, place, from),
-        Pointer::Sparse(number) => sparse_known(cell(block, number), from),
-        Pointer::Split(number) => split_known(layout, block, number, from),
+        Pointer::Chain(number, place) => chain_least(cells.cell(number), number, place, from),
+        Pointer::Sparse(number) => sparse_known(cells.cell(number), from),
+        Pointer::Split(number) => split_known(cells, number, from),
         _ => Least::Broken,
     }
 }
 
 // The least character from one on that the node a word names has a child for; a prefix has the children of the node linked.
-pub fn known_child(layout: Layout, block: &[u8], word: u32, from: usize) -> Least
-    requires { Covered layout block.now × (read layout (memory_of block.now) word ≢ none) }
-    ensures { least_of result ≡ least_step layout (memory_of block.now) word from }
+pub fn known_child(cells: &Cells, word: u32, from: usize) -> Least
+    requires { read cells.now.layout (memory cells.now) word ≢ none }
+    ensures { least_of result ≡ least_step cells.now.layout (memory cells.now) word from }
 {
     if 256 <= from {
         return Least::Missing;
     }
-    let pointer = pointer_of(layout, word);
+    let pointer = cells.pointer(word);
     match pointer {
         Pointer::Nothing => Least::Missing,
         Pointer::Leaf(_) => Least::Missing,
-        Pointer::Prefix(number) => {
-            plain_known(
-                layout,
-                block,
-                pointer_of(layout, link_at(block, number)),
-                from,
-            )
-        }
-        _ => plain_known(layout, block, pointer, from),
+        Pointer::Prefix(number) => plain_known(cells, cells.pointer(cells.link_at(number)), from),
+        _ => plain_known(cells, pointer, from),
     }
 }

@@ -1,11 +1,12 @@
 -- Each way through the walk of a page along the given key: what is greater than the rest of it, below the node of a word.
-use mathlib.Core.Path.{◌≡◌, sym, ap, ◌∙◌, subst}
+use mathlib.Core.Path.{◌≡◌, refl, sym, ap, ◌∙◌, subst}
 use mathlib.Core.Bool.{true}
 use mathlib.Core.List.{List, [], ◌∷◌, ◌++◌, map}
 use mathlib.Core.Option.{some}
 use Prim.Native.Nat.{ℕ, ◌+◌, ◌-◌, ◌≤◌, ◌<◌}
 use native.Mathlib.Omega.{arith}
 use lib.ListN.{length, get_or, take, drop, set}
+use types.Run.{hit}
 use Rattle.cells.specs.Memory.{Memory}
 use Rattle.nodes.specs.Layout.{Layout, key_limit}
 use Rattle.nodes.specs.Node.{Node, read}
@@ -25,6 +26,12 @@ use Rattle.pages.specs.Code.Walk.{under, entries_from, pairs_below}
 use Rattle.pages.proofs.Walking.AfterKey.{after_none, after_own, after_children_nil, after_children}
 use Rattle.pages.proofs.Walking.Below.{from_read, tree_entries}
 use Rattle.pages.proofs.Walking.WalkParts.{child_kept, child_then, child_full}
+
+-- a step that is not found
+no_step : (s : ChildStep) → ((v : ℕ) → s ≡ ChildStep.Found v → ⊥) → AmongSteps (1 ∷ 2 ∷ []) s
+no_step (ChildStep.Found v) n = absurd (n v refl)
+no_step ChildStep.Missing n = hit (1 ∷ 2 ∷ []) 1 tt
+no_step ChildStep.Broken n = hit (1 ∷ 2 ∷ []) 2 tt
 
 -- the same written for pairs that are the same
 pub printed_same : (at : ℕ) (path path' : List ℕ) (s s' : Written) (l l' : List Entry) → l ≡ l'
@@ -73,9 +80,9 @@ module _ (layout : Layout) (m : Memory) (i w : ℕ) (key : List ℕ) (g : Grown 
     to_child = coded ∙ step_read layout m w node.0 x node.1 near
 
     -- without a child they are those below later characters
-    pub after_missing : AmongSteps (1 ∷ 2 ∷ []) s → entries_from layout m (key_limit - (i + 1)) w (x + 1) ≡ greater
+    pub after_missing : ((v : ℕ) → s ≡ ChildStep.Found v → ⊥) → entries_from layout m (key_limit - (i + 1)) w (x + 1) ≡ greater
     after_missing others =
-        let absent = stopped_word (node.0.child x) s others to_child in
+        let absent = stopped_word (node.0.child x) s (no_step s others) to_child in
         let none_there : entries_after (drop (i + 1) key) (entries layout m (key_limit - (i + 1)) (node.0.child x)) ≡ [] =
         ap (λ (u : ℕ). entries_after (drop (i + 1) key) (entries layout m (key_limit - (i + 1)) u)) absent
         ∙ ap (entries_after (drop (i + 1) key)) (entries_zero layout m (key_limit - (i + 1))) ∙ after_none (drop (i + 1) key) in

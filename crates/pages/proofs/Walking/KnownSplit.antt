@@ -6,9 +6,8 @@ use mathlib.Core.Option.{Option, none, some}
 use Prim.Native.Nat.{ℕ, ◌+◌, ◌-◌, ◌*◌, ◌/◌, ◌%◌, ◌≤◌, ◌<◌}
 use native.Mathlib.Decide.{dec_lt}
 use native.Mathlib.Omega.{arith}
-use Rattle.cells.specs.Memory.{Memory, memory_of}
+use Rattle.cells.specs.Memory.{Memory}
 use Rattle.cells.specs.Word.{word_at}
-use Rattle.cells.proofs.Memory.{memory_word}
 use Rattle.nodes.specs.Layout.{Layout}
 use Rattle.nodes.specs.Pointer.{pointer}
 use Rattle.nodes.specs.Pointer.Pointer.{split}
@@ -28,15 +27,9 @@ pub there_is : {A : Type 0} (o : Option A) → o ≢ none → (a : A) × (o ≡ 
 there_is none known = absurd (known refl)
 there_is (some a) known = (a, refl)
 
--- a word of a head, read from the block
-pub head_word_is : (b : List ℕ) (c x word : ℕ) → x < 256 → word ≡ word_at b (c * 32 + 16 + 4 * (x / 64)) → word ≡ head_word (memory_of b c) (x / 64)
-head_word_is b c x word near e =
-    let same : c * 32 + 16 + 4 * (x / 64) ≡ c * 32 + (16 + 4 * (x / 64)) = omega arith in
-    e ∙ ap (word_at b) same ∙ sym (memory_word b c (16 + 4 * (x / 64)) (omega arith))
-
--- a word of a mid or an end, read from the block
-pub branch_word_is : (b : List ℕ) (c x word : ℕ) → word ≡ word_at b (c * 32 + 4 * (x % 8)) → word ≡ branch_word (memory_of b c) (x % 8)
-branch_word_is b c x word e = e ∙ sym (memory_word b c (4 * (x % 8)) (omega arith))
+-- a word of a cell, read from its bytes
+pub word_is : (bytes cell : List ℕ) (at word : ℕ) → bytes ≡ cell → word ≡ word_at bytes at → word ≡ word_at cell at
+word_is bytes cell at word same e = e ∙ ap (λ (b : List ℕ). word_at b at) same
 
 -- the characters passed have no child, and the next ones neither, so that these may be passed too
 pub pass_on : (words : ℕ → ℕ) (from x to : ℕ) → ((y : ℕ) → from ≤ y → y < x → words y ≡ 0) → ((y : ℕ) → x ≤ y → y < to → words y ≡ 0)

@@ -83,11 +83,8 @@ module _ (layout : Layout) (m : Memory) (d w c k : ℕ) (g : Grown layout m d w)
 -- one step more, at a place of a chain
 module _ (layout : Layout) (m : Memory) (path₀ : List ℕ) (at w : ℕ) (path : List ℕ) (here depth : ℕ)
     (run : RunDown layout m path₀ at w path (record { word = here; at = depth }))
-    (c k : ℕ) (named : pointer layout here ≡ chain c k) (bytes : List ℕ) (cell : bytes ≡ m c) (near : get_or bytes k 0 < 256) where
-  -- its character is a byte
-  character : chain_character (m c) k < 256
-  character = subst (λ (l : List ℕ). get_or l k 0 < 256) cell near
-
+    (c k : ℕ) (named : pointer layout here ≡ chain c k) (bytes : List ℕ) (cell : bytes ≡ m c)
+    (character : chain_character (m c) k < 256) where
   -- there is room for its character
   pub run_room : depth < key_limit
   run_room = let r = place_grown layout m (key_limit - depth) here c k run.grown named character in omega (arith, r.1)

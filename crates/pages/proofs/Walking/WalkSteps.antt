@@ -6,6 +6,7 @@ use mathlib.Core.Option.{Option, none, some}
 use Prim.Native.Nat.{ℕ, ◌+◌, ◌-◌, ◌≤◌, ◌<◌}
 use native.Mathlib.Omega.{arith}
 use lib.ListN.{length, take, set}
+use types.Run.{hit}
 use Rattle.cells.specs.Memory.{Memory}
 use Rattle.nodes.specs.Layout.{Layout, key_limit}
 use Rattle.nodes.specs.Node.{Node, childless, read, read_at}
@@ -31,6 +32,12 @@ use Rattle.pages.proofs.Walking.Below.{from_none, from_least, from_childless, tr
 use Rattle.pages.proofs.Writing.Progress.{put_stopped}
 use Rattle.pages.proofs.Walking.WalkParts.{kept_less, put_none, put_first, child_kept, child_then}
 
+-- a least child that is not found
+no_least : (l : Least) → ((x v : ℕ) → l ≡ Least.Found x v → ⊥) → AmongLeast (1 ∷ 2 ∷ []) l
+no_least (Least.Found x v) n = absurd (n x v refl)
+no_least Least.Missing n = hit (1 ∷ 2 ∷ []) 1 tt
+no_least Least.Broken n = hit (1 ∷ 2 ∷ []) 2 tt
+
 -- below the children of a node, from a character on: what is left to write from a state on ends where the whole ends
 module _ (layout : Layout) (m : Memory) (at w : ℕ) (g : Grown layout m (key_limit - at) w) (from : ℕ) (path₀ : List ℕ) (s target : Written)
     (left : put_records s (pairs_below layout m path₀ at w from) ≡ target)
@@ -39,9 +46,9 @@ module _ (layout : Layout) (m : Memory) (at w : ℕ) (g : Grown layout m (key_li
   node = grown-read layout m (key_limit - at) w g
 
   -- without a child all is written
-  pub below_done : AmongLeast (1 ∷ 2 ∷ []) l → s ≡ target
+  pub below_done : ((x v : ℕ) → l ≡ Least.Found x v → ⊥) → s ≡ target
   below_done rest =
-      let absent = told_no_least node.0.child _ l rest (coded ∙ least_read layout m w node.0 from node.1) in
+      let absent = told_no_least node.0.child _ l (no_least l rest) (coded ∙ least_read layout m w node.0 from node.1) in
       sym (put_none s)
       ∙ ap (λ (p : List Entry). put_records s (map (under (take at path₀)) p)) (sym (from_none layout m (key_limit - (at + 1)) w from node.0 node.1 absent))
       ∙ left

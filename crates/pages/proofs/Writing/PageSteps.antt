@@ -7,8 +7,10 @@ use Prim.Native.Nat.{ℕ, ◌+◌, ◌-◌, ◌≤◌, ◌<◌}
 use native.Mathlib.Omega.{arith}
 use lib.ListN.{length, take, drop}
 use borrow.Author.Tests.{lt-ltb}
-use Rattle.cells.specs.Memory.{memory_of}
-use Rattle.nodes.specs.Layout.{Layout, key_limit}
+use Rattle.nodes.specs.Layout.{key_limit}
+use Rattle.nodes.specs.Code.Cells.{memory}
+use Rattle.nodes.specs.declared.memory.Cells.{Cells}
+use Rattle.blocks.specs.declared.block.Sound.{Sound}
 use Rattle.trees.specs.Entries.{Entry, entries, entries_after}
 use Rattle.blocks.specs.Trailer.{layout_of, root_word}
 use Rattle.blocks.specs.Refusal.{refusal, first_refusal, over_long}
@@ -16,19 +18,12 @@ use Rattle.blocks.specs.Read.{validate}
 use Rattle.blocks.specs.Tables.{PassesKey}
 use Rattle.blocks.proofs.Refusals.{first_holds, first_fails}
 use Rattle.blocks.proofs.ReadSteps.{block_refused, block_passed, block_size, block_sound}
-use Rattle.pages.specs.declared.page.PageAnswer.{PageAnswer}
 use Rattle.pages.specs.declared.record.Progress.{Progress}
-use Rattle.pages.specs.Answers.{page_outcome}
-use Rattle.pages.specs.Page.{Page, least_buffer, pairs_left, page_refusals, page_of, refused_page, page}
+use Rattle.pages.specs.Page.{least_buffer, pairs_left, page_refusals, page_of, refused_page, page}
 use Rattle.pages.specs.Code.Progress.{Written, written_of, put_records, Printed}
 use Rattle.pages.specs.Code.Walk.{under}
 use Rattle.pages.proofs.PageCall.{page_is, page_refused, done_given}
 use Rattle.pages.proofs.Writing.Progress.{put_page}
-
--- an answer that is refused, with any buffer
-pub refused_with_lem : (r : PageAnswer) (k : ℕ) (buffer : List ℕ) → page_outcome r [] ≡ refused_page k [] → refused_page k buffer ≡ page_outcome r buffer
-refused_with_lem r k buffer same =
-    ap (λ (p : Page). record { answer = p.answer; records = p.records; used = p.used; more = p.more; buffer = buffer }) (sym same)
 
 -- no character before a key leaves it
 under_none : (l : List Entry) → map (under []) l ≡ l
@@ -58,13 +53,18 @@ module _ (b key buffer : List ℕ) where
           (block_passed b _ done ∙ first_fails (refusal 3 (over_long key)) _ good
           ∙ first_holds (refusal 15 _) [] (lt-ltb (length buffer) least_buffer short)) (omega arith)
 
-      -- what the walk wrote
-      module _ (room : 1 + key_limit + 4 ≤ length buffer) (layout : Layout) (e : layout ≡ layout_of b) (word : ℕ) (is : word ≡ root_word layout b)
+      -- what the walk wrote of the cells of the block judged
+      module _ (room : 1 + key_limit + 4 ≤ length buffer) (judged : Sound) (same : judged.block.bytes.now ≡ b)
+          (cells : Cells) (sized : cells.layout ≡ judged.block.layout) (alike : cells.bytes.now ≡ judged.block.bytes.now)
+          (word : ℕ) (is : word ≡ root_word judged.block.layout judged.block.bytes.now)
           (path path' : List ℕ) (end : Progress) (buffer' : List ℕ)
           (printed : Printed 0 path path' (written_of (record { records = 0; used = 0; full = false }) buffer)
-          (map (under (take 0 path)) (entries_after (drop 0 key) (entries layout (memory_of b) (key_limit - 0) word))) (written_of end buffer')) where
-        all_left : map (under (take 0 path)) (entries_after (drop 0 key) (entries layout (memory_of b) (key_limit - 0) word)) ≡ pairs_left b key
-        all_left = under_none (entries_after key (entries layout (memory_of b) key_limit word)) ∙ rw (is, e)
+          (map (under (take 0 path)) (entries_after (drop 0 key) (entries cells.layout (memory cells) (key_limit - 0) word))) (written_of end buffer')) where
+        stated : cells.layout ≡ layout_of b
+        stated = sized ∙ judged.stated ∙ ap layout_of same
+
+        all_left : map (under (take 0 path)) (entries_after (drop 0 key) (entries cells.layout (memory cells) (key_limit - 0) word)) ≡ pairs_left b key
+        all_left = under_none (entries_after key (entries cells.layout (memory cells) key_limit word)) ∙ rw (is, sized, judged.stated, alike, same)
 
         pub page_done : page b key buffer ≡ record { answer = 0; records = end.records; used = end.used; more = end.full; buffer = buffer' }
         unfolding least_buffer page_of

@@ -1,26 +1,6 @@
 use borrow.Enum.Refused.{opened}
-use native.Mathlib.Omega.{arith}
-use Rattle.nodes.proofs.Coded.{chain_facts, sparse_facts, split_facts}
-use Rattle.nodes.proofs.Steps.StepWays.{cell_length}
 use Rattle.nodes.proofs.Steps.LeastWays.{plain_least_chain, plain_least_sparse, plain_least_split, plain_least_other}
-use Rattle.pages.proofs.Walking.KnownNode.{known_sparse, known_split}
 use Rattle.pages.proofs.known.plain_known.Goals as goal
-
-pub cell-requires : goal.cell-requires
-cell-requires c = omega (arith, (chain_facts _ _ _ c.requires.2.1 _ _ c.in-Chain.is).3)
-
-pub chain_least-requires : goal.chain_least-requires
-chain_least-requires c = let facts = chain_facts _ _ _ c.requires.2.1 _ _ c.in-Chain.is in
-    (cell_length _ _ _ c.cell.ensures, omega (arith, facts.3), facts.2, c.requires.1)
-
-pub cell-requires-in-Sparse : goal.cell-requires-in-Sparse
-cell-requires-in-Sparse c = omega (arith, (sparse_facts _ _ _ c.requires.2.1 _ c.in-Sparse.is).2)
-
-pub sparse_known-requires : goal.sparse_known-requires
-sparse_known-requires c = (cell_length _ _ _ c.cell-in-Sparse.ensures, c.requires.1, known_sparse _ _ _ _ c.requires.3 c.in-Sparse.is _ c.cell-in-Sparse.ensures)
-
-pub split_known-requires : goal.split_known-requires
-split_known-requires c = (c.requires.0, (split_facts _ _ _ c.requires.2.1 _ c.in-Split.is).2, c.requires.1, known_split _ _ _ _ c.requires.3 c.in-Split.is)
 
 pub returns-in-Chain : goal.returns-in-Chain
 returns-in-Chain c = plain_least_chain _ _ _ _ _ _ _ c.in-Chain.is _ c.cell.ensures c.chain_least.ensures
@@ -32,4 +12,4 @@ pub returns-in-Split : goal.returns-in-Split
 returns-in-Split c = plain_least_split _ _ _ _ _ _ c.in-Split.is c.split_known.ensures
 
 pub returns-in_default : goal.returns-in_default
-returns-in_default c = plain_least_other _ _ c.args.pointer c.args.from c.requires.1 (opened c.in_default.in_default-own.keys4)
+returns-in_default c = plain_least_other _ _ c.args.pointer c.args.from c.requires.0 (opened c.in_default.in_default-own.keys4)
