@@ -5,7 +5,7 @@ ghost use Rattle.snapshots.specs.Snapshots.{release, restore, snapshot};
 ghost use Rattle.store.specs.Format.{format};
 ghost use Rattle.store.specs.Remove.{remove};
 
-use blocks::answer::{CountAnswer, change_number, number};
+use blocks::answer::{NextKey, answer_number, change_number};
 use blocks::next::next_key;
 use blocks::validate::validate;
 use nodes::layout::KEY_LIMIT;
@@ -31,16 +31,9 @@ pub fn register_validate(block: &[u8]) -> u8
 pub fn register_remove(block: &mut [u8], key: &[u8], count: &mut u32) -> u8
     ensures { remove block.old key.now ≡ record { answer = result; count = count.new; block = block.new } }
 {
-    match remove(block, key) {
-        CountAnswer::Done(allocated) => {
-            *count = allocated;
-            0
-        }
-        CountAnswer::Refused(refusal) => {
-            *count = 0;
-            number(refusal)
-        }
-    }
+    let answer = remove(block, key);
+    *count = answer.unwrap_or(0);
+    answer_number(answer)
 }
 
 // Keeps the root in a slot.
@@ -68,11 +61,14 @@ pub fn register_release(block: &mut [u8], slot: u32) -> u8
 pub fn register_next_key(block: &[u8], key: &[u8], size: &mut u32, out: &mut [u8; KEY_LIMIT]) -> u8
     ensures { next_key block.now key.now ≡ record { answer = result; size = size.new; key = out.new } }
 {
-    let next = next_key(block, key);
-    let answer = next.answer;
-    let found = next.size;
+    let answer = next_key(block, key);
+    let next = answer.unwrap_or(NextKey {
+        size: 0,
+        key: [0; KEY_LIMIT],
+    });
+    *size = next.size as u32;
+    // By a variable: the borrow checker takes no array straight from another's field.
     let bytes = next.key;
-    *size = found as u32;
     *out = bytes;
-    change_number(answer)
+    answer_number(answer)
 }

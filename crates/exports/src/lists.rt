@@ -1,19 +1,8 @@
 // A list of calls, encoded in bytes and run on a block.
 ghost use Rattle.std.specs.Prelude.{◌≡◌};
-ghost use Rattle.exports.specs.Code.RunNumbers.{run_numbers, stop_number};
+ghost use Rattle.exports.specs.Code.RunNumbers.{run_numbers};
 
-use history::runner::{RunAnswer, Stop, run_calls};
-
-// The number of the way in which a run ended.
-fn stop_number(stop: Stop) -> u8
-    ensures { result ≡ stop_number stop }
-{
-    match stop {
-        Stop::AtEnd => 0,
-        Stop::NoCall => 2,
-        Stop::Full => 3,
-    }
-}
+use history::runner::run_calls;
 
 // Makes a block fresh, of an edition, and runs the encoded calls on it, each answer number into the next answer byte: how the
 // run ended and how many calls it made.
@@ -26,10 +15,14 @@ pub fn exports_run_calls(
 ) -> u8
     ensures { run_numbers block.old edition calls.now answers.old ≡ record { ended = result; count = count.new; block = block.new; answers = answers.new } }
 {
-    let RunAnswer::Ran(ran, stop) = run_calls(block, edition, calls, answers) else {
-        *count = 0;
-        return 1;
-    };
-    *count = ran;
-    stop_number(stop)
+    match run_calls(block, edition, calls, answers) {
+        Ok((ran, stop)) => {
+            *count = ran;
+            stop as u8
+        }
+        Err(refusal) => {
+            *count = 0;
+            refusal.into()
+        }
+    }
 }

@@ -1,29 +1,9 @@
 // A page of a block.
-ghost use Rattle.std.specs.Prelude.{◌≡◌, cond};
-ghost use Rattle.exports.specs.PageNumbers.{countable, page_numbers};
+ghost use Rattle.std.specs.Prelude.{◌≡◌};
+ghost use Rattle.exports.specs.PageNumbers.{page_numbers};
 
-use blocks::answer::change_number;
-use pages::page::page;
-
-// As much of a buffer as the numbers of the answer can count.
-fn countable(size: usize) -> usize
-    ensures { result ≡ countable size }
-{
-    if size <= 4294967295 {
-        return size;
-    }
-    4294967295
-}
-
-// The number of a yes or no.
-fn bit(yes: bool) -> u32
-    ensures { result ≡ cond yes 1 0 }
-{
-    if yes {
-        return 1;
-    }
-    0
-}
+use blocks::answer::answer_number;
+use pages::page::{PageEnd, page};
 
 // Writes the records after a key into a buffer, in order: the records written, the bytes used and whether more remain. Of a buffer
 // longer than 4,294,967,295 bytes it takes the first so many.
@@ -37,14 +17,15 @@ pub fn register_page(
 ) -> u8
     ensures { page_numbers block.now key.now buffer.old ≡ record { answer = result; records = records.new; used = used.new; more = more.new; buffer = buffer.new } }
 {
-    let end = countable(buffer.len());
-    let told = page(block, key, &mut buffer[..end]);
-    let answer = told.answer;
-    let count = told.records;
-    let size = told.used;
-    let left = told.more;
-    *records = count as u32;
-    *used = size as u32;
-    *more = bit(left);
-    change_number(answer)
+    let end = buffer.len().min(4294967295);
+    let answer = page(block, key, &mut buffer[..end]);
+    let page = answer.unwrap_or(PageEnd {
+        records: 0,
+        used: 0,
+        more: false,
+    });
+    *records = page.records as u32;
+    *used = page.used as u32;
+    *more = u32::from(page.more);
+    answer_number(answer)
 }

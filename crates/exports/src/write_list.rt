@@ -2,7 +2,7 @@
 ghost use Rattle.std.specs.Prelude.{◌≡◌};
 ghost use Rattle.write_lists.specs.WriteList.{write_list};
 
-use blocks::answer::{CountAnswer, number};
+use blocks::answer::answer_number;
 use write_lists::write_list::write_list;
 
 // Writes an insertion as records of stores into a list buffer, for the memory driver, and counts them; the block is only read.
@@ -15,14 +15,7 @@ pub fn register_write_list(
 ) -> u8
     ensures { write_list block.now key.now value list.old ≡ record { answer = result; records = records.new; list = list.new } }
 {
-    match write_list(block, key, value, list) {
-        CountAnswer::Done(listed) => {
-            *records = listed;
-            0
-        }
-        CountAnswer::Refused(refusal) => {
-            *records = 0;
-            number(refusal)
-        }
-    }
+    let answer = write_list(block, key, value, list);
+    *records = answer.unwrap_or(0);
+    answer_number(answer)
 }

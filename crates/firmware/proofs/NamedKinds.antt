@@ -17,6 +17,7 @@ use Rattle.dosing.specs.declared.temperature.Reading.TheVariants.{Celsius, Fahre
 use Rattle.dosing.specs.declared.temperature.TemperatureGate.{TemperatureGate}
 use Rattle.dosing.specs.declared.temperature.TemperatureGate.TheVariants.{Any, AtLeast, Between}
 use Rattle.dosing.specs.declared.sheet.ProductSheet.{ProductSheet}
+use Rattle.dosing.proofs.Literals.{literals}
 use Rattle.dosing.specs.Temperature.{whole, on_scale, valid_gate, valid_reading, celsius, in_gate}
 use Rattle.dosing.specs.Sheet.{sheet_of, valid_sheet, dose_of}
 use Rattle.dosing.specs.Verdict.{verdict_refusals, verdict_of, verdict}
@@ -55,6 +56,11 @@ module _ (unit : ℕ) (degrees : Float) where
   pub reading_unnamed : unit ≢ 1 → unit ≢ 2 → Celsius off_scale ≡ reading_named ours unit degrees
   unfolding reading_of reading_or ours
   reading_unnamed a b = rw (ne_eqb unit 1 a, ne_eqb unit 2 b)
+
+-- what an equation about the gate or the reading of a number unfolds
+unfoldable pub named_open : Unit {0}
+unfolding gate_of gate_or reading_of reading_or ours literals
+named_open = tt
 
 -- no sheet and no reading may be off the scale
 pub off_scale_lem : on_scale off_scale ≡ false

@@ -6,11 +6,11 @@ ghost use Rattle.std.specs.Prelude.{◌≡◌};
 ghost use Rattle.firmware.specs.Choices.{ours};
 ghost use Rattle.firmware.specs.NumberCalls.{get_numbers, insert_numbers, verdict_numbers};
 
-use blocks::answer::{CountAnswer, GetAnswer, number};
+use blocks::answer::answer_number;
 use blocks::get::get;
 use calendar::{Day, Month, Year, date_of};
 use dosing::sheet::ProductSheet;
-use dosing::verdict::{VerdictAnswer, verdict};
+use dosing::verdict::verdict;
 use store::inserting::insert;
 
 mod named;
@@ -21,32 +21,18 @@ use crate::named::{gate_named, reading_named};
 pub fn register_insert(block: &mut [u8], key: &[u8], value: u32, count: &mut u32) -> u8
     ensures { insert_numbers block.old key.now value ≡ record { answer = result; count = count.new; block = block.new } }
 {
-    match insert(block, key, value) {
-        CountAnswer::Done(allocated) => {
-            *count = allocated;
-            0
-        }
-        CountAnswer::Refused(refusal) => {
-            *count = 0;
-            number(refusal)
-        }
-    }
+    let answer = insert(block, key, value);
+    *count = answer.unwrap_or(0);
+    answer_number(answer)
 }
 
 // The value that a block holds for a key.
 pub fn register_get(block: &[u8], key: &[u8], value: &mut u32) -> u8
     ensures { get_numbers block.now key.now ≡ record { answer = result; value = value.new } }
 {
-    match get(block, key) {
-        GetAnswer::Value(held) => {
-            *value = held;
-            0
-        }
-        GetAnswer::Refused(refusal) => {
-            *value = 0;
-            number(refusal)
-        }
-    }
+    let answer = get(block, key);
+    *value = answer.unwrap_or(0);
+    answer_number(answer)
 }
 
 // Whether a bead may be laid today from the cartridge of a label at a temperature, and its dose in millilitres.
@@ -74,14 +60,7 @@ pub fn register_verdict(
         section,
         length: extent,
     };
-    match verdict(block, label, today, reading, sheet) {
-        VerdictAnswer::Dose(millilitres) => {
-            *dose = millilitres;
-            0
-        }
-        VerdictAnswer::Refused(refusal) => {
-            *dose = 0.0;
-            number(refusal)
-        }
-    }
+    let answer = verdict(block, label, today, reading, sheet);
+    *dose = answer.unwrap_or(0.0);
+    answer_number(answer)
 }

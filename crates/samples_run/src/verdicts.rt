@@ -1,24 +1,19 @@
 // Samples I to L, and limits met exactly.
 use crate::insert_byte;
+use blocks::answer::Answer;
 use calendar::{Date, Day, Month, Year, date_of, is_date, packed};
 use dosing::sheet::ProductSheet;
 use dosing::temperature::{Reading, TemperatureGate, to_celsius};
-use dosing::verdict::{VerdictAnswer, verdict};
+use dosing::verdict::verdict;
 use order_list::is_valid_order;
-use printing::lines;
+use printing::{answers, lines};
 use std::io;
 use store::formatting::format;
 
-// One or zero.
-fn flag(holds: bool) -> u32 {
-    if holds { 1 } else { 0 }
-}
-
 // An order word of sample I, and whether it is one.
 fn order_word(rt: &impl Print, word: u16) -> io::Result<()> {
-    print!(rt; "I ")?;
-    print!(rt; "{word:04x}")?;
-    lines::number(rt, b" ", flag(is_valid_order(word)))
+    print!(rt; "I {word:04x}")?;
+    lines::number(rt, b" ", u32::from(is_valid_order(word)))
 }
 
 // Sample I.
@@ -30,30 +25,19 @@ pub fn order_words(rt: &impl Print) -> io::Result<()> {
     order_word(rt, 0x0007)
 }
 
-// The answer number of a verdict.
-fn verdict_number(answer: VerdictAnswer) -> u32 {
-    match answer {
-        VerdictAnswer::Dose(_) => 0,
-        VerdictAnswer::Refused(refusal) => blocks::answer::number(refusal) as u32,
-    }
-}
-
 // Whether a verdict gives this dose.
-fn gives(answer: VerdictAnswer, dose: f32) -> bool {
-    match answer {
-        VerdictAnswer::Dose(millilitres) => millilitres == dose,
-        VerdictAnswer::Refused(_) => false,
-    }
+fn gives(answer: Answer<f32>, dose: f32) -> bool {
+    answer.is_ok_and(|millilitres| millilitres == dose)
 }
 
 // The number of 7 March 2025.
 const EXPIRY: u32 = 1036903;
 
 // A cartridge that expires on 7 March 2025, judged on a day with a gate and a reading, for K's bead.
-fn judged(today: Date, gate: TemperatureGate, reading: Reading) -> VerdictAnswer {
+fn judged(today: Date, gate: TemperatureGate, reading: Reading) -> Answer<f32> {
     let mut block = [0u8; 128];
-    format(&mut block, 1);
-    insert_byte(&mut block, b'A', EXPIRY);
+    let _ = format(&mut block, 1);
+    let _ = insert_byte(&mut block, b'A', EXPIRY);
     let sheet = ProductSheet {
         gate,
         section: 60.0,
@@ -70,7 +54,7 @@ fn answered(
     gate: TemperatureGate,
     reading: Reading,
 ) -> io::Result<()> {
-    lines::number(rt, name, verdict_number(judged(today, gate, reading)))
+    answers::answer(rt, name, judged(today, gate, reading))
 }
 
 // A date as the number that a block holds, 0 where it is none.
@@ -95,9 +79,9 @@ pub fn dates(rt: &impl Print) -> io::Result<()> {
     lines::number(
         rt,
         b"K 240 ml ",
-        flag(gives(judged(expiry, gate, room), 240.0)),
+        u32::from(gives(judged(expiry, gate, room), 240.0)),
     )?;
-    lines::number(rt, b"L 200 degrees ", flag(to_celsius(392.0) == 200.0))
+    lines::number(rt, b"L 200 degrees ", u32::from(to_celsius(392.0) == 200.0))
 }
 
 // Limits met exactly, and just missed.
