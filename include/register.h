@@ -47,7 +47,7 @@
 #include <stdint.h>
 
 /* The version of this header and its libraries; everything else that tells a version takes it from here. */
-#define REGISTER_VERSION "0.10.0"
+#define REGISTER_VERSION "0.11.0"
 
 /* Marks a result that must be looked at: the compiler warns where one is dropped. */
 #if defined(__cplusplus) && __cplusplus >= 201703L
@@ -116,10 +116,10 @@ enum {
  *
  *  in blocks of up to 16 cells            of any number of cells */
 enum {
-    REGISTER_STACK_INSERT_FEW = 9984,      REGISTER_STACK_INSERT = 10752,
-    REGISTER_STACK_GET_FEW = 4608,         REGISTER_STACK_GET = 10496,
-    REGISTER_STACK_VERDICT_FEW = 4864,     REGISTER_STACK_VERDICT = 10496,
-    REGISTER_STACK_PACK_DATE_FEW = 2560,   REGISTER_STACK_PACK_DATE = 2560
+    REGISTER_STACK_INSERT_FEW = 10112,     REGISTER_STACK_INSERT = 10112,
+    REGISTER_STACK_GET_FEW = 4096,         REGISTER_STACK_GET = 8064,
+    REGISTER_STACK_VERDICT_FEW = 4224,     REGISTER_STACK_VERDICT = 8320,
+    REGISTER_STACK_PACK_DATE_FEW = 2816,   REGISTER_STACK_PACK_DATE = 2816
 };
 
 /* Enters a key with its value, in place of an older one, and tells in *count how many cells that took.
