@@ -27,6 +27,7 @@ pub fn put_record(
     ensures { written_of result buffer.new ≡ put_record (written_of progress buffer.old) (entry_of (take size path.now) value) }
 {
     let start = progress.used;
+    let key: &[u8] = path;
     if buffer.len() - start < size + 5 {
         return Progress {
             records: progress.records,
@@ -34,13 +35,17 @@ pub fn put_record(
             full: true,
         };
     }
-    let end = start + 1 + size;
     buffer[start] = size as u8;
-    buffer[start + 1..end].copy_from_slice(&path[..size]);
-    put_word(buffer, end, value);
+    // No `for` and no `copy_from_slice`: both compile to a call of memmove, slow for short keys, and C would have to provide it.
+    let mut i: usize = 0;
+    while i < size {
+        buffer[start + 1 + i] = key[i];
+        i += 1;
+    }
+    put_word(buffer, start + 1 + size, value);
     Progress {
         records: progress.records + 1,
-        used: end + 4,
+        used: start + size + 5,
         full: false,
     }
 }

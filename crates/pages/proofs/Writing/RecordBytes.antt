@@ -6,9 +6,8 @@ use Prim.Native.Nat.{ℕ, suc, ◌+◌, ◌-◌, ◌≤◌, ◌<◌}
 use native.Mathlib.Nat.{add-zero}
 use native.Mathlib.Numerals.{add-one}
 use native.Mathlib.Omega.{arith}
-use lib.ListN.{length, take, drop, set, length-append, length-set}
-use lib.Seq.{length-take-le, drop-drop, sets, sets-eq}
-use borrow.Rule.Slice.PartMut.{put_mid}
+use lib.ListN.{length, get_or, take, drop, set, length-append, length-set}
+use lib.Seq.{length-take-le, take-suc, sets, length-sets, sets-eq}
 use Rattle.cells.specs.Word.{with_word}
 use Rattle.trees.specs.Entries.{entry_of}
 use Rattle.pages.specs.declared.record.Progress.{Progress}
@@ -28,13 +27,25 @@ sets_append l at (x ∷ a) b =
     let next : suc at + length a ≡ at + suc (length a) = omega arith in
     sets_append (set l at x) (suc at) a b ∙ ap (λ (n : ℕ). sets (sets (set l at x) (suc at) a) n b) next
 
--- bytes copied into a part are these bytes, one after the other
-copied_sets : (l key : List ℕ) (at k : ℕ) → k ≡ length key → at + k ≤ length l → put_mid at k l key ≡ sets l at key
-copied_sets l key at k whole fits =
-    ap (λ (n : ℕ). put_mid at n l key) whole
-    ∙ ap (λ (rest : List ℕ). take at l ++ (key ++ rest)) (drop-drop (length key) at l)
-    ∙ sym (append_assoc (take at l) key (drop (at + length key) l))
-    ∙ sym (sets-eq key l at (omega (arith, whole)))
+-- a list with so many bytes of another copied into it
+pub record Copied (l₀ : List ℕ) (at : ℕ) (s : List ℕ) (count : ℕ) (l : List ℕ) : Type 0 where
+  pub same : l ≡ sets l₀ at (take count s)
+
+-- one byte more
+pub copy_more : (l₀ l s : List ℕ) (at j : ℕ) → Copied l₀ at s j l → j < length s → Copied l₀ at s (j + 1) (set l (at + j) (get_or s j 0))
+copy_more l₀ l s at j copied inside =
+    let size : length (take j s) ≡ j = length-take-le j s (omega arith) in
+    let more : set l (at + j) (get_or s j 0) ≡ sets l₀ at (take (j + 1) s) =
+    ap (λ (b : List ℕ). set b (at + j) (get_or s j 0)) copied.same
+    ∙ ap (λ (n : ℕ). set (sets l₀ at (take j s)) (at + n) (get_or s j 0)) (sym size)
+    ∙ sym (sets_append l₀ at (take j s) (get_or s j 0 ∷ []))
+    ∙ ap (sets l₀ at) (sym (take-suc s j 0 inside) ∙ ap (λ (n : ℕ). take n s) (sym (add-one j))) in
+    record { same = more }
+
+-- bytes copied behind a length byte leave the length of a buffer
+pub copy_length : (b l s : List ℕ) (start size at count : ℕ) → Copied (set b start size) at s count l → length l ≡ length b
+copy_length b l s start size at count copied =
+    ap length copied.same ∙ length-sets (set b start size) at (take count s) ∙ length-set b start size
 
 -- a word is put as its four bytes
 word_sets : (l : List ℕ) (at v : ℕ) → with_word l at v ≡ sets l at (word_bytes v)
@@ -66,20 +77,16 @@ module _ (p : List ℕ) (size v : ℕ) (whole : size ≤ length p) where
 
   module _ (progress : Progress) (b : List ℕ) (going : Open progress b) where
     -- a record that fits is written
-    pub record_fits : size + 5 ≤ length b - progress.used → (k : ℕ) → k ≡ size → (key b₂ : List ℕ) → key ≡ take size p
-        → b₂ ≡ with_word (put_mid (progress.used + 1) k (set b progress.used size) key) (progress.used + 1 + size) v
-        → ◌≡◌ {A = Written} (record { records = progress.records + 1; used = progress.used + 1 + size + 4; full = false; buffer = b₂ })
+    pub record_fits : (b₁ b₂ : List ℕ) (i : ℕ) → size + 5 ≤ length b - progress.used
+        → Copied (set b progress.used size) (progress.used + 1) p i b₁ → b₂ ≡ with_word b₁ (progress.used + 1 + size) v → i ≡ size
+        → ◌≡◌ {A = Written} (record { records = progress.records + 1; used = progress.used + size + 5; full = false; buffer = b₂ })
         (put_record (written_of progress b) (entry_of (take size p) v))
-    record_fits room k all key b₂ copied word =
+    record_fits b₁ b₂ i room copied word all =
         let fits : progress.used + (size + 5) ≤ length b = omega (arith, going.inside) in
-        let used : progress.used + 1 + size + 4 ≡ progress.used + length (record_of (entry_of (take size p) v)) =
-        omega (arith, record_size) in
-        let long : k ≡ length (take size p) = all ∙ sym (length-take-le size p whole) in
-        let inside : progress.used + 1 + k ≤ length (set b progress.used size) =
-        omega (arith, fits, all, length-set b progress.used size) in
-        let here = ap (put_mid (progress.used + 1) k (set b progress.used size)) copied
-        ∙ copied_sets (set b progress.used size) (take size p) (progress.used + 1) k long inside in
-        let buffer = record_bytes b _ b₂ progress.used fits here word in
+        let used : progress.used + size + 5 ≡ progress.used + length (record_of (entry_of (take size p) v)) = omega (arith, record_size) in
+        let key : b₁ ≡ sets (set b progress.used size) (progress.used + 1) (take size p) =
+        copied.same ∙ ap (λ (n : ℕ). sets (set b progress.used size) (progress.used + 1) (take n p)) all in
+        let buffer = record_bytes b b₁ b₂ progress.used fits key word in
         (λ t. record { records = progress.records + 1; used = used t; full = false; buffer = buffer t })
         ∙ sym (put_fits (written_of progress b) (entry_of (take size p) v) going.going (omega (arith, record_size)))
 
