@@ -35,12 +35,18 @@ pub memory_bytes : (b : List ℕ) (c : ℕ) → IsBytes b → IsBytes (memory_of
 unfolding memory_of
 memory_bytes b c h = bytes_take 32 _ (bytes_append _ _ (bytes_drop (c * 32) b h) (bytes_zeros 32))
 
--- the first 32 bytes of a block from the start of a cell on are the cell
-pub memory_first : (b : List ℕ) (c : ℕ) → c * 32 + 32 ≤ length b → take 32 (take (length b - c * 32) (drop (c * 32) b)) ≡ memory_of b c
+-- the part of a block from the start to the end of a cell is the cell
+pub memory_part : (b : List ℕ) (c : ℕ) → c * 32 + 32 ≤ length b → take (c * 32 + 32 - c * 32) (drop (c * 32) b) ≡ memory_of b c
 unfolding memory_of
-memory_first b c fits =
-    let room : 32 ≤ length b - c * 32 = omega (arith, fits) in
-    take-take 32 _ (drop (c * 32) b) room ∙ sym (take-append-le 32 (drop (c * 32) b) (zeros 32) (omega (arith, length-drop (c * 32) b)))
+memory_part b c fits =
+    let e : c * 32 + 32 - c * 32 ≡ 32 = omega arith in
+    ap (λ (k : ℕ). take k (drop (c * 32) b)) e ∙ sym (take-append-le 32 (drop (c * 32) b) (zeros 32) (omega (arith, length-drop (c * 32) b)))
+
+-- and so are the first 32 bytes of a longer part
+pub memory_first : (b : List ℕ) (c n : ℕ) → 32 ≤ n → c * 32 + 32 ≤ length b → take 32 (take n (drop (c * 32) b)) ≡ memory_of b c
+unfolding memory_of
+memory_first b c n room fits =
+    take-take 32 n (drop (c * 32) b) room ∙ sym (take-append-le 32 (drop (c * 32) b) (zeros 32) (omega (arith, length-drop (c * 32) b)))
 
 -- a cell is told by its 32 bytes
 pub memory_is : (b : List ℕ) (c : ℕ) (s : List ℕ) → length s ≡ 32

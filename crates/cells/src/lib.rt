@@ -31,7 +31,8 @@ pub fn cell(block: &[u8], number: usize) -> &Cell
     requires { number * 32 + 32 ≤ length block.now }
     ensures { result.now ≡ memory_of block.now number }
 {
-    block[number * 32..].first_chunk::<32>().unwrap()
+    let at = number * 32;
+    block[at..at + 32].first_chunk::<32>().unwrap()
 }
 
 // A word with every bit inverted.

@@ -6,7 +6,7 @@ use crate::layout::Layout;
 use crate::pointer::{Pointer, pointer_of};
 use cells::Cell;
 
-// A block of which each cell of its layout can be read. It is made once, where the block is judged.
+// A block of which each cell of its layout can be read.
 #[derive(Clone, Copy)]
 pub struct Cells<'a> {
     pub layout: Layout,
