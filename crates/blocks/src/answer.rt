@@ -41,15 +41,15 @@ impl From<Refusal> for u8 {
 
     // The answer number of a refusal.
     fn from(refusal: Refusal) -> u8 {
-        refusal as u8
+        number(refusal)
     }
 }
 
-// The same, by the name that the calls for C use.
+// The answer number of a refusal, the same by a name.
 pub fn number(refusal: Refusal) -> u8
     ensures { result ≡ refusal_number refusal }
 {
-    refusal.into()
+    refusal as u8
 }
 
 // The answer number of a call, whatever it gives where it is done.

@@ -89,7 +89,7 @@ impl From<u32> for Date {
 
     // The three numbers of a held value, which need not be a date.
     fn from(value: u32) -> Date {
-        date_of(Year(value / 512), Month(value / 32 % 16), Day(value % 32))
+        unpacked(value)
     }
 }
 
@@ -97,7 +97,7 @@ impl From<u32> for Date {
 pub fn unpacked(value: u32) -> Date
     ensures { result ≡ unpacked_date value }
 {
-    value.into()
+    date_of(Year(value / 512), Month(value / 32 % 16), Day(value % 32))
 }
 
 // Whether today lies past the expiry: the expiry day itself is still good.

@@ -36,7 +36,7 @@ pub fn put_record(
         };
     }
     buffer[start] = size as u8;
-    // No `for` and no `copy_from_slice`: both compile to a call of memmove, slow for short keys, and C would have to provide it.
+    // No `for` and no `copy_from_slice`: both compile to a call of memmove, which C would have to provide.
     let mut i: usize = 0;
     while i < size {
         buffer[start + 1 + i] = key[i];

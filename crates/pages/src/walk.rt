@@ -14,6 +14,7 @@ use nodes::least::Least;
 use nodes::memory::Cells;
 use nodes::pointer::Pointer;
 use nodes::step::ChildStep;
+use trees::next_key::put_character;
 
 // Where the walk stands: a word and how many characters lead to it.
 #[derive(Clone, Copy)]
@@ -38,7 +39,7 @@ fn run_down(cells: &Cells, word: u32, at: usize, path: &mut [u8; KEY_LIMIT]) -> 
             };
         };
         let bytes = cells.cell(number);
-        path[depth] = bytes[place];
+        put_character(path, depth, bytes[place]);
         here = chain_child(bytes, number, place);
         depth += 1;
     }
@@ -104,7 +105,7 @@ fn print_below(
         let Least::Found(character, child) = known_child(cells, word, from) else {
             return progress;
         };
-        path[at] = character;
+        put_character(path, at, character);
         let next = print_tree(cells, child, at + 1, path, buffer, progress);
         progress = Progress {
             records: next.records,
@@ -139,7 +140,7 @@ pub fn print_after(
     let ChildStep::Found(child) = cells.child_step(word, character) else {
         return print_below(cells, word, after, i, path, buffer, start);
     };
-    path[i] = character;
+    put_character(path, i, character);
     let progress = print_after(cells, child, key, i + 1, path, buffer, start);
     if progress.full {
         return progress;

@@ -10,7 +10,7 @@ use nodes::least::Least;
 use nodes::memory::Cells;
 use nodes::step::ChildStep;
 
-// Writes a character to a position; public, so it keeps its name, though the walks write an element themselves.
+// Writes a character to a position; a page's walk writes its path by it too.
 pub fn put_character(out: &mut [u8; KEY_LIMIT], at: usize, character: u8)
     requires { at < key_limit }
     ensures { (length out.old ≡ key_limit) × (out.new ≡ set out.old at character) }
@@ -37,7 +37,7 @@ fn first_below(
         Some(_) => 0,
         None => first_below(cells, child, 0, at + 1, out)?,
     };
-    out[at] = character;
+    put_character(out, at, character);
     Some(below + 1)
 }
 
@@ -63,7 +63,7 @@ fn next_from(
     let Some(size) = next_from(cells, child, key, i + 1, out) else {
         return first_below(cells, word, after, i, out);
     };
-    out[i] = character;
+    put_character(out, i, character);
     Some(size + 1)
 }
 

@@ -1,7 +1,5 @@
 -- `print_after` meets its contract: one law for each answer, and what is left of the key falls with each character.
-use borrow.Author.Rules.{rules}
 use native.Mathlib.Omega.{arith}
-use mathlib.Core.Path.{refl}
 use Rattle.trees.proofs.NextKey.NextAnswers.{next_room}
 use Rattle.pages.proofs.Walking.WalkParts.{still_open}
 use Rattle.pages.proofs.Walking.AfterSteps.{printed_same, after_ended, after_missing, after_full, after_goes}
@@ -16,8 +14,8 @@ returns-in_default t c =
     printed_same _ _ _ _ _ _ _ (after_missing _ _ _ _ c.args.key.now c.requires.1 c.if-key-i.false (c.type_inv.key c.args.i).fits
     c.child_step.result c.child_step.ensures c.in_default.not-Found) c.print_below-in_default.ensures
 
-pub bounds-path-i : goal.bounds-path-i
-bounds-path-i t c =
+pub put_character-requires : goal.put_character-requires
+put_character-requires t c =
     (next_room _ _ _ _ c.args.key.now c.requires.1 c.if-key-i.false (c.type_inv.key c.args.i).fits c.child_step.result c.child_step.ensures
     _ c.in-Found.is).0
 
@@ -31,7 +29,7 @@ pub returns-then-progress : goal.returns-then-progress
 returns-then-progress t c =
     after_full _ _ _ _ c.args.key.now c.requires.1 c.if-key-i.false (c.type_inv.key c.args.i).fits c.child_step.result c.child_step.ensures
     _ c.in-Found.is
-    _ _ _ (search rules, refl) _ _ c.print_after-progress.ensures c.if-progress.true
+    _ _ _ c.put_character.ensures _ _ c.print_after-progress.ensures c.if-progress.true
 
 pub print_below-requires-2 : goal.print_below-requires-2
 print_below-requires-2 t c =
@@ -41,4 +39,4 @@ pub returns : goal.returns
 returns t c =
     after_goes _ _ _ _ c.args.key.now c.requires.1 c.if-key-i.false (c.type_inv.key c.args.i).fits c.child_step.result c.child_step.ensures
     _ c.in-Found.is
-    _ _ _ (search rules, refl) _ _ c.print_after-progress.ensures _ _ c.print_below-2.ensures
+    _ _ _ c.put_character.ensures _ _ c.print_after-progress.ensures _ _ c.print_below-2.ensures

@@ -1,7 +1,6 @@
 -- The two walks that call each other meet their contracts.
-use borrow.Author.Rules.{rules}
 use native.Mathlib.Omega.{arith}
-use mathlib.Core.Path.{refl, sym, ap, ◌∙◌}
+use mathlib.Core.Path.{sym, ap, ◌∙◌}
 use Rattle.cells.specs.Optional.{option_of}
 use Rattle.trees.proofs.NextKey.NextAnswers.{first_grown}
 use Rattle.pages.proofs.Walking.WalkParts.{grown_known, still_open, once_open}
@@ -19,8 +18,8 @@ print_below-returns-in_default t c = record {
       c.in_default.not-Found;
 }
 
-pub print_below-bounds-path-at : goal.print_below-bounds-path-at
-print_below-bounds-path-at t c =
+pub print_below-put_character-requires : goal.print_below-put_character-requires
+print_below-put_character-requires t c =
     (first_grown _ _ _ _ _ c.requires.0 c.requires.1 c.known_child.result c.known_child.ensures _ _ c.in-Found.is).0
 
 pub print_below-print_tree-next-requires : goal.print_below-print_tree-next-requires
@@ -32,10 +31,10 @@ pub print_below-returns-then-progress : goal.print_below-returns-then-progress
 print_below-returns-then-progress t c = record {
   kept =
       below_kept _ _ _ _ c.requires.1 _ _ _ _ c.loop-character.invariant.3 c.known_child.result c.known_child.ensures _ _ c.in-Found.is
-      c.requires.0 _ _ _ (search rules, refl) c.loop-character.invariant.0 _ c.print_tree-next.ensures;
+      c.requires.0 _ _ _ c.put_character.ensures c.loop-character.invariant.0 _ c.print_tree-next.ensures;
   written =
       below_full _ _ _ _ c.requires.1 _ _ _ _ c.loop-character.invariant.3 c.known_child.result c.known_child.ensures _ _ c.in-Found.is
-      c.requires.0 _ _ _ (search rules, refl) c.loop-character.invariant.0 _ c.print_tree-next.ensures c.if-progress.true;
+      c.requires.0 _ _ _ c.put_character.ensures c.loop-character.invariant.0 _ c.print_tree-next.ensures c.if-progress.true;
 }
 
 pub print_below-loop-character-smaller : goal.print_below-loop-character-smaller
@@ -47,11 +46,11 @@ print_below-loop-character-smaller t c =
 pub print_below-loop-character-preserved : goal.print_below-loop-character-preserved
 print_below-loop-character-preserved t c = (
   below_kept _ _ _ _ c.requires.1 _ _ _ _ c.loop-character.invariant.3 c.known_child.result c.known_child.ensures _ _ c.in-Found.is
-      c.requires.0 _ _ _ (search rules, refl) c.loop-character.invariant.0 _ c.print_tree-next.ensures,
+      c.requires.0 _ _ _ c.put_character.ensures c.loop-character.invariant.0 _ c.print_tree-next.ensures,
   c.print_tree-next.auto.buffer ∙ c.loop-character.invariant.1,
   still_open _ _ _ _ _ c.loop-character.invariant.2 c.print_tree-next.ensures.written c.if-progress.false,
   below_goes _ _ _ _ c.requires.1 _ _ _ _ c.loop-character.invariant.3 c.known_child.result c.known_child.ensures _ _ c.in-Found.is
-      c.requires.0 _ _ _ (search rules, refl) c.loop-character.invariant.0 _ c.print_tree-next.ensures,
+      c.requires.0 _ _ _ c.put_character.ensures c.loop-character.invariant.0 _ c.print_tree-next.ensures,
 )
 
 pub print_tree-returns-in_default : goal.print_tree-returns-in_default

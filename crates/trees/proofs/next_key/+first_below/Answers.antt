@@ -23,8 +23,8 @@ returns-in_err-below-in-None t c = rw c.from_residual.ensures
     (first_deeper _ _ _ _ _ c.requires.0 c.requires.1 c.least_child.result c.least_child.ensures _ _ c.in-Found.is
     (ap option_of (sym c.in-None.is) ∙ c.value_at.ensures) _ _ c.in_err-below-in-None.ensures))
 
-pub bounds-out-at : goal.bounds-out-at
-bounds-out-at t c = (first_grown _ _ _ _ _ c.requires.0 c.requires.1 c.least_child.result c.least_child.ensures _ _ c.in-Found.is).0
+pub put_character-requires : goal.put_character-requires
+put_character-requires t c = (first_grown _ _ _ _ _ c.requires.0 c.requires.1 c.least_child.result c.least_child.ensures _ _ c.in-Found.is).0
 
 pub overflow_add-result : goal.overflow_add-result
 overflow_add-result t c = elim c.match-value_at.branch [
@@ -33,8 +33,8 @@ overflow_add-result t c = elim c.match-value_at.branch [
 ]
 
 pub returns : goal.returns
-returns t c =
-    first_written _ _ _ _ _ c.requires.0 c.requires.1 c.least_child.result c.least_child.ensures _ _ c.in-Found.is _ _
+returns t c = rw c.put_character.ensures.1
+    (first_written _ _ _ _ _ c.requires.0 c.requires.1 c.least_child.result c.least_child.ensures _ _ c.in-Found.is _ _
     c.match-value_at.array_long
     (elim c.match-value_at.branch [
       | in-Some w ↦ rw w.below-is
@@ -43,4 +43,4 @@ returns t c =
       | in-None+in_ok-below-in-None w ↦ rw (w.out-is, w.below-is)
           (first_deeper _ _ _ _ _ c.requires.0 c.requires.1 c.least_child.result c.least_child.ensures _ _ c.in-Found.is
           (ap option_of (sym w.in-None.is) ∙ c.value_at.ensures) _ _ w.in_ok-below-in-None.ensures)
-    ])
+    ]))

@@ -25,7 +25,7 @@ returns-in_default-next_from t c =
     _ c.in_default-next_from.ensures _ _ c.first_below-in_default-next_from.ensures
 
 pub returns : goal.returns
-returns t c =
-    next_written _ _ _ _ _ c.requires.1 c.if-key-i.false (c.type_inv.key c.args.i).fits c.child_step.result c.child_step.ensures _
+returns t c = rw c.put_character.ensures.1
+    (next_written _ _ _ _ _ c.requires.1 c.if-key-i.false (c.type_inv.key c.args.i).fits c.child_step.result c.child_step.ensures _
     c.in-Found.is
-    _ _ c.next_from.array_long c.in-Some.ensures
+    _ _ c.next_from.array_long c.in-Some.ensures)
