@@ -6,25 +6,34 @@ use native.Mathlib.Decide.{dec_lt, ℕ_discrete}
 use native.Mathlib.Omega.{arith}
 use native.Mathlib.Numerals.{add-one}
 use Prim.Native.Nat.{ℕ, zero, suc, ◌+◌, ◌-◌, ◌*◌, ◌≤◌, ◌<◌}
+use mir.Val.{Fits}
+use mir.Syntax.{w8}
 use lib.ListN.{length, get_or, set, take, drop, replicate, length-set, length-take, length-drop, get_or-eq_default, get_or-append}
 use lib.Seq.{get_or-set_same, get_or-set_other, get_or-take, get_or-append_right, length-take-le}
 use borrow.Rule.Slice.PartMut.{mid_of, put_mid}
 use Rattle.std.proofs.lemmas.List.{get_or-drop}
 use Rattle.std.proofs.lemmas.Slice.{take-put_mid_below, drop-put_mid}
-use Rattle.cells.specs.Bytes.{zeros}
+use Rattle.cells.specs.Bytes.{IsBytes, zeros}
 use Rattle.cells.specs.Word.{with_word}
 use Rattle.cells.specs.Memory.{memory_of}
+use Rattle.cells.specs.Writes.{written, cell_writes}
 use Rattle.cells.proofs.Memory.{memory_length, memory_byte, memory_is, memory_alike, memory_written_same, memory_written_other}
+use Rattle.cells.proofs.CellWrites.{cell_written_same, cell_written_other}
 use Rattle.nodes.specs.Layout.{Layout}
 use Rattle.staging.specs.NewCells.{blank}
 use Rattle.staging.specs.Numbering.{number_from}
 use Rattle.staging.specs.Code.Stage.{staged, Put}
+use Rattle.staging.proofs.CellBytes.{IsCell}
 
 -- the default of an element that is there does not matter
 get_or_inside : (l : List ℕ) (i d e : ℕ) → i < length l → get_or l i d ≡ get_or l i e
 get_or_inside [] i d e inside = absurd (omega arith)
 get_or_inside (x ∷ l) zero d e inside = refl
 get_or_inside (x ∷ l) (suc i) d e inside = get_or_inside l i d e (omega arith)
+
+-- the elements of a slice of bytes are bytes
+pub slice_bytes : (l : List ℕ) → ((i : ℕ) → Fits w8 (get_or l i 0)) → IsBytes l
+slice_bytes l given = record { below = λ i. omega (arith, given i) }
 
 -- one write after another into the same cell
 pub put_then : {before between after bytes : List ℕ} {at : ℕ} (f : List ℕ → List ℕ)
@@ -39,7 +48,7 @@ put_then f first second =
 pub put_as : {before after bytes bytes' : List ℕ} {at : ℕ} → Put before after at bytes → bytes ≡ bytes' → Put before after at bytes'
 put_as put same = record { here = put.here ∙ same; others = put.others }
 
--- a byte and a word written
+-- a byte, a word and a whole cell written
 module _ (stage : List ℕ) (at : ℕ) (fits : at * 32 + 32 ≤ length stage) where
   byte_set : (offset v : ℕ) → offset < 32 → Put stage (set stage (at * 32 + offset) v) at (set (memory_of stage at) offset v)
   byte_set offset v inside =
@@ -80,6 +89,13 @@ module _ (stage : List ℕ) (at : ℕ) (fits : at * 32 + 32 ≤ length stage) wh
       record {
         here = ap (λ s. memory_of s at) is ∙ memory_written_same stage at offset word fits inside;
         others = λ d other. ap (λ s. memory_of s d) is ∙ memory_written_other stage at d offset word other inside;
+      }
+
+  pub put_cell_law : (bytes after : List ℕ) → IsCell bytes → after ≡ written stage (cell_writes at bytes) → Put stage after at bytes
+  put_cell_law bytes after cell is =
+      record {
+        here = ap (λ s. memory_of s at) is ∙ cell_written_same stage at bytes cell.size cell.bytes fits;
+        others = λ d other. ap (λ s. memory_of s d) is ∙ cell_written_other stage at d bytes other;
       }
 
 -- the bytes of a cell written as a whole

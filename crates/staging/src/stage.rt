@@ -7,7 +7,7 @@ ghost use Rattle.nodes.specs.Pointer.{word_to};
 ghost use Rattle.staging.specs.NewCells.{blank};
 ghost use Rattle.staging.specs.Code.Stage.{stage_cells, Put};
 
-use cells::{cell, put_word, word_at};
+use cells::{put_word, word_at};
 use nodes::layout::KEY_LIMIT;
 
 // The most cells that one call allocates.
@@ -66,12 +66,12 @@ pub fn put_blank(stage: &mut [u8; STAGE_SIZE], at: usize)
     clear(&mut stage[at * 32..at * 32 + 32]);
 }
 
-// Copies a cell of the block to a cell of the stage.
+// Copies a cell of the block to a cell of the stage; word by word, since a slice's copy is a call of memmove on some processors.
 pub fn put_copy(stage: &mut [u8; STAGE_SIZE], at: usize, block: &[u8], number: usize)
     requires { (at < stage_cells) × (number * 32 + 32 ≤ length block.now) }
     ensures { Put stage.old stage.new at (memory_of block.now number) }
 {
-    stage[at * 32..at * 32 + 32].copy_from_slice(cell(block, number));
+    copy_cell(stage, at, block, number);
 }
 
 // The word of a kind in a cell.
