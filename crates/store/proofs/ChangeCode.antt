@@ -50,6 +50,10 @@ module _ (layout : Layout) (b numbers : List ℕ) (count : ℕ) (key : List ℕ)
   pub build_fits : layout.cells * 32 ≤ length b
   build_fits = let f = changeable_fits in omega (arith, f.whole)
 
+  -- and cells to be numbered by those listed
+  pub build_numbered : Numbered layout count
+  build_numbered = free_numbered layout b numbers count changeable_fits p.listed
+
   pub build_tree : (root : ℕ) → root ≡ root_word layout b → Grown layout (memory_of b) key_limit root
   build_tree root root_is =
       let valid : sound_with layout b ≡ true = ap (λ (l : Layout). sound_with l b) p.stated ∙ p.valid in

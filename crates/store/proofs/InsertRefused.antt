@@ -20,7 +20,6 @@ use Rattle.store.specs.Committed.{refused_call}
 use Rattle.store.proofs.ChangeCall.{key_fits}
 use Rattle.store.proofs.InsertCall.{insert_number, insert_refused_as}
 use Rattle.std.proofs.lemmas.Result.{err_from_is_err_and}
-use Rattle.store.proofs.ChangeCode.{free_numbered}
 
 -- the number given by the first of some refusals is that of all of them
 first_given : (rs more : List Refusal) (n : ℕ) → first_refusal rs ≡ n → n ≢ 0 → first_refusal (rs ++ more) ≡ n
@@ -88,7 +87,7 @@ module _ (b key : List ℕ) (value : ℕ) where
         (insert_number b key value ∙ judged_refused (refusal 7 (no_room b key) ∷ [])) (refusal_number_lem why)
 
 -- the ways through the code that judges a change, and through that of an insertion where it refuses
-pub ruleset change_judged = (err_from_is_err_and, free_numbered, change_size, change_unsound, change_key, change_known)
+pub ruleset change_judged = (err_from_is_err_and, change_size, change_unsound, change_key, change_known)
 
 pub ruleset insertion_judged = (err_from_is_err_and, asked_change, asked_value)
 

@@ -26,7 +26,7 @@ use Rattle.store.specs.Code.Judged.{asked_of_change}
 use Rattle.store.specs.Committed.{refused_call}
 use Rattle.store.proofs.RemoveCall.{remove_number, remove_refused_as, remove_answer}
 use Rattle.std.proofs.lemmas.Result.{err_from_is_err_and}
-use Rattle.store.proofs.ChangeCode.{build_fits}
+use Rattle.store.proofs.ChangeCode.{build_fits, build_numbered}
 
 module _ (b key : List ℕ) where
   -- a removal that one of the answers 1 to 3 refuses
@@ -58,4 +58,4 @@ module _ (b key : List ℕ) where
     remove_shown (Some other) found value e absent = never (sym absent ∙ sym looked ∙ sym found)
 
 -- the ways through the code of a removal
-pub ruleset removal_judged = (err_from_is_err_and, build_fits, remove_judged, remove_missing, remove_shown)
+pub ruleset removal_judged = (err_from_is_err_and, build_fits, build_numbered, remove_judged, remove_missing, remove_shown)

@@ -14,15 +14,15 @@ abbrev pub asked_of_change : List ℕ → List ℕ → List Refusal
 asked_of_change block key = block_refusals block ++ (refusal 3 (bad_key key) ∷ [])
 
 -- what a change that none of them refuses goes on with
-pub record ChangeReady (block key : List ℕ) (ready : Ready) : Type 0 where
-  pub changeable : Changeable ready.free.layout block ready.free.numbers.now ready.free.count key
-  pub root_is : ready.root ≡ root_word ready.free.layout block
+pub record ChangeReady (block numbers key : List ℕ) (ready : Ready) : Type 0 where
+  pub changeable : Changeable ready.layout block numbers ready.free key
+  pub root_is : ready.root ≡ root_word ready.layout block
   pub good_key : bad_key key ≡ false
 
 -- a block and a key judged, and the free cells listed where none of these answers is given
-abbrev pub ChangeJudged : List ℕ → List ℕ → Result Ready declared.Refusal → Type 0
-ChangeJudged block key (Ok ready) = ChangeReady block key ready
-ChangeJudged block key (Err why) = first_refusal (asked_of_change block key) ≡ refusal_number why
+abbrev pub ChangeJudged : List ℕ → List ℕ → List ℕ → Result Ready declared.Refusal → Type 0
+ChangeJudged block numbers key (Ok ready) = ChangeReady block numbers key ready
+ChangeJudged block numbers key (Err why) = first_refusal (asked_of_change block key) ≡ refusal_number why
 
 -- 01's answers 1 to 4 for an insertion
 abbrev pub asked_first : List ℕ → List ℕ → ℕ → List Refusal
@@ -36,6 +36,6 @@ pub record Insertable (layout : Layout) (block numbers : List ℕ) (free : ℕ) 
   pub good_value : bad_value value ≡ false
 
 -- a block, a key and a value judged, and the free cells listed where none of these answers is given
-abbrev pub JudgedAs : List ℕ → List ℕ → ℕ → Result Ready declared.Refusal → Type 0
-JudgedAs block key value (Err why) = first_refusal (asked_first block key value) ≡ refusal_number why
-JudgedAs block key value (Ok ready) = Insertable ready.free.layout block ready.free.numbers.now ready.free.count key value ready.root
+abbrev pub JudgedAs : List ℕ → List ℕ → List ℕ → ℕ → Result Ready declared.Refusal → Type 0
+JudgedAs block numbers key value (Err why) = first_refusal (asked_first block key value) ≡ refusal_number why
+JudgedAs block numbers key value (Ok ready) = Insertable ready.layout block numbers ready.free key value ready.root
