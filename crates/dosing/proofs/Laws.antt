@@ -1,9 +1,9 @@
 -- Laws of readings, gates and sheets: what no number, no infinity and no reversed gate can slip past. Assumes nothing.
 use mathlib.Core.Path.{◌≡◌, refl, sym, ap, ◌∙◌}
 use mathlib.Core.Logic.{◌≢◌}
-use mathlib.Core.Bool.{Bool, true, false, ◌&&◌, ◌||◌, beq, false≢true, and-false, or-true}
+use mathlib.Core.Bool.{Bool, true, false, not, ◌&&◌, ◌||◌, beq, false≢true, and-false, or-true}
 use Prim.Native.Nat.{ℕ, ◌*◌}
-use borrow.Author.Tests.{eq-eqb}
+use borrow.Author.Tests.{eq-eqb, not-true}
 use lib.Dec.{eqb}
 use lib.Ieee as Ieee
 use lib.Ieee.{Float, nan, inf, fin, up, down}
@@ -103,6 +103,14 @@ nan_high_invalid low =
 pub nan_limit_invalid : valid_gate (AtLeast nan) ≡ false
 unfolding valid_gate
 nan_limit_invalid = nan_off_scale
+
+-- A low limit off the scale decides, whatever the high one is.
+pub low_refused : (gate : TemperatureGate) (low high : Float) (told : Bool)
+    → gate ≡ Between low high → told ≡ on_scale low → not told ≡ true → false ≡ valid_gate gate
+unfolding valid_gate
+low_refused gate low high told is same failed =
+    let off : on_scale low ≡ false = sym same ∙ not-true told failed in
+    sym (ap valid_gate is ∙ ap (λ (first : Bool). first && (on_scale high && Ieee.le low high)) off)
 
 pub low_known : (low high : Float) → valid_gate (Between low high) ≡ true → on_scale low ≡ true
 unfolding valid_gate

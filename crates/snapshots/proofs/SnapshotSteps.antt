@@ -6,10 +6,11 @@ use mathlib.Core.List.{List, [], ◌∷◌}
 use Prim.Native.Nat.{ℕ, ◌+◌, ◌-◌, ◌*◌, ◌%◌, ◌^◌, ◌≤◌, ◌<◌}
 use native.Mathlib.Nat.{one-mul}
 use native.Mathlib.Omega.{arith}
+use lib.ListN.{length}
 use lib.Pow.{shl_exact}
 use borrow.Author.Tests.{eqb-true, eqb-false}
 use Rattle.nodes.specs.Layout.{Layout}
-use Rattle.blocks.specs.Trailer.{layout_of, root_word, valid_slot, slot_bits, slot_word, slot_bit, in_use}
+use Rattle.blocks.specs.Trailer.{bad_length, layout_of, root_word, valid_slot, slot_bits, slot_word, slot_bit, in_use}
 use Rattle.blocks.specs.TrailerWrites.{with_root, with_slot_word, with_slot_bits}
 use Rattle.std.specs.Prelude.{Result, Ok, Err}
 use Rattle.blocks.specs.Code.Blocks.{SlotOf}
@@ -21,6 +22,7 @@ use Rattle.blocks.specs.Refusal.{refusal, first_refusal}
 use Rattle.blocks.specs.Read.{block_refusals, validate}
 use Rattle.blocks.proofs.Refusals.{NoneApplies, block_answers}
 use Rattle.blocks.proofs.RefusalSteps.{refused_earlier, one_more, no_more, changed_refused, changed_done}
+use Rattle.blocks.proofs.Trailer.{has_trailer}
 use Rattle.blocks.proofs.TrailerSteps.{slot_range}
 use Rattle.snapshots.specs.Snapshots.{with_bit, without_bit, slot_refusals, used_slot_refusals, snapshot_block, restore_block, release_block, snapshot, restore, release}
 use Rattle.snapshots.proofs.SlotAnswers.{slot_answers}
@@ -31,6 +33,11 @@ pub bit_shifted : (layout : Layout) (slot : ℕ) → valid_slot layout slot ≡ 
 bit_shifted layout slot is_slot =
     let range = slot_range layout slot is_slot in
     shl_exact 1 (slot - 1) 8 (omega arith) (omega (arith, range)) ∙ one-mul (2 ^ (slot - 1))
+
+-- a block that was validated has the bytes of a trailer
+pub valid_trailer_lem : (b : List ℕ) → validate b ≡ 0 → bad_length 1 (length b) ≡ false
+unfolding validate
+valid_trailer_lem b e = let none : NoneApplies (block_refusals b) = (block_answers b).1.1.only e in has_trailer b none.0
 
 -- the bits of the slots in use with one set and with one cleared, from what the code read
 module _ (layout : Layout) (b : List ℕ) (slot bits : ℕ) (read : bits ≡ slot_bits layout b) where

@@ -18,12 +18,24 @@ use Rattle.blocks.specs.Read.{validate}
 use Rattle.blocks.specs.Tables.{PassesKey}
 use Rattle.blocks.proofs.Refusals.{first_holds, first_fails}
 use Rattle.blocks.proofs.ReadSteps.{block_refused, block_passed, block_size, block_sound}
+use Rattle.std.specs.Prelude.{Result, Ok, Err}
+use Rattle.blocks.specs.declared.answer.Refusal.{Refusal}
+use Rattle.pages.specs.declared.page.PageEnd.{PageEnd}
 use Rattle.pages.specs.declared.record.Progress.{Progress}
-use Rattle.pages.specs.Page.{least_buffer, pairs_left, page_refusals, page_of, refused_page, page}
+use Rattle.pages.specs.Answers.{page_outcome}
+use Rattle.pages.specs.Page.{Page, least_buffer, pairs_left, page_refusals, page_of, refused_page, page}
 use Rattle.pages.specs.Code.Progress.{Written, written_of, put_records, Printed}
 use Rattle.pages.specs.Code.Walk.{under}
 use Rattle.pages.proofs.PageCall.{page_is, page_refused, done_given}
 use Rattle.pages.proofs.Writing.Progress.{put_page}
+
+-- an answer that is refused, with any buffer
+pub refused_with_lem : (r : Result PageEnd Refusal) (k : ℕ) (buffer : List ℕ) → page_outcome r [] ≡ refused_page k []
+    → refused_page k buffer ≡ page_outcome r buffer
+refused_with_lem (Ok end) k buffer same =
+    ap (λ (p : Page). record { answer = p.answer; records = p.records; used = p.used; more = p.more; buffer = buffer }) (sym same)
+refused_with_lem (Err refusal) k buffer same =
+    ap (λ (p : Page). record { answer = p.answer; records = p.records; used = p.used; more = p.more; buffer = buffer }) (sym same)
 
 -- no character before a key leaves it
 under_none : (l : List Entry) → map (under []) l ≡ l
