@@ -47,7 +47,7 @@
 #include <stdint.h>
 
 /* The version of this header and its libraries; everything else that tells a version takes it from here. */
-#define REGISTER_VERSION "0.11.0"
+#define REGISTER_VERSION "0.12.0"
 
 /* Marks a result that must be looked at: the compiler warns where one is dropped. */
 #if defined(__cplusplus) && __cplusplus >= 201703L
@@ -116,7 +116,7 @@ enum {
  *
  *  in blocks of up to 16 cells            of any number of cells */
 enum {
-    REGISTER_STACK_INSERT_FEW = 10112,     REGISTER_STACK_INSERT = 10112,
+    REGISTER_STACK_INSERT_FEW = 9984,      REGISTER_STACK_INSERT = 9984,
     REGISTER_STACK_GET_FEW = 4096,         REGISTER_STACK_GET = 8064,
     REGISTER_STACK_VERDICT_FEW = 4224,     REGISTER_STACK_VERDICT = 8320,
     REGISTER_STACK_PACK_DATE_FEW = 2816,   REGISTER_STACK_PACK_DATE = 2816
