@@ -15,8 +15,8 @@ pub fn look_up(cells: &Cells, word: u32, key: &[u8]) -> Option<u32>
     ensures { option_of result ≡ lookup cells.now.layout (memory cells.now) word key.now }
 {
     let mut node = word;
-    for &character in key {
-        let ChildStep::Found(next) = cells.child_step(node, character) else {
+    for i in 0..key.len() {
+        let ChildStep::Found(next) = cells.child_step(node, key[i]) else {
             return None;
         };
         node = next;

@@ -6,7 +6,7 @@ use Rattle.trees.specs.Lookup.{lookup}
 use Rattle.trees.proofs.LookSteps.{Rooted}
 use Rattle.trees.proofs.lookup.look_up.Given as goal
 
-abbrev pub invariant-loop-character : goal.invariant-loop-character
-invariant-loop-character l =
+abbrev pub invariant-loop-i : goal.invariant-loop-i
+invariant-loop-i l =
     Rooted l.cells.layout (memory l.cells) l.node
-    × (lookup l.cells.layout (memory l.cells) l.node (drop l.character-index l.key) ≡ lookup l.cells.layout (memory l.cells) l.word l.key)
+    × (lookup l.cells.layout (memory l.cells) l.node (drop l.i l.key) ≡ lookup l.cells.layout (memory l.cells) l.word l.key)

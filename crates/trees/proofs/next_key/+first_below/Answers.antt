@@ -24,7 +24,8 @@ returns-in_err-below-in-None t c = rw c.from_residual.ensures
     (ap option_of (sym c.in-None.is) ∙ c.value_at.ensures) _ _ c.in_err-below-in-None.ensures))
 
 pub put_character-requires : goal.put_character-requires
-put_character-requires t c = (first_grown _ _ _ _ _ c.requires.0 c.requires.1 c.least_child.result c.least_child.ensures _ _ c.in-Found.is).0
+put_character-requires t c =
+    (first_grown _ _ _ _ _ c.requires.0 c.requires.1 c.least_child.result c.least_child.ensures _ _ c.in-Found.is).0
 
 pub overflow_add-result : goal.overflow_add-result
 overflow_add-result t c = elim c.match-value_at.branch [
