@@ -45,7 +45,7 @@ impl From<Refusal> for u8 {
     }
 }
 
-// The answer number of a refusal, the same by a name.
+// The answer number of a refusal, 1 to 15; the conversion above gives the same.
 pub fn number(refusal: Refusal) -> u8
     ensures { result ≡ refusal_number refusal }
 {

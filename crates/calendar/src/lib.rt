@@ -87,13 +87,13 @@ impl From<u32> for Date {
 
     ghost from_gives = { λ value date. date ≡ unpacked_date value };
 
-    // The three numbers of a held value, which need not be a date.
+    // What `unpacked` tells.
     fn from(value: u32) -> Date {
         unpacked(value)
     }
 }
 
-// The same by a name of its own, which is public.
+// The three numbers of a held value, which need not be a date.
 pub fn unpacked(value: u32) -> Date
     ensures { result ≡ unpacked_date value }
 {
